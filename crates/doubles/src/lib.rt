@@ -1,0 +1,1 @@
+// Doubles: definitions in specs/, laws of order and rounding in proofs/. No code.

@@ -1,0 +1,4 @@
+pub mod Cut
+pub mod Ceiling
+pub mod Counts
+pub mod Extremes

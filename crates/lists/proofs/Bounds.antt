@@ -1,0 +1,28 @@
+-- Two numbers, and bounds on products, which `omega` takes as unknowns. Assumes nothing.
+use native.Mathlib.Omega.{arith}
+use mathlib.Core.Logic.{_⊎_, inl, inr, ⊎-elim}
+use Prim.Native.Nat.{ℕ, zero, suc, _+_, _*_, _≤_, _<_}
+use native.Mathlib.Nat.{mul-le-mul, mul-le-mul-right, suc-mul}
+use Rattle.lists.specs.Bounds.{Apart}
+
+-- a product of two numbers with known bounds: at numerals A * B computes
+pub product-within : {a b : ℕ} (A B : ℕ) → a ≤ A → b ≤ B → a * b ≤ A * B
+product-within A B p q = mul-le-mul p q
+
+-- column i of n elements ends within j columns
+pub column-within : (i j n : ℕ) → i < j → i * n + n ≤ j * n
+column-within i j n h = rw suc-mul at (mul-le-mul-right n h)
+
+-- of two numbers
+pub lt-or-le : (k n : ℕ) → (k < n) ⊎ (n ≤ k)
+lt-or-le zero zero = inr (omega arith)
+lt-or-le zero (suc n) = inl (omega arith)
+lt-or-le (suc k) zero = inr (omega arith)
+lt-or-le (suc k) (suc n) = ⊎-elim (λ (g : k < n). inl (omega arith)) (λ (g : n ≤ k). inr (omega arith)) (lt-or-le k n)
+
+-- row i, column j of r rows of s
+pub cell-within : (i r s j : ℕ) → i < r → j < s → i * s + j < r * s
+cell-within i r s j h l = let c = column-within i r s h in omega arith
+
+pub apart-cases : (p q n : ℕ) → Apart p q n → (p + n ≤ q) ⊎ (q + n ≤ p)
+apart-cases p q n h = ⊎-elim (λ (g : q < p + n). inr (h g)) (λ (g : p + n ≤ q). inl g) (lt-or-le q (p + n))

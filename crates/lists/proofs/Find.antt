@@ -1,0 +1,63 @@
+-- What a loop that looks for the first index at which a test passes knows, and what holds of that index. Assumes nothing.
+use mathlib.Core.Bool.{Bool, true, false}
+use mathlib.Core.Path.{_≡_, refl, sym, _∙_, ap}
+use Prim.Native.Nat.{ℕ, zero, suc, _+_, _≤_, _<_, suc-le-suc, zero-le}
+use native.Mathlib.Omega.{arith}
+use native.Mathlib.Nat.{le-of-suc-le-suc}
+use borrow.Author.Tests.{lt-ltb, le-ltb, ltb-false}
+use borrow.Author.Count.{below-more}
+use Rattle.lists.specs.Find.{find, exists}
+
+-- a search has passed the indices below i: the test fails at each
+pub record Passed (p : ℕ → Bool) (i : ℕ) : Type 0 where
+  pub none : (k : ℕ) → k < i → p k ≡ false
+
+pub passed-start : (p : ℕ → Bool) → Passed p 0
+passed-start p = record { none = λ k h. absurd (omega arith) }
+
+pub passed-next : {p : ℕ → Bool} {i : ℕ} → Passed p i → p i ≡ false → Passed p (i + 1)
+passed-next {p} {i} h e = record { none = below-more (λ (k : ℕ). p k ≡ false) i (h .none) e }
+
+found : (p : ℕ → Bool) (n r : ℕ) → ((k : ℕ) → k < r → p k ≡ false) → r < n → p r ≡ true → r ≡ find p n
+unfolding find
+found p zero r h l e = absurd (omega arith)
+found p (suc n) zero h l e = rw (e, find)
+found p (suc n) (suc r) h l e = rw (h 0 (suc-le-suc zero-le), find) (ap suc (found (λ k. p (suc k)) n r (λ k m. h (suc k) (suc-le-suc m)) (le-of-suc-le-suc l) e))
+
+missed : (p : ℕ → Bool) (n : ℕ) → ((k : ℕ) → k < n → p k ≡ false) → n ≡ find p n
+unfolding find
+missed p zero h = refl
+missed p (suc n) h = rw (h 0 (suc-le-suc zero-le), find) (ap suc (missed (λ k. p (suc k)) n (λ k m. h (suc k) (suc-le-suc m))))
+
+-- the search ends at an index that passes, or at the end
+pub found-at : {p : ℕ → Bool} {i : ℕ} → Passed p i → (n : ℕ) → i < n → p i ≡ true → i ≡ find p n
+found-at {p} {i} h n l e = found p n i (h .none) l e
+
+pub found-none : {p : ℕ → Bool} {i : ℕ} → Passed p i → (n : ℕ) → n ≤ i → n ≡ find p n
+found-none {p} {i} h n l = missed p n (λ k m. h .none k (omega arith))
+
+-- ---- what holds of the index found
+find-le-by : (p : ℕ → Bool) (n m : ℕ) (b : Bool) → m ≤ n → elim b [ true ↦ 0 | false ↦ suc m ] ≤ suc n
+find-le-by p n m true h = zero-le
+find-le-by p n m false h = suc-le-suc h
+
+pub find-le : (p : ℕ → Bool) (n : ℕ) → find p n ≤ n
+unfolding find
+find-le p zero = zero-le
+find-le p (suc n) = find-le-by p n (find (λ k. p (suc k)) n) (p 0) (find-le (λ k. p (suc k)) n)
+
+-- below the index found the test fails
+find-before-by : (p : ℕ → Bool) (m : ℕ) (b : Bool) → p 0 ≡ b → ((k : ℕ) → k < m → p (suc k) ≡ false) → (k : ℕ) → k < elim b [ true ↦ 0 | false ↦ suc m ] → p k ≡ false
+find-before-by p m true e h k l = absurd (omega arith)
+find-before-by p m false e h zero l = e
+find-before-by p m false e h (suc k) l = h k (le-of-suc-le-suc l)
+
+find-before : (p : ℕ → Bool) (n k : ℕ) → k < find p n → p k ≡ false
+unfolding find
+find-before p zero k l = absurd (omega arith)
+find-before p (suc n) k l = find-before-by p (find (λ j. p (suc j)) n) (p 0) refl (λ j m. find-before (λ i. p (suc i)) n j m) k l
+
+-- the test passes nowhere below n
+pub none-below : (p : ℕ → Bool) (n : ℕ) → exists p n ≡ false → (k : ℕ) → k < n → p k ≡ false
+unfolding exists
+none-below p n e k l = find-before p n k (omega (arith, ltb-false (find p n) n e))

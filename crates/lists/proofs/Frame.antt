@@ -1,0 +1,63 @@
+-- What a write to a window does to the other windows and to the memory outside, in the form in which a caller has it:
+-- the callee's equation `w₁ ≡ splice at vs w` is an argument. Assumes nothing.
+use mathlib.Core.Path.{_≡_, refl, sym, ap, _∙_}
+use mathlib.Core.Logic.{_⊎_, ⊎-elim}
+use mathlib.Core.List.{List, _++_}
+use Prim.Native.Nat.{ℕ, _+_, _≤_, _<_}
+use native.Mathlib.Omega.{arith}
+use lib.ListN.{length, replicate, length-replicate, length-append}
+use Rattle.lists.specs.Window.{window, splice}
+use Rattle.lists.proofs.Bounds.{lt-or-le}
+use Rattle.lists.proofs.Window.{length-splice, window-splice-same, window-splice-before, window-splice-after, splice-cover, splice-splice, splice-append}
+
+module _ {A : Type 0} where
+  -- w₁ is w with the n elements vs written from index `at`. As a record it shows its arguments, so laws that take one need no others
+  pub record Wrote (at n : ℕ) (vs w w₁ : List A) : Type 0 where
+    pub is : w₁ ≡ splice at vs w
+    pub size : length vs ≡ n
+
+  pub wrote : (at n : ℕ) (vs w w₁ : List A) → length vs ≡ n → w₁ ≡ splice at vs w → Wrote at n vs w w₁
+  wrote at n vs w w₁ l e = record { is = e; size = l }
+
+  -- the window that was written
+  pub written : {at n : ℕ} {vs w w₁ : List A} → Wrote at n vs w w₁ → at + n ≤ length w → window at n w₁ ≡ vs
+  written {at} {n} {vs} {w} t h = ap (window at n) (t .is) ∙ window-splice-same at n vs w (t .size) h
+
+  -- a window apart from it: it starts where the write has ended, or ends where the write starts
+  pub untouched : {at n : ℕ} {vs w w₁ : List A} → Wrote at n vs w w₁ → (bt m : ℕ) → (bt < at + n → bt + m ≤ at) → window bt m w₁ ≡ window bt m w
+  untouched {at} {n} {vs} {w} t bt m apart =
+      ap (window bt m) (t .is)
+      ∙ ⊎-elim
+      (λ (g : bt < at + n). window-splice-after bt m at vs w (apart g))
+      (λ (g : at + n ≤ bt). window-splice-before bt m at vs w (omega (arith, t .size)))
+      (lt-or-le bt (at + n))
+
+  pub wrote-long : {at n : ℕ} {vs w w₁ : List A} → Wrote at n vs w w₁ → length w₁ ≡ length w
+  wrote-long {at} {n} {vs} {w} t = ap length (t .is) ∙ length-splice at vs w
+
+  -- w is w₀ but for the n elements from p on: with those set to z the two are equal
+  pub record Kept (p n : ℕ) (z : A) (w₀ w : List A) : Type 0 where
+    pub outside : splice p (replicate n z) w ≡ splice p (replicate n z) w₀
+    pub long : length w ≡ length w₀
+
+  pub kept-all : (p n : ℕ) (z : A) (w : List A) → Kept p n z w w
+  kept-all p n z w = record { outside = refl; long = refl }
+
+  pub kept-by : {p q : ℕ} {z : A} {w₀ w w₁ vs : List A} {at n : ℕ} → Kept p q z w₀ w → Wrote at n vs w w₁ → p ≤ at → at + n ≤ p + q → Kept p q z w₀ w₁
+  kept-by {p} {q} {z} {w₀} {w} {w₁} {vs} {at} {n} k t a b =
+      let lz : length (replicate q z) ≡ q = length-replicate q z in
+      record {
+        outside = ap (splice p (replicate q z)) (t .is) ∙ splice-cover p at (replicate q z) vs w a (omega arith) ∙ k .outside;
+        long = wrote-long t ∙ k .long;
+      }
+
+  -- all of the part that may differ is written: the same as in w₀
+  pub kept-over : {p q : ℕ} {z : A} {w₀ w : List A} → Kept p q z w₀ w → (vs : List A) → length vs ≡ q → splice p vs w ≡ splice p vs w₀
+  kept-over {p} {q} {z} {w₀} {w} k vs l =
+      let lz : length (replicate q z) ≡ q = length-replicate q z in
+      sym (splice-splice p vs (replicate q z) w (omega arith)) ∙ ap (splice p vs) (k .outside) ∙ splice-splice p vs (replicate q z) w₀ (omega arith)
+
+  -- the same in two neighbouring parts
+  pub kept-over₂ : {p q : ℕ} {z : A} {w₀ w : List A} → Kept p q z w₀ w → (m : ℕ) (vs us : List A) → p + length vs ≡ m → length vs + length us ≡ q → splice p vs (splice m us w) ≡ splice p vs (splice m us w₀)
+  kept-over₂ {p} {q} {z} {w₀} {w} k m vs us e l =
+      rw (← e, ← (splice-append p vs us w), ← (splice-append p vs us w₀)) (kept-over k (vs ++ us) (length-append vs us ∙ l))

@@ -1,0 +1,157 @@
+-- Iterations and lists by index, and the turn of a loop that writes a window.
+-- Assumes nothing.
+use mathlib.Core.Path.{_≡_, refl, sym, ap, _∙_, subst}
+use mathlib.Core.List.{List, [], _∷_, _++_, map}
+use Prim.Native.Nat.{ℕ, zero, suc, _+_, _-_, _≤_, _<_, suc-le-suc}
+use native.Mathlib.Omega.{arith}
+use native.Mathlib.Numerals.{add-one}
+use native.Mathlib.Nat.{suc-add, zero-add, suc-inj, le-refl, le-antisymm}
+use lib.ListN.{length, getD, set, take, drop, replicate, length-set}
+use mathlib.Core.Logic.{_⊎_, ⊎-elim}
+use Rattle.lists.specs.Loop.{iter, tabulate, zipWith}
+use Rattle.lists.specs.Window.{window, splice}
+use Rattle.lists.specs.Bounds.{Apart}
+use Rattle.lists.proofs.Bounds.{apart-cases}
+use Rattle.lists.proofs.Window.{splice-snoc, splice-nil, getD-window, length-window, getD-splice-after, getD-splice-before, splice-whole, window-splice-before, window-splice-after}
+
+module _ {A : Type 0} where
+  pub iter-none : (step : ℕ → A → A) (a : A) → iter step 0 a ≡ a
+  unfolding iter
+  iter-none step a = refl
+
+  pub iter-next : (step : ℕ → A → A) (n : ℕ) (a : A) → iter step (n + 1) a ≡ step n (iter step n a)
+  unfolding iter
+  iter-next step n a = rw (add-one n)
+
+  -- a turn of a loop that carries s
+  pub iter-turn : (step : ℕ → A → A) (n : ℕ) (a s v : A) → s ≡ iter step n a → v ≡ step n s → v ≡ iter step (n + 1) a
+  iter-turn step n a s v e d = d ∙ ap (step n) e ∙ sym (iter-next step n a)
+
+  pub length-tabulate : (n : ℕ) (f : ℕ → A) → length (tabulate n f) ≡ n
+  unfolding tabulate
+  length-tabulate zero f = refl
+  length-tabulate (suc n) f = ap suc (length-tabulate n (λ k. f (suc k)))
+
+  pub getD-tabulate : (n : ℕ) (f : ℕ → A) (k : ℕ) (d : A) → k < n → getD (tabulate n f) k d ≡ f k
+  unfolding tabulate
+  getD-tabulate zero f k d h = absurd (omega arith)
+  getD-tabulate (suc n) f zero d h = refl
+  getD-tabulate (suc n) f (suc k) d h = getD-tabulate n (λ j. f (suc j)) k d (omega arith)
+
+  pub tabulate-ext : (n : ℕ) (f g : ℕ → A) → ((k : ℕ) → k < n → f k ≡ g k) → tabulate n f ≡ tabulate n g
+  unfolding tabulate
+  tabulate-ext zero f g h = refl
+  tabulate-ext (suc n) f g h = λ i. h 0 (omega arith) i ∷ tabulate-ext n (λ k. f (suc k)) (λ k. g (suc k)) (λ k l. h (suc k) (suc-le-suc l)) i
+
+  tabulate-suc : (n : ℕ) (f : ℕ → A) → tabulate (suc n) f ≡ tabulate n f ++ (f n ∷ [])
+  unfolding tabulate
+  tabulate-suc zero f = refl
+  tabulate-suc (suc n) f = ap (λ (r : List A). f 0 ∷ r) (tabulate-suc n (λ k. f (suc k)))
+
+  -- a list is what its index says
+  pub tabulate-getD : (w : List A) (d : A) → tabulate (length w) (λ k. getD w k d) ≡ w
+  unfolding tabulate
+  tabulate-getD [] d = refl
+  tabulate-getD (x ∷ w) d = ap (λ (r : List A). x ∷ r) (tabulate-getD w d)
+
+  -- ---- a loop that writes f k at index at + k, for k from 0: it starts, and takes a turn
+  pub fill-start : (at : ℕ) (f : ℕ → A) (w : List A) → splice at (tabulate 0 f) w ≡ w
+  unfolding tabulate
+  fill-start at f w = splice-nil at w
+
+  pub fill-next : (at : ℕ) (f : ℕ → A) (i : ℕ) (w : List A) → set (splice at (tabulate i f) w) (at + i) (f i) ≡ splice at (tabulate (i + 1) f) w
+  fill-next at f i w =
+      subst (λ (k : ℕ). set (splice at (tabulate i f) w) (at + k) (f i) ≡ splice at (tabulate i f ++ (f i ∷ [])) w) (length-tabulate i f) (splice-snoc at (tabulate i f) w (f i))
+      ∙ ap (λ (r : List A). splice at r w) (sym (tabulate-suc i f) ∙ ap (λ (k : ℕ). tabulate k f) (sym (add-one i)))
+
+  -- w is w₀ with f 0 .. f (i - 1) written from index p: the invariant of a loop that writes a window from its front
+  pub record Filled (p i : ℕ) (f : ℕ → A) (w₀ w : List A) : Type 0 where
+    pub is : w ≡ splice p (tabulate i f) w₀
+    pub long : length w ≡ length w₀
+
+  pub started : (p : ℕ) (f : ℕ → A) (w : List A) → Filled p 0 f w w
+  started p f w = record { is = sym (fill-start p f w); long = refl }
+
+  -- a turn: a store of f i just past what is written
+  pub turned : {p i : ℕ} {f : ℕ → A} {w₀ w : List A} {v : A} → Filled p i f w₀ w → v ≡ f i → Filled p (i + 1) f w₀ (set w (p + i) v)
+  turned {p} {i} {f} {w₀} {w} {v} h e =
+      record {
+        is = (λ j. set (h .is j) (p + i) (e j)) ∙ fill-next p f i w₀;
+        long = length-set w (p + i) v ∙ h .long;
+      }
+
+  -- the same where the window is the whole slice, or starts it
+  pub turned₀ : {i : ℕ} {f : ℕ → A} {w₀ w : List A} {v : A} → Filled 0 i f w₀ w → v ≡ f i → Filled 0 (i + 1) f w₀ (set w i v)
+  turned₀ {i} {f} {w₀} {w} {v} h e = subst (λ (k : ℕ). Filled 0 (i + 1) f w₀ (set w k v)) (zero-add i) (turned h e)
+
+  -- the same where the code has the place by another name
+  pub turned-at : {p i : ℕ} {f : ℕ → A} {w₀ w : List A} {v : A} → Filled p i f w₀ w → (k : ℕ) → k ≡ p + i → v ≡ f i → Filled p (i + 1) f w₀ (set w k v)
+  turned-at {p} {i} {f} {w₀} {w} {v} h k e d = subst (λ (m : ℕ). Filled p (i + 1) f w₀ (set w m v)) (sym e) (turned h d)
+
+  -- what a turn reads is as it was: at the place that it is about to write, past it, before the window, and in a window apart
+  pub read-after : {p i : ℕ} {f : ℕ → A} {w₀ w : List A} → Filled p i f w₀ w → (k : ℕ) (d : A) → p + i ≤ k → getD w k d ≡ getD w₀ k d
+  read-after {p} {i} {f} {w₀} {w} h k d l = ap (λ (r : List A). getD r k d) (h .is) ∙ getD-splice-after p (tabulate i f) w₀ k d (simp length-tabulate l)
+
+  pub read-before : {p i : ℕ} {f : ℕ → A} {w₀ w : List A} → Filled p i f w₀ w → (k : ℕ) (d : A) → k < p → getD w k d ≡ getD w₀ k d
+  read-before {p} {i} {f} {w₀} {w} h k d l = ap (λ (r : List A). getD r k d) (h .is) ∙ getD-splice-before p (tabulate i f) w₀ k d l
+
+  pub read-here : {p i : ℕ} {f : ℕ → A} {w₀ w : List A} → Filled p i f w₀ w → (d : A) → getD w (p + i) d ≡ getD w₀ (p + i) d
+  read-here {p} {i} h d = read-after h (p + i) d (le-refl (p + i))
+
+  pub read-apart : {p i : ℕ} {f : ℕ → A} {w₀ w : List A} → Filled p i f w₀ w → (q n k : ℕ) (d : A) → Apart p q n → i ≤ n → k < n → getD w (q + k) d ≡ getD w₀ (q + k) d
+  read-apart {p} h q n k d apart l m =
+      ⊎-elim (λ (g : p + n ≤ q). read-after h (q + k) d (omega arith)) (λ (g : q + n ≤ p). read-before h (q + k) d (omega arith)) (apart-cases p q n apart)
+
+  -- a window apart is as it was
+  pub window-apart : {p i : ℕ} {f : ℕ → A} {w₀ w : List A} → Filled p i f w₀ w → (q n : ℕ) → Apart p q n → i ≤ n → window q n w ≡ window q n w₀
+  window-apart {p} {i} {f} {w₀} {w} h q n apart l =
+      ap (window q n) (h .is)
+      ∙ ⊎-elim
+      (λ (g : p + n ≤ q). window-splice-before q n p (tabulate i f) w₀ (simp length-tabulate (omega arith)))
+      (λ (g : q + n ≤ p). window-splice-after q n p (tabulate i f) w₀ g)
+      (apart-cases p q n apart)
+
+  pub finished : {p i : ℕ} {f : ℕ → A} {w₀ w : List A} → Filled p i f w₀ w → (n : ℕ) → i ≤ n → n ≤ i → w ≡ splice p (tabulate n f) w₀
+  finished {p} {i} {f} {w₀} {w} h n l m = subst (λ (k : ℕ). w ≡ splice p (tabulate k f) w₀) (le-antisymm l m) (h .is)
+
+  -- the same where the window is the whole slice
+  pub finished₀ : {i : ℕ} {f : ℕ → A} {w₀ w : List A} → Filled 0 i f w₀ w → i ≤ length w₀ → length w₀ ≤ i → w ≡ tabulate (length w₀) f
+  finished₀ {i} {f} {w₀} {w} h l m = finished h (length w₀) l m ∙ splice-whole (tabulate (length w₀) f) w₀ (length-tabulate (length w₀) f)
+
+  -- ---- vector operations, element by element
+  pub zipWith-tabulate : (g : A → A → A) (xs ys : List A) (n : ℕ) (d : A) → length xs ≡ n → length ys ≡ n → zipWith g xs ys ≡ tabulate n (λ k. g (getD xs k d) (getD ys k d))
+  unfolding zipWith tabulate
+  zipWith-tabulate g [] ys zero d e e′ = refl
+  zipWith-tabulate g [] ys (suc n) d e e′ = absurd (omega arith)
+  zipWith-tabulate g (x ∷ xs) ys zero d e e′ = absurd (omega arith)
+  zipWith-tabulate g (x ∷ xs) [] (suc n) d e e′ = absurd (omega arith)
+  zipWith-tabulate g (x ∷ xs) (y ∷ ys) (suc n) d e e′ = ap (λ (r : List A). g x y ∷ r) (zipWith-tabulate g xs ys n d (suc-inj e) (suc-inj e′))
+
+  pub length-zipWith : (g : A → A → A) (xs ys : List A) → length xs ≡ length ys → length (zipWith g xs ys) ≡ length xs
+  unfolding zipWith
+  length-zipWith g [] ys e = refl
+  length-zipWith g (x ∷ xs) [] e = absurd (omega arith)
+  length-zipWith g (x ∷ xs) (y ∷ ys) e = ap suc (length-zipWith g xs ys (suc-inj e))
+
+  pub zipWith-windows : (g : A → A → A) (p q n : ℕ) (v w : List A) (d : A) → p + n ≤ length v → q + n ≤ length w → zipWith g (window p n v) (window q n w) ≡ tabulate n (λ k. g (getD v (p + k) d) (getD w (q + k) d))
+  zipWith-windows g p q n v w d l m =
+      zipWith-tabulate g (window p n v) (window q n w) n d (length-window p n v l) (length-window q n w m)
+      ∙ tabulate-ext n (λ k. g (getD (window p n v) k d) (getD (window q n w) k d)) (λ k. g (getD v (p + k) d) (getD w (q + k) d)) (λ k h j. g (getD-window p n v k d h j) (getD-window q n w k d h j))
+
+  -- a window, by its index
+  pub window-tabulate : (p n : ℕ) (w : List A) (d : A) → p + n ≤ length w → window p n w ≡ tabulate n (λ k. getD w (p + k) d)
+  window-tabulate p n w d l =
+      sym (tabulate-getD (window p n w) d)
+      ∙ ap (λ (m : ℕ). tabulate m (λ k. getD (window p n w) k d)) (length-window p n w l)
+      ∙ tabulate-ext n (λ k. getD (window p n w) k d) (λ k. getD w (p + k) d) (λ k h. getD-window p n w k d h)
+
+  pub replicate-tabulate : (n : ℕ) (a : A) → replicate n a ≡ tabulate n (λ k. a)
+  unfolding tabulate
+  replicate-tabulate zero a = refl
+  replicate-tabulate (suc n) a = ap (λ (r : List A). a ∷ r) (replicate-tabulate n a)
+
+-- map g, by the index
+pub map-tabulate : {A B : Type 0} (g : A → B) (xs : List A) (d : A) → map g xs ≡ tabulate (length xs) (λ k. g (getD xs k d))
+unfolding tabulate
+map-tabulate g [] d = refl
+map-tabulate {A} {B} g (x ∷ xs) d = ap (λ (r : List B). g x ∷ r) (map-tabulate g xs d)

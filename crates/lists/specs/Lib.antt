@@ -1,0 +1,6 @@
+-- Lists by index, windows of a list, and searches.
+pub mod Loop
+pub mod Window
+pub mod Bounds
+pub mod Find
+pub mod Greatest

@@ -1,0 +1,1 @@
+// Lists as loops over slices make them: definitions in specs/, laws in proofs/. No code.
