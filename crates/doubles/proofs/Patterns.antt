@@ -8,8 +8,8 @@ use native.Mathlib.Omega.{arith}
 use mathlib.Core.Bool.{Bool, true, false, not, cond}
 use lib.Dec.{T, leb, eqb, leb→le, eqb→eq, not-T}
 use lib.Pow.{pow-pos, pow-mono}
-use lib.Ieee.{Float, nan, inf, fin, binary64, odd, ofFields, ofBits, le, lt}
-use lib.Ieee.Bits.{is-false, cond-no}
+use lib.Ieee.{Float, nan, inf, fin, binary64, odd, ofFields, ofBits, nanBits, isNan, le, lt}
+use lib.Ieee.Bits.{is-false, cond-no, nanBits-is}
 use lib.Ieee.Exact.{HasValue, odd-sign}
 use lib.Ieee.Order.{le-of-values}
 use Rattle.doubles.specs.Value.{unitsOf, val}
@@ -49,6 +49,16 @@ small b h = omega arith
 
 pub bits-value : (b : ℕ) → b < 9218868437227405312 → HasValue (ofBits binary64 b) false (val b) (2 ^ 1074)
 bits-value b h = subst (λ (v : Float). HasValue v false (val b) (2 ^ 1074)) (sym (positive-fields b (small b h))) (fields-value false (b / 4503599627370496) (b % 4503599627370496) (field-lt b h))
+
+-- so no such pattern is a NaN's
+pub finite-no-nan : (w : ℕ) → w < 9218868437227405312 → T (not (nanBits binary64 w))
+unfolding isNan
+finite-no-nan w h = subst (λ (b : Bool). T (not b)) (sym (nanBits-is binary64 w)) (go (ofBits binary64 w) (bits-value w h))
+  where
+    go : (x : Float) → HasValue x false (val w) (2 ^ 1074) → T (not (isNan x))
+    go nan h = h
+    go (inf t) h = tt
+    go (fin t m e) h = tt
 
 -- ---- a larger pattern is a larger number
 in-field : (x t u : ℕ) → t < u → unitsOf x t < unitsOf x u

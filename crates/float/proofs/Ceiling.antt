@@ -19,7 +19,7 @@ use borrow.Author.Tests.{lt-ltb, ltb-false}
 use Rattle.doubles.specs.F64.{abs, is-finite}
 use Rattle.doubles.specs.Value.{val}
 use Rattle.doubles.specs.Whole.{whole-above, whole-below, ceil, floor}
-use Rattle.doubles.proofs.Patterns.{bits-value}
+use Rattle.doubles.proofs.Patterns.{bits-value, finite-no-nan}
 use Rattle.doubles.proofs.Magnitude.{bits-abs, finite-bits, finite-test, bits-fin, rest, rest-lt, flip-fits}
 use Rattle.doubles.proofs.Unique.{pattern-value, val-inj, round-self, value-unique}
 
@@ -138,20 +138,11 @@ module _ (m : ℕ) (e : ℤ) (f : T (fits binary64 (fin false m e))) (w : ℕ) (
       go (fin false n d) h = round-same binary64 false (n * up d * 1 + 1 * 1 * down d) (down d * 1) (part m e + 1) 1 (subst (λ (z : ℕ). 0 < z) (sym (mul-one (down d))) (down-pos d)) (pow-pos 0) (sides (n * up d) (down d) (part m e) (h .1))
 
 -- ---- the same, by the pattern b of x, its magnitude's a = b % 2 ^ 63 and the cut pattern w
-no-nan-bits : (w : ℕ) → w < 9218868437227405312 → T (not (nanBits binary64 w))
-unfolding isNan
-no-nan-bits w h = subst (λ (b : Bool). T (not b)) (sym (nanBits-is binary64 w)) (go (ofBits binary64 w) (bits-value w h))
-  where
-    go : (x : Float) → HasValue x false (val w) (2 ^ 1074) → T (not (isNan x))
-    go nan h = h
-    go (inf t) h = tt
-    go (fin t m e) h = tt
-
 abbrev low63 : Float → ℕ
 low63 x = toBits binary64 x % 9223372036854775808
 
 pub cut-no-nan : (a w : ℕ) → a < 9218868437227405312 → w ≤ a → T (not (nanBits binary64 w))
-cut-no-nan a w h l = no-nan-bits w (lt-of-le-of-lt l h)
+cut-no-nan a w h l = finite-no-nan w (lt-of-le-of-lt l h)
 
 finite-here : (x : Float) → T (fits binary64 x) → T (not (isNan x)) → low63 x < 9218868437227405312 → T (is-finite x)
 finite-here x f n h = subst T (sym (lt-ltb (low63 x) 9218868437227405312 h) ∙ finite-test x f n) tt

@@ -1,0 +1,7 @@
+pub mod Digits
+pub mod Whole
+pub mod Near
+pub mod Halves
+pub mod Cases
+pub mod Sandwich
+pub mod Examples
