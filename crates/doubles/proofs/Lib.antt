@@ -6,3 +6,4 @@ pub mod Order
 pub mod Nearest
 pub mod Arithmetic
 pub mod Time
+pub mod Sum
