@@ -3,7 +3,7 @@ use native.Mathlib.Omega.{arith}
 use mathlib.Core.Logic.{_⊎_, inl, inr, ⊎-elim}
 use Prim.Native.Nat.{ℕ, zero, suc, _+_, _*_, _≤_, _<_}
 use native.Mathlib.Nat.{mul-le-mul, mul-le-mul-right, suc-mul}
-use Rattle.lists.specs.Bounds.{Apart}
+use Rattle.lists.specs.Bounds.{Disjoint}
 
 -- a product of two numbers with known bounds: at numerals A * B computes
 pub product-within : {a b : ℕ} (A B : ℕ) → a ≤ A → b ≤ B → a * b ≤ A * B
@@ -24,5 +24,5 @@ lt-or-le (suc k) (suc n) = ⊎-elim (λ (g : k < n). inl (omega arith)) (λ (g :
 pub cell-within : (i r s j : ℕ) → i < r → j < s → i * s + j < r * s
 cell-within i r s j h l = let c = column-within i r s h in omega arith
 
-pub apart-cases : (p q n : ℕ) → Apart p q n → (p + n ≤ q) ⊎ (q + n ≤ p)
-apart-cases p q n h = ⊎-elim (λ (g : q < p + n). inr (h g)) (λ (g : p + n ≤ q). inl g) (lt-or-le q (p + n))
+pub disjoint-cases : (p n q m : ℕ) → Disjoint p n q m → (p + n ≤ q) ⊎ (q + m ≤ p)
+disjoint-cases p n q m h = ⊎-elim (λ (g : q < p + n). inr (h g)) (λ (g : p + n ≤ q). inl g) (lt-or-le q (p + n))

@@ -7,7 +7,8 @@ use Prim.Native.Nat.{ℕ, _+_, _≤_, _<_}
 use native.Mathlib.Omega.{arith}
 use lib.ListN.{length, replicate, length-replicate, length-append}
 use Rattle.lists.specs.Window.{window, splice}
-use Rattle.lists.proofs.Bounds.{lt-or-le}
+use Rattle.lists.specs.Bounds.{Disjoint}
+use Rattle.lists.proofs.Bounds.{disjoint-cases}
 use Rattle.lists.proofs.Window.{length-splice, window-splice-same, window-splice-before, window-splice-after, splice-cover, splice-splice, splice-append}
 
 module _ {A : Type 0} where
@@ -24,13 +25,13 @@ module _ {A : Type 0} where
   written {at} {n} {vs} {w} t h = ap (window at n) (t .is) ∙ window-splice-same at n vs w (t .size) h
 
   -- a window apart from it: it starts where the write has ended, or ends where the write starts
-  pub untouched : {at n : ℕ} {vs w w₁ : List A} → Wrote at n vs w w₁ → (bt m : ℕ) → (bt < at + n → bt + m ≤ at) → window bt m w₁ ≡ window bt m w
+  pub untouched : {at n : ℕ} {vs w w₁ : List A} → Wrote at n vs w w₁ → (bt m : ℕ) → Disjoint at n bt m → window bt m w₁ ≡ window bt m w
   untouched {at} {n} {vs} {w} t bt m apart =
       ap (window bt m) (t .is)
       ∙ ⊎-elim
-      (λ (g : bt < at + n). window-splice-after bt m at vs w (apart g))
       (λ (g : at + n ≤ bt). window-splice-before bt m at vs w (omega (arith, t .size)))
-      (lt-or-le bt (at + n))
+      (λ (g : bt + m ≤ at). window-splice-after bt m at vs w g)
+      (disjoint-cases at n bt m apart)
 
   pub wrote-long : {at n : ℕ} {vs w w₁ : List A} → Wrote at n vs w w₁ → length w₁ ≡ length w
   wrote-long {at} {n} {vs} {w} t = ap length (t .is) ∙ length-splice at vs w

@@ -10,8 +10,8 @@ use lib.ListN.{length, getD, set, take, drop, replicate, length-set}
 use mathlib.Core.Logic.{_⊎_, ⊎-elim}
 use Rattle.lists.specs.Loop.{iter, tabulate, zipWith}
 use Rattle.lists.specs.Window.{window, splice}
-use Rattle.lists.specs.Bounds.{Apart}
-use Rattle.lists.proofs.Bounds.{apart-cases}
+use Rattle.lists.specs.Bounds.{Disjoint, Apart}
+use Rattle.lists.proofs.Bounds.{disjoint-cases}
 use Rattle.lists.proofs.Window.{splice-snoc, splice-nil, getD-window, length-window, getD-splice-after, getD-splice-before, splice-whole, window-splice-before, window-splice-after}
 
 module _ {A : Type 0} where
@@ -100,16 +100,19 @@ module _ {A : Type 0} where
 
   pub read-apart : {p i : ℕ} {f : ℕ → A} {w₀ w : List A} → Filled p i f w₀ w → (q n k : ℕ) (d : A) → Apart p q n → i ≤ n → k < n → getD w (q + k) d ≡ getD w₀ (q + k) d
   read-apart {p} h q n k d apart l m =
-      ⊎-elim (λ (g : p + n ≤ q). read-after h (q + k) d (omega arith)) (λ (g : q + n ≤ p). read-before h (q + k) d (omega arith)) (apart-cases p q n apart)
+      ⊎-elim (λ (g : p + n ≤ q). read-after h (q + k) d (omega arith)) (λ (g : q + n ≤ p). read-before h (q + k) d (omega arith)) (disjoint-cases p n q n apart)
 
-  -- a window apart is as it was
-  pub window-apart : {p i : ℕ} {f : ℕ → A} {w₀ w : List A} → Filled p i f w₀ w → (q n : ℕ) → Apart p q n → i ≤ n → window q n w ≡ window q n w₀
-  window-apart {p} {i} {f} {w₀} {w} h q n apart l =
-      ap (window q n) (h .is)
+  -- a window that shares no place with the n that are written is as it was
+  pub window-disjoint : {p i : ℕ} {f : ℕ → A} {w₀ w : List A} → Filled p i f w₀ w → (n q m : ℕ) → Disjoint p n q m → i ≤ n → window q m w ≡ window q m w₀
+  window-disjoint {p} {i} {f} {w₀} {w} h n q m apart l =
+      ap (window q m) (h .is)
       ∙ ⊎-elim
-      (λ (g : p + n ≤ q). window-splice-before q n p (tabulate i f) w₀ (simp length-tabulate (omega arith)))
-      (λ (g : q + n ≤ p). window-splice-after q n p (tabulate i f) w₀ g)
-      (apart-cases p q n apart)
+      (λ (g : p + n ≤ q). window-splice-before q m p (tabulate i f) w₀ (simp length-tabulate (omega arith)))
+      (λ (g : q + m ≤ p). window-splice-after q m p (tabulate i f) w₀ g)
+      (disjoint-cases p n q m apart)
+
+  pub window-apart : {p i : ℕ} {f : ℕ → A} {w₀ w : List A} → Filled p i f w₀ w → (q n : ℕ) → Apart p q n → i ≤ n → window q n w ≡ window q n w₀
+  window-apart h q n apart l = window-disjoint h n q n apart l
 
   pub finished : {p i : ℕ} {f : ℕ → A} {w₀ w : List A} → Filled p i f w₀ w → (n : ℕ) → i ≤ n → n ≤ i → w ≡ splice p (tabulate n f) w₀
   finished {p} {i} {f} {w₀} {w} h n l m = subst (λ (k : ℕ). w ≡ splice p (tabulate k f) w₀) (le-antisymm l m) (h .is)

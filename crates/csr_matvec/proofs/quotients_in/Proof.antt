@@ -1,0 +1,85 @@
+-- `csr_matvec::quotients_in` meets its contract. Assumes nothing.
+use native.Mathlib.Omega.{arith}
+use mathlib.Core.Path.{_≡_, sym, _∙_}
+use Prim.Native.Nat.{_+_, _-_, _≤_}
+use lib.ListN.{length, getD}
+use Rattle.lists.specs.Window.{window}
+use Rattle.lists.proofs.Window.{part-window, length-window}
+use Rattle.lists.proofs.Loop.{Filled, started, turned, finished, window-apart, window-disjoint}
+use Rattle.general_operator.specs.Csr.{row-product, apply-generator}
+use Rattle.general_operator.proofs.Rows.{start-le}
+use Rattle.csr_matvec.proofs.quotients_in.Statement.{statement}
+use Rattle.csr_matvec.proofs.quotients_in.Tie as tie
+
+abbrev Inv-loop : tie.InvT-loop
+Inv-loop starts cols work₀ q-at count src-at dst-at n q-end src-end i₀ work i = (i ≤ n) × Filled dst-at i (λ k. row-product cols (window q-at count work₀) (window src-at n work₀) (getD starts k 0) (getD starts (k + 1) 0)) work₀ work
+
+abbrev μ-loop : tie.MeasureT-loop
+μ-loop starts cols work₀ q-at count src-at dst-at n q-end src-end i₀ work i = n - i
+
+cast-from : tie.Need-cast-from Inv-loop μ-loop
+cast-from c = omega (arith, c .shared-slice-known3 .given (c .before .before .loop .i))
+
+cast-to : tie.Need-cast-to Inv-loop μ-loop
+cast-to c = omega (arith, c .shared-slice-known4 .given (c .before .before .before .loop .i + 1))
+
+row-product-requires : tie.Need-row-product-requires Inv-loop μ-loop
+row-product-requires c κs =
+    let s = c .before .before .before .before .before .before in
+    let start = s .before .before .before .before in
+    let a = start .args in
+    let i = s .loop .i in
+    let v = start .pre .0 in
+    let here : a .q-at + a .count ≤ length (s .loop .work) = omega arith in
+    let there : a .src-at + a .n ≤ length (s .loop .work) = omega arith in
+    let size : length (window (a .q-at) (a .count) (a .work .now)) ≡ a .count = length-window _ _ _ (omega arith) in
+    let top : getD (a .starts .now) (i + 1) 0 ≤ length (window (a .q-at) (a .count) (a .work .now)) = start-le v (i + 1) (omega arith) in
+    ((v .rising i (omega arith), (omega (arith, v .paired), rw (part-window, length-window) (omega arith))), (λ k h. rw (part-window, length-window) (v .below k h)))
+
+loop-again : tie.Need-loop-again Inv-loop μ-loop
+loop-again c =
+    let s = c .before .before .before .before .before .before .before in
+    let start = s .before .before .before .before in
+    let a = start .args in
+    let inv = s .loop .inv in
+    let same = window-apart (inv .1) (a .src-at) (a .n) (start .pre .1 .1 .1) (inv .0) in
+    let same-q = window-disjoint (inv .1) (a .n) (a .q-at) (a .count) (start .pre .1 .1 .0) (inv .0) in
+    (omega arith, turned (inv .1) (c .row-product .ensures ∙ rw (part-window (a .q-at), part-window (a .src-at), same, same-q)))
+
+returns : tie.Need-returns Inv-loop μ-loop
+unfolding apply-generator
+returns c = finished (c .before .loop .inv .1) _ (omega arith) (omega arith)
+
+pub quotients-in-spec : {M : Type 1} → statement M
+quotients-in-spec =
+    tie.close
+    (tie.spec
+    Inv-loop
+    μ-loop
+    (λ c. omega arith)
+    (λ c. omega arith)
+    (λ c. (omega arith, started _ _ _))
+    (λ c. omega arith)
+    (λ c. omega arith)
+    cast-from
+    (λ c. omega arith)
+    (λ c. omega arith)
+    (λ c. omega arith)
+    cast-to
+    (λ c. omega arith)
+    (λ c. omega arith)
+    (λ c. omega arith)
+    (λ c. omega arith)
+    (λ c. omega arith)
+    (λ c. omega arith)
+    (λ c. omega arith)
+    (λ c. omega arith)
+    row-product-requires
+    (λ c. omega arith)
+    (λ c. omega arith)
+    (λ c. omega arith)
+    (λ c. omega arith)
+    (λ c. omega arith)
+    loop-again
+    (λ c. omega arith)
+    returns)
