@@ -1,0 +1,3 @@
+-- The laws of the halvings, and the definition computed on some doubles.
+pub mod Halved
+pub mod Examples

@@ -1,0 +1,2 @@
+-- Vectors of doubles as lists.
+pub mod Vectors

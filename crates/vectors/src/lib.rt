@@ -1,0 +1,101 @@
+// Kernels on dense vectors of doubles. Those that end in `_in` read and write windows of one slice.
+ghost use mathlib.Core.Path.{_≡_};
+ghost use Prim.Native.Nat.{_+_, _<_, _≤_};
+ghost use lib.ListN.{length, replicate};
+ghost use Rattle.lists.specs.Window.{window, splice};
+ghost use Rattle.lists.specs.Bounds.{Apart};
+ghost use Rattle.doubles.specs.F64.{_⊗_, +0, at};
+ghost use Rattle.vectors.specs.Vectors.{tail, dot, axpy, scale};
+
+// x[k] * y[k]
+fn term(x: &[f64], y: &[f64], k: usize) -> f64
+    requires { ⌜ (k < length (now x)) × (k < length (now y)) ⌝ }
+    ensures { λ r. ⌜ r ≡ at (now (x .entry)) k ⊗ at (now (y .entry)) k ⌝ }
+{
+    x[k] * y[k]
+}
+
+// The n products from index b, added up from +0.
+fn tail(x: &[f64], y: &[f64], b: usize, n: usize) -> f64
+    requires { ⌜ (b + n ≤ length (now x)) × (b + n ≤ length (now y)) ⌝ }
+    ensures { λ r. ⌜ r ≡ tail b (now (x .entry)) (now (y .entry)) n ⌝ }
+{
+    let mut s = 0.0;
+    for j in 0..n {
+        s = s + term(x, y, b + j);
+    }
+    s
+}
+
+pub fn dot(x: &[f64], y: &[f64]) -> f64
+    requires { ⌜ length (now x) ≡ length (now y) ⌝ }
+    ensures { λ r. ⌜ r ≡ dot (now (x .entry)) (now (y .entry)) ⌝ }
+{
+    let m = x.len() / 4;
+    let mut acc0 = 0.0;
+    let mut acc1 = 0.0;
+    let mut acc2 = 0.0;
+    let mut acc3 = 0.0;
+    for j in 0..m {
+        let k = 4 * j;
+        acc0 = acc0 + term(x, y, k);
+        acc1 = acc1 + term(x, y, k + 1);
+        acc2 = acc2 + term(x, y, k + 2);
+        acc3 = acc3 + term(x, y, k + 3);
+    }
+    ((acc0 + acc1) + (acc2 + acc3)) + tail(x, y, 4 * m, x.len() % 4)
+}
+
+// y[i] = y[i] * s
+pub fn scale(y: &mut [f64], s: f64)
+    ensures { λ _. ⌜ now (y .exit) ≡ scale s (now (y .entry)) ⌝ }
+{
+    for i in 0..y.len() {
+        y[i] = y[i] * s;
+    }
+}
+
+// w[i] = +0
+pub fn clear(w: &mut [f64])
+    ensures { λ _. ⌜ now (w .exit) ≡ replicate (length (now (w .entry))) +0 ⌝ }
+{
+    for i in 0..w.len() {
+        w[i] = 0.0;
+    }
+}
+
+// work[y_at + i] = work[y_at + i] + a * work[x_at + i]
+pub fn axpy_in(work: &mut [f64], y_at: usize, x_at: usize, len: usize, a: f64)
+    requires { ⌜ «y_at» + len ≤ length (now work) ⌝ }
+    requires { ⌜ «x_at» + len ≤ length (now work) ⌝ }
+    requires { ⌜ Apart «y_at» «x_at» len ⌝ }
+    ensures { λ _. ⌜ now (work .exit) ≡ splice «y_at» (axpy a (window «x_at» len (now (work .entry))) (window «y_at» len (now (work .entry)))) (now (work .entry)) ⌝ }
+{
+    for i in 0..len {
+        work[y_at + i] = work[y_at + i] + a * work[x_at + i];
+    }
+}
+
+// work[dst_at + i] = work[src_at + i] * s
+pub fn scaled_in(work: &mut [f64], dst_at: usize, src_at: usize, len: usize, s: f64)
+    requires { ⌜ «dst_at» + len ≤ length (now work) ⌝ }
+    requires { ⌜ «src_at» + len ≤ length (now work) ⌝ }
+    requires { ⌜ Apart «dst_at» «src_at» len ⌝ }
+    ensures { λ _. ⌜ now (work .exit) ≡ splice «dst_at» (scale s (window «src_at» len (now (work .entry)))) (now (work .entry)) ⌝ }
+{
+    for i in 0..len {
+        work[dst_at + i] = work[src_at + i] * s;
+    }
+}
+
+// work[to + i] = work[from + i]
+pub fn copy_in(work: &mut [f64], to: usize, from: usize, len: usize)
+    requires { ⌜ to + len ≤ length (now work) ⌝ }
+    requires { ⌜ from + len ≤ length (now work) ⌝ }
+    requires { ⌜ Apart to from len ⌝ }
+    ensures { λ _. ⌜ now (work .exit) ≡ splice to (window from len (now (work .entry))) (now (work .entry)) ⌝ }
+{
+    for i in 0..len {
+        work[to + i] = work[from + i];
+    }
+}
