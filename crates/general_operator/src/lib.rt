@@ -1,6 +1,5 @@
 // The checks 1 to 6 of a sparse matrix, on any input.
 use checks::Checked;
-
 ghost use mathlib.Core.Path.{_≡_};
 ghost use Prim.Native.Nat.{ℕ, _+_, _≤_, _<_};
 ghost use lib.ListN.{length, getD};
