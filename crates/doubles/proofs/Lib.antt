@@ -1,6 +1,7 @@
 pub mod Patterns
 pub mod Magnitude
 pub mod Unique
+pub mod Total
 pub mod Order
 pub mod Nearest
 pub mod Arithmetic
