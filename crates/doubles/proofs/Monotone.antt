@@ -1,0 +1,163 @@
+-- Rounding with signs keeps the order, and so do sums, differences, and the products and quotients of doubles that are not negative: zeros of either sign, subnormal numbers, overflow and infinities included.
+-- Assumes nothing.
+use mathlib.Core.Path.{_≡_, refl, sym, ap, _∙_, subst}
+use mathlib.Core.Logic.{_⊎_, inl, inr}
+use Prim.Native.Nat.{ℕ, zero, suc, _+_, _-_, _*_, _^_, _≤_, _<_}
+use native.Mathlib.Nat.{le-trans, le-of-eq, mul-one, one-mul, zero-mul, mul-comm, mul-assoc, mul-left-comm, mul-right-comm, mul-mul-mul-comm, mul-le-mul, mul-le-mul-right, mul-pos, add-mul, eq-zero-or-pos}
+use native.Mathlib.Omega.{arith}
+use mathlib.Core.Bool.{Bool, true, false, not, _&&_, _||_, Bool·beq, cond, true≢false}
+use lib.IntN.{ℤ, pos}
+use lib.Dec.{T, ltb, eqb, ltb→lt, nltb→le, eqb→eq}
+use lib.Pow.{pow-pos}
+use lib.Ieee.{Float, nan, inf, fin, Format, binary64, prec, emax, low, up, down, unlike, odd, units, round, neg, sum, add, sub, mul, div, le, lt, fits, isNan, ofBits}
+use lib.Ieee.Fits.{up-pos, down-pos, round-is}
+use lib.Ieee.Order.{round-mono}
+use lib.Ieee.Scale.{round-same}
+use Rattle.doubles.specs.F64.{_⊕_, _⊖_, _⊗_, _⊘_, _⩽_, _⋖_, +0, 1f}
+use Rattle.doubles.proofs.Unique.{round-self}
+use Rattle.doubles.proofs.Total.{over, under, Before, over-mul, under-mul, over-not, under-not, le→before, before→le, Le, lowest, highest, numbers, le-view, view-le, le-lowest, le-highest, le-number-left, le-number-right, ⩽-refl, ⩽-trans, ⋖-⩽, ⋖-not, ⩽-neg, neg-number}
+
+-- ---- rounding with a sign
+odd-not : (d : ℕ) (s : Bool) (q k l : ℕ) → odd d (not s) q k l ≡ neg (odd d s q k l)
+unfolding odd neg
+odd-not d s zero k l = refl
+odd-not d s (suc q) k l = refl
+
+units-not : (f : Format) (s : Bool) (q k : ℕ) → units f (not s) q k ≡ neg (units f s q k)
+unfolding units neg
+units-not f s q k = go (ltb (q * 2 ^ k) (2 ^ (low f + suc (emax f))))
+  where
+    go : (b : Bool) → cond b (odd (suc (prec f)) (not s) q k (low f)) (inf (not s)) ≡ neg (cond b (odd (suc (prec f)) s q k (low f)) (inf s))
+    go true = odd-not (suc (prec f)) s q k (low f)
+    go false = refl
+
+pub round-not : (f : Format) (s : Bool) (a c : ℕ) → round f (not s) a c ≡ neg (round f s a c)
+round-not f s a c = round-is f (not s) a c ∙ units-not f s _ _ ∙ sym (ap neg (round-is f s a c))
+
+units-number : (f : Format) (s : Bool) (q k : ℕ) → T (not (isNan (units f s q k)))
+unfolding units odd isNan
+units-number f s q k = go (ltb (q * 2 ^ k) (2 ^ (low f + suc (emax f)))) q
+  where
+    go : (b : Bool) (q : ℕ) → T (not (isNan (cond b (odd (suc (prec f)) s q k (low f)) (inf s))))
+    go true zero = tt
+    go true (suc q) = tt
+    go false q = tt
+
+pub round-number : (f : Format) (s : Bool) (a c : ℕ) → T (not (isNan (round f s a c)))
+round-number f s a c = subst (λ (x : Float). T (not (isNan x))) (sym (round-is f s a c)) (units-number f s _ _)
+
+-- 0 / 1 rounds to the zero of its sign, and the two zeros are equal
+zero-round : (s : Bool) → round binary64 s 0 1 ≡ fin s 0 (pos 0)
+unfolding round
+zero-round s = refl
+
+zeros : (s t : Bool) → T (fin s 0 (pos 0) ⩽ fin t 0 (pos 0))
+unfolding le
+zeros false false = tt
+zeros false true = tt
+zeros true false = tt
+zeros true true = tt
+
+-- a rounded fraction with the sign clear is at least a zero, and at most if it is 0
+from-zero : (s : Bool) (a c : ℕ) → 0 < c → T (fin s 0 (pos 0) ⩽ round binary64 false a c)
+from-zero s a c C = ⩽-trans (fin s 0 (pos 0)) (fin false 0 (pos 0)) (round binary64 false a c) (zeros s false) (subst (λ (x : Float). T (x ⩽ round binary64 false a c)) (zero-round false) (round-mono binary64 0 1 a c (pow-pos 0) C (omega arith)))
+
+to-zero : (s : Bool) (a c : ℕ) → 0 < c → a ≡ 0 → T (round binary64 false a c ⩽ fin s 0 (pos 0))
+to-zero s a c C e = ⩽-trans (round binary64 false a c) (fin false 0 (pos 0)) (fin s 0 (pos 0)) (subst (λ (x : Float). T (round binary64 false a c ⩽ x)) (zero-round false) (round-mono binary64 a c 0 1 C (pow-pos 0) (omega arith))) (zeros false s)
+
+zero-of : (a d : ℕ) → 0 < d → a * d ≡ 0 → a ≡ 0
+zero-of a d D e = elim (eq-zero-or-pos a) [ inl z ↦ z | inr p ↦ absurd (none (a * d) e (mul-pos p D)) ]
+  where
+    none : (k : ℕ) → k ≡ 0 → 0 < k → ⊥
+    none k e h = omega arith
+
+minus : (a c : ℕ) → round binary64 true a c ≡ neg (round binary64 false a c)
+minus a c = round-not binary64 false a c
+
+-- of two fractions with signs the larger rounds to a double that is no smaller
+pub round-before : (s : Bool) (a c : ℕ) (t : Bool) (b d : ℕ) → 0 < c → 0 < d → Before s a c t b d → T (round binary64 s a c ⩽ round binary64 t b d)
+unfolding neg
+round-before false a c false b d C D h = round-mono binary64 a c b d C D (omega arith)
+round-before true a c true b d C D h = rw (minus a c, minus b d) (⩽-neg (round binary64 false b d) (round binary64 false a c) (round-mono binary64 b d a c D C (omega arith)))
+round-before true a c false b d C D h =
+    rw (minus a c) (⩽-trans (neg (round binary64 false a c)) (fin true 0 (pos 0)) (round binary64 false b d) (⩽-neg (fin false 0 (pos 0)) (round binary64 false a c) (from-zero false a c C)) (from-zero true b d D))
+round-before false a c true b d C D h =
+    rw (minus b d) (⩽-trans (round binary64 false a c) (fin true 0 (pos 0)) (neg (round binary64 false b d)) (to-zero true a c C (zero-of a d D (omega arith))) (⩽-neg (round binary64 false b d) (fin false 0 (pos 0)) (to-zero false b d D (zero-of b c C (omega arith)))))
+
+-- ---- sums
+-- what `sum` rounds: ±g / c, with ±g = ±a + ±b
+abbrev Total : Bool → ℕ → Bool → ℕ → Bool → ℕ → Type 0
+Total s a t b u g = over u g + (under s a + under t b) ≡ under u g + (over s a + over t b)
+
+sum-is : (s : Bool) (a : ℕ) (t : Bool) (b c : ℕ) → (u : Bool) × (g : ℕ) × (sum binary64 s a t b c ≡ round binary64 u g c) × Total s a t b u g
+unfolding sum
+sum-is false a false b c = (false, a + b, refl, omega arith)
+sum-is true a true b c = (true, a + b, refl, omega arith)
+sum-is false a true b c = go (ltb a b) (ltb→lt a b) (nltb→le a b)
+  where
+    go : (x : Bool) → (T x → a < b) → (T (not x) → b ≤ a) → (u : Bool) × (g : ℕ) × (cond x (round binary64 true (b - a) c) (round binary64 false (a - b) c) ≡ round binary64 u g c) × Total false a true b u g
+    go true h k = let l = h tt in (true, b - a, refl, omega arith)
+    go false h k = let l = k tt in (false, a - b, refl, omega arith)
+sum-is true a false b c = go (ltb a b) (ltb→lt a b) (nltb→le a b) (ltb b a) (nltb→le b a)
+  where
+    go : (x : Bool) → (T x → a < b) → (T (not x) → b ≤ a) → (y : Bool) → (T (not y) → a ≤ b)
+        → (u : Bool) × (g : ℕ) × (cond x (round binary64 false (b - a) c) (round binary64 y (a - b) c) ≡ round binary64 u g c) × Total true a false b u g
+    go true h k y i = let l = h tt in (false, b - a, refl, omega arith)
+    go false h k true i = let l = k tt in (true, a - b, refl, omega arith)
+    go false h k false i = let l = k tt in let j = i tt in (false, a - b, refl, omega arith)
+
+-- (X - U) / (p * q) = (P - N) / p + (Q - M) / q, and the same of the marked: the sums are in order if the terms are
+sum-cross : (P N p P' N' p' Q M q Q' M' q' X U X' U' : ℕ)
+    → X + (N * q + M * p) ≡ U + (P * q + Q * p) → X' + (N' * q' + M' * p') ≡ U' + (P' * q' + Q' * p') → P * p' + N' * p ≤ P' * p + N * p' → Q * q' + M' * q ≤ Q' * q + M * q'
+    → X * (p' * q') + U' * (p * q) ≤ X' * (p * q) + U * (p' * q')
+sum-cross P N p P' N' p' Q M q Q' M' q' X U X' U' e e' h k =
+    let a = simp (add-mul, mul-assoc, mul-comm, mul-left-comm) at (ap (λ (z : ℕ). z * (p' * q')) e) in
+    let a' = simp (add-mul, mul-assoc, mul-comm, mul-left-comm) at (ap (λ (z : ℕ). z * (p * q)) e') in
+    let b = simp (add-mul, mul-assoc, mul-comm, mul-left-comm) at (mul-le-mul-right (q * q') h) in
+    let c = simp (add-mul, mul-assoc, mul-comm, mul-left-comm) at (mul-le-mul-right (p * p') k) in
+    simp (mul-assoc, mul-comm, mul-left-comm) (omega arith)
+
+-- an infinity plus whatever gives no NaN is that infinity
+inf-add : (s : Bool) (y : Float) → T (not (isNan (inf s ⊕ y))) → inf s ⊕ y ≡ inf s
+unfolding add isNan
+inf-add s nan h = absurd h
+inf-add s (fin t n d) h = refl
+inf-add true (inf true) h = refl
+inf-add true (inf false) h = absurd h
+inf-add false (inf true) h = absurd h
+inf-add false (inf false) h = refl
+
+add-inf : (x : Float) (t : Bool) → T (not (isNan (x ⊕ inf t))) → x ⊕ inf t ≡ inf t
+unfolding add isNan
+add-inf nan t h = absurd h
+add-inf (fin s m e) t h = refl
+add-inf (inf true) true h = refl
+add-inf (inf true) false h = absurd h
+add-inf (inf false) true h = absurd h
+add-inf (inf false) false h = refl
+
+add-numbers : (s : Bool) (m : ℕ) (e : ℤ) (s' : Bool) (m' : ℕ) (e' : ℤ) (t : Bool) (n : ℕ) (d : ℤ) (t' : Bool) (n' : ℕ) (d' : ℤ)
+    → Before s (m * up e) (down e) s' (m' * up e') (down e') → Before t (n * up d) (down d) t' (n' * up d') (down d') → T (fin s m e ⊕ fin t n d ⩽ fin s' m' e' ⊕ fin t' n' d')
+unfolding add
+add-numbers s m e s' m' e' t n d t' n' d' h k =
+    let r = sum-is s (m * up e * down d) t (n * up d * down e) (down e * down d) in
+    let r' = sum-is s' (m' * up e' * down d') t' (n' * up d' * down e') (down e' * down d') in
+    rw (r .2, r' .2) (round-before (r .0) (r .1) (down e * down d) (r' .0) (r' .1) (down e' * down d') (mul-pos (down-pos e) (down-pos d)) (mul-pos (down-pos e') (down-pos d'))
+    (sum-cross (over s (m * up e)) (under s (m * up e)) (down e) (over s' (m' * up e')) (under s' (m' * up e')) (down e')
+    (over t (n * up d)) (under t (n * up d)) (down d) (over t' (n' * up d')) (under t' (n' * up d')) (down d')
+    (over (r .0) (r .1)) (under (r .0) (r .1)) (over (r' .0) (r' .1)) (under (r' .0) (r' .1)) (simp (over-mul, under-mul) (r .3)) (simp (over-mul, under-mul) (r' .3)) h k))
+
+add-view : {x x' y y' : Float} → Le x x' → Le y y' → T (not (isNan (x ⊕ y))) → T (not (isNan (x' ⊕ y'))) → T (x ⊕ y ⩽ x' ⊕ y')
+add-view {x} {x'} {y} {y'} (lowest h) k p q = rw (inf-add true y p) (le-lowest (x' ⊕ y') q)
+add-view {x} {x'} {y} {y'} (highest h) k p q = rw (inf-add false y' q) (le-highest (x ⊕ y) p)
+add-view {x} {x'} {y} {y'} (numbers s m e s' m' e' h) (lowest k) p q = rw (add-inf (fin s m e) true p) (le-lowest (fin s' m' e' ⊕ y') q)
+add-view {x} {x'} {y} {y'} (numbers s m e s' m' e' h) (highest k) p q = rw (add-inf (fin s' m' e') false q) (le-highest (fin s m e ⊕ y) p)
+add-view (numbers s m e s' m' e' h) (numbers t n d t' n' d' k) p q = add-numbers s m e s' m' e' t n d t' n' d' h k
+
+-- a sum grows with each term, a difference with its first and against its second
+pub add-mono : (x x' y y' : Float) → T (x ⩽ x') → T (y ⩽ y') → T (not (isNan (x ⊕ y))) → T (not (isNan (x' ⊕ y'))) → T (x ⊕ y ⩽ x' ⊕ y')
+add-mono x x' y y' h k p q = add-view (le-view x x' h) (le-view y y' k) p q
+
+pub sub-mono : (x x' y y' : Float) → T (x ⩽ x') → T (y' ⩽ y) → T (not (isNan (x ⊖ y))) → T (not (isNan (x' ⊖ y'))) → T (x ⊖ y ⩽ x' ⊖ y')
+unfolding sub
+sub-mono x x' y y' h k p q = add-mono x x' (neg y) (neg y') h (⩽-neg y' y k) p q
