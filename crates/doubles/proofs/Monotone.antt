@@ -3,14 +3,14 @@
 use mathlib.Core.Path.{_≡_, refl, sym, ap, _∙_, subst}
 use mathlib.Core.Logic.{_⊎_, inl, inr}
 use Prim.Native.Nat.{ℕ, zero, suc, _+_, _-_, _*_, _^_, _≤_, _<_}
-use native.Mathlib.Nat.{le-trans, le-of-eq, mul-one, one-mul, zero-mul, mul-comm, mul-assoc, mul-left-comm, mul-right-comm, mul-mul-mul-comm, mul-le-mul, mul-le-mul-right, mul-pos, add-mul, eq-zero-or-pos}
+use native.Mathlib.Nat.{le-trans, le-of-eq, mul-one, one-mul, zero-mul, mul-zero, mul-comm, mul-assoc, mul-left-comm, mul-right-comm, mul-mul-mul-comm, mul-le-mul, mul-le-mul-right, mul-pos, add-mul, eq-zero-or-pos}
 use native.Mathlib.Omega.{arith}
 use mathlib.Core.Bool.{Bool, true, false, not, _&&_, _||_, Bool·beq, cond, true≢false}
 use lib.IntN.{ℤ, pos}
-use lib.Dec.{T, ltb, eqb, ltb→lt, nltb→le, eqb→eq}
+use lib.Dec.{T, ltb, eqb, ltb→lt, nltb→le, eqb→eq, T-not}
 use lib.Pow.{pow-pos}
 use lib.Ieee.{Float, nan, inf, fin, Format, binary64, prec, emax, low, up, down, unlike, odd, units, round, neg, sum, add, sub, mul, div, le, lt, fits, isNan, ofBits}
-use lib.Ieee.Fits.{up-pos, down-pos, round-is}
+use lib.Ieee.Fits.{up-pos, down-pos, round-is, eq→eqb}
 use lib.Ieee.Order.{round-mono}
 use lib.Ieee.Scale.{round-same}
 use Rattle.doubles.specs.F64.{_⊕_, _⊖_, _⊗_, _⊘_, _⩽_, _⋖_, +0, 1f}
@@ -161,3 +161,75 @@ add-mono x x' y y' h k p q = add-view (le-view x x' h) (le-view y y' k) p q
 pub sub-mono : (x x' y y' : Float) → T (x ⩽ x') → T (y' ⩽ y) → T (not (isNan (x ⊖ y))) → T (not (isNan (x' ⊖ y'))) → T (x ⊖ y ⩽ x' ⊖ y')
 unfolding sub
 sub-mono x x' y y' h k p q = add-mono x x' (neg y) (neg y') h (⩽-neg y' y k) p q
+
+-- ---- doubles that are not negative, a -0 included: +0 ⩽ x
+no-lowest : T (+0 ⩽ inf true) → ⊥
+unfolding le ofBits
+no-lowest h = h
+
+none-under : (s : Bool) (m : ℕ) (e : ℤ) → T (+0 ⩽ fin s m e) → under s (m * up e) ≡ 0
+unfolding ofBits
+none-under false m e h = refl
+none-under true m e h = let k = le→before false 0 (pos 0) true m e h in omega arith
+
+whole : (s : Bool) (a : ℕ) → under s a ≡ 0 → over s a ≡ a
+whole false a h = refl
+whole true a h = sym h
+
+-- the order of two fractions that are not negative is that of their sizes
+cross-of : (s : Bool) (a c : ℕ) (t : Bool) (b d : ℕ) → under s a ≡ 0 → under t b ≡ 0 → Before s a c t b d → a * d ≤ b * c
+cross-of s a c t b d p q h = omega (arith, rw (p, q, whole s a p, whole t b q) at h)
+
+round-upper : (s : Bool) (a c : ℕ) (t : Bool) (b d : ℕ) → 0 < c → 0 < d → under s a ≡ 0 → under t b ≡ 0 → a * d ≤ b * c → T (round binary64 s a c ⩽ round binary64 t b d)
+round-upper s a c t b d C D p q h = round-before s a c t b d C D (rw (p, q, whole s a p, whole t b q) (omega arith))
+
+-- ---- products
+under-product : (s : Bool) (a : ℕ) (t : Bool) (b : ℕ) → under s a ≡ 0 → under t b ≡ 0 → under (unlike s t) (a * b) ≡ 0
+under-product false a false b p q = refl
+under-product false a true b p q = ap (λ (z : ℕ). a * z) q ∙ mul-zero a
+under-product true a false b p q = ap (λ (z : ℕ). z * b) p ∙ zero-mul b
+under-product true a true b p q = refl
+
+-- an infinity times a number that gives no NaN
+sign-clear : (t : Bool) (n : ℕ) (d : ℤ) → under t (n * up d) ≡ 0 → T (not (eqb n 0)) → t ≡ false
+sign-clear false n d h k = refl
+sign-clear true n d h k = absurd (T-not (eqb n 0) k (eq→eqb (zero-of n (up d) (up-pos d) h)))
+
+endless : (b u : Bool) → (T (not b) → u ≡ false) → T (not (isNan (cond b nan (inf u)))) → cond b nan (inf u) ≡ inf false
+unfolding isNan
+endless true u f h = absurd h
+endless false u f h = ap inf (f tt)
+
+inf-mul : (y : Float) → T (+0 ⩽ y) → T (not (isNan (inf false ⊗ y))) → inf false ⊗ y ≡ inf false
+unfolding mul isNan
+inf-mul nan p h = absurd h
+inf-mul (inf true) p h = absurd (no-lowest p)
+inf-mul (inf false) p h = refl
+inf-mul (fin t n d) p h = endless (eqb n 0) (unlike false t) (λ k. ap (unlike false) (sign-clear t n d (none-under t n d p) k)) h
+
+mul-inf : (x : Float) → T (+0 ⩽ x) → T (not (isNan (x ⊗ inf false))) → x ⊗ inf false ≡ inf false
+unfolding mul isNan
+mul-inf nan p h = absurd h
+mul-inf (inf true) p h = absurd (no-lowest p)
+mul-inf (inf false) p h = refl
+mul-inf (fin s m e) p h = endless (eqb m 0) (unlike s false) (λ k. ap (λ (z : Bool). unlike z false) (sign-clear s m e (none-under s m e p) k)) h
+
+mul-view : {x x' y y' : Float} → T (+0 ⩽ x) → T (+0 ⩽ x') → T (+0 ⩽ y) → T (+0 ⩽ y') → Le x x' → Le y y' → T (not (isNan (x ⊗ y))) → T (not (isNan (x' ⊗ y'))) → T (x ⊗ y ⩽ x' ⊗ y')
+unfolding mul
+mul-view X X' Y Y' (lowest h) k p q = absurd (no-lowest X)
+mul-view {x} {x'} {y} {y'} X X' Y Y' (highest h) k p q = rw (inf-mul y' Y' q) (le-highest (x ⊗ y) p)
+mul-view X X' Y Y' (numbers s m e s' m' e' h) (lowest k) p q = absurd (no-lowest Y)
+mul-view {x} {x'} {y} {y'} X X' Y Y' (numbers s m e s' m' e' h) (highest k) p q = rw (mul-inf (fin s' m' e') X' q) (le-highest (fin s m e ⊗ y) p)
+mul-view X X' Y Y' (numbers s m e s' m' e' h) (numbers t n d t' n' d' k) p q =
+    let a = none-under s m e X in
+    let a' = none-under s' m' e' X' in
+    let b = none-under t n d Y in
+    let b' = none-under t' n' d' Y' in
+    round-upper (unlike s t) (m * up e * (n * up d)) (down e * down d) (unlike s' t') (m' * up e' * (n' * up d')) (down e' * down d') (mul-pos (down-pos e) (down-pos d)) (mul-pos (down-pos e') (down-pos d'))
+    (under-product s (m * up e) t (n * up d) a b) (under-product s' (m' * up e') t' (n' * up d') a' b')
+    (le-trans (le-of-eq (mul-mul-mul-comm (m * up e) (n * up d) (down e') (down d')))
+    (le-trans (mul-le-mul (cross-of s (m * up e) (down e) s' (m' * up e') (down e') a a' h) (cross-of t (n * up d) (down d) t' (n' * up d') (down d') b b' k)) (le-of-eq (mul-mul-mul-comm (m' * up e') (down e) (n' * up d') (down d)))))
+
+-- a product of doubles that are not negative grows with each factor
+pub mul-mono : (x x' y y' : Float) → T (+0 ⩽ x) → T (+0 ⩽ y) → T (x ⩽ x') → T (y ⩽ y') → T (not (isNan (x ⊗ y))) → T (not (isNan (x' ⊗ y'))) → T (x ⊗ y ⩽ x' ⊗ y')
+mul-mono x x' y y' X Y h k p q = mul-view X (⩽-trans +0 x x' X h) Y (⩽-trans +0 y y' Y k) (le-view x x' h) (le-view y y' k) p q
