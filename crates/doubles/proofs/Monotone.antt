@@ -15,7 +15,8 @@ use lib.Ieee.Order.{round-mono}
 use lib.Ieee.Scale.{round-same}
 use Rattle.doubles.specs.F64.{_⊕_, _⊖_, _⊗_, _⊘_, _⩽_, _⋖_, +0, 1f}
 use Rattle.doubles.proofs.Unique.{round-self}
-use Rattle.doubles.proofs.Total.{over, under, Before, over-mul, under-mul, over-not, under-not, le→before, before→le, Le, lowest, highest, numbers, le-view, view-le, le-lowest, le-highest, le-number-left, le-number-right, ⩽-refl, ⩽-trans, ⋖-⩽, ⋖-not, ⩽-neg, neg-number}
+use Rattle.doubles.proofs.Arithmetic.{not-zero-test}
+use Rattle.doubles.proofs.Total.{over, under, Before, over-mul, under-mul, over-not, under-not, le→before, before→le, Le, lowest, highest, numbers, le-view, view-le, le-lowest, le-highest, le-number-left, le-number-right, ⩽-refl, ⩽-trans, ⋖-⩽, ⋖-⩽-trans, ⋖-not, ⩽-neg, neg-number}
 
 -- ---- rounding with a sign
 odd-not : (d : ℕ) (s : Bool) (q k l : ℕ) → odd d (not s) q k l ≡ neg (odd d s q k l)
@@ -183,6 +184,13 @@ cross-of s a c t b d p q h = omega (arith, rw (p, q, whole s a p, whole t b q) a
 round-upper : (s : Bool) (a c : ℕ) (t : Bool) (b d : ℕ) → 0 < c → 0 < d → under s a ≡ 0 → under t b ≡ 0 → a * d ≤ b * c → T (round binary64 s a c ⩽ round binary64 t b d)
 round-upper s a c t b d C D p q h = round-before s a c t b d C D (rw (p, q, whole s a p, whole t b q) (omega arith))
 
+zero-round-up : (u s : Bool) (a c : ℕ) → 0 < c → under s a ≡ 0 → T (fin u 0 (pos 0) ⩽ round binary64 s a c)
+zero-round-up u s a c C p = subst (λ (x : Float). T (x ⩽ round binary64 s a c)) (zero-round u) (round-upper u 0 1 s a c (pow-pos 0) C (zero-under u) p (omega arith))
+  where
+    zero-under : (u : Bool) → under u 0 ≡ 0
+    zero-under false = refl
+    zero-under true = refl
+
 -- ---- products
 under-product : (s : Bool) (a : ℕ) (t : Bool) (b : ℕ) → under s a ≡ 0 → under t b ≡ 0 → under (unlike s t) (a * b) ≡ 0
 under-product false a false b p q = refl
@@ -233,3 +241,67 @@ mul-view X X' Y Y' (numbers s m e s' m' e' h) (numbers t n d t' n' d' k) p q =
 -- a product of doubles that are not negative grows with each factor
 pub mul-mono : (x x' y y' : Float) → T (+0 ⩽ x) → T (+0 ⩽ y) → T (x ⩽ x') → T (y ⩽ y') → T (not (isNan (x ⊗ y))) → T (not (isNan (x' ⊗ y'))) → T (x ⊗ y ⩽ x' ⊗ y')
 mul-mono x x' y y' X Y h k p q = mul-view X (⩽-trans +0 x x' X h) Y (⩽-trans +0 y y' Y k) (le-view x x' h) (le-view y y' k) p q
+
+-- ---- quotients
+above-number : (t : Bool) (n : ℕ) (d : ℤ) → T (+0 ⋖ fin t n d) → (t ≡ false) × (0 < n)
+unfolding lt ofBits
+above-number true n d h = absurd h
+above-number false n d h = (refl, first (omega (arith, ltb→lt (0 * down d) (n * up d * 1) h)))
+  where
+    first : 0 < n * up d → 0 < n
+    first k = elim (eq-zero-or-pos n) [ inl z ↦ absurd (none (n * up d) (ap (λ (z : ℕ). z * up d) z ∙ zero-mul (up d)) k) | inr p ↦ p ]
+      where
+        none : (k : ℕ) → k ≡ 0 → 0 < k → ⊥
+        none k e h = omega arith
+
+not-above-lowest : T (+0 ⋖ inf true) → ⊥
+unfolding lt ofBits
+not-above-lowest h = h
+
+-- by a divisor that is a number above 0
+div-number : (s : Bool) (m : ℕ) (e : ℤ) (t : Bool) (n : ℕ) (d : ℤ) → 0 < n → fin s m e ⊘ fin t n d ≡ round binary64 (unlike s t) (m * up e * down d) (n * up d * down e)
+unfolding div
+div-number s m e t n d N = ap (λ (b : Bool). cond b (cond (eqb m 0) nan (inf (unlike s t))) (round binary64 (unlike s t) (m * up e * down d) (n * up d * down e))) (not-zero-test n N)
+
+under-quotient : (s : Bool) (m : ℕ) (e : ℤ) (t : Bool) (d : ℤ) → T (+0 ⩽ fin s m e) → t ≡ false → under (unlike s t) (m * up e * down d) ≡ 0
+under-quotient s m e t d X T₀ = under-product s (m * up e) t (down d) (none-under s m e X) (ap (λ (z : Bool). under z (down d)) T₀)
+
+inf-div : (y : Float) → T (+0 ⋖ y) → T (not (isNan (inf false ⊘ y))) → inf false ⊘ y ≡ inf false
+unfolding div isNan
+inf-div nan p h = absurd h
+inf-div (inf t) p h = absurd h
+inf-div (fin t n d) p h = ap (λ (z : Bool). inf (unlike false z)) (above-number t n d p .0)
+
+-- a quotient is not negative
+zero-div : (u : Bool) (x y : Float) → T (+0 ⩽ x) → T (+0 ⋖ y) → T (not (isNan (x ⊘ y))) → T (fin u 0 (pos 0) ⩽ x ⊘ y)
+unfolding div isNan
+zero-div u nan y X Y h = absurd h
+zero-div u (inf true) y X Y h = absurd (no-lowest X)
+zero-div u (inf false) y X Y h = rw (inf-div y Y h) (le-highest (fin u 0 (pos 0)) tt)
+zero-div u (fin s m e) nan X Y h = absurd h
+zero-div u (fin s m e) (inf t) X Y h = zeros u (unlike s t)
+zero-div u (fin s m e) (fin t n d) X Y h =
+    let a = above-number t n d Y in
+    rw (div-number s m e t n d (a .1)) (zero-round-up u (unlike s t) (m * up e * down d) (n * up d * down e) (mul-pos (mul-pos (a .1) (up-pos d)) (down-pos e)) (under-quotient s m e t d X (a .0)))
+
+div-view : {x x' y y' : Float} → T (+0 ⩽ x) → T (+0 ⩽ x') → T (+0 ⋖ y) → T (+0 ⋖ y') → Le x x' → Le y' y → T (not (isNan (x ⊘ y))) → T (not (isNan (x' ⊘ y'))) → T (x ⊘ y ⩽ x' ⊘ y')
+div-view X X' Y Y' (lowest h) k p q = absurd (no-lowest X)
+div-view {x} {x'} {y} {y'} X X' Y Y' (highest h) k p q = rw (inf-div y' Y' q) (le-highest (x ⊘ y) p)
+div-view X X' Y Y' (numbers s m e s' m' e' h) (lowest k) p q = absurd (not-above-lowest Y')
+div-view {x} {x'} {y} {y'} X X' Y Y' (numbers s m e s' m' e' h) (highest k) p q = unfold div in zero-div (unlike s false) (fin s' m' e') y' X' Y' q
+div-view X X' Y Y' (numbers s m e s' m' e' h) (numbers t' n' d' t n d k) p q =
+    let b = above-number t n d Y in
+    let b' = above-number t' n' d' Y' in
+    rw (div-number s m e t n d (b .1), div-number s' m' e' t' n' d' (b' .1))
+    (round-upper (unlike s t) (m * up e * down d) (n * up d * down e) (unlike s' t') (m' * up e' * down d') (n' * up d' * down e') (mul-pos (mul-pos (b .1) (up-pos d)) (down-pos e)) (mul-pos (mul-pos (b' .1) (up-pos d')) (down-pos e'))
+    (under-quotient s m e t d X (b .0)) (under-quotient s' m' e' t' d' X' (b' .0))
+    (swap (m * up e) (down e) (m' * up e') (down e') (n * up d) (down d) (n' * up d') (down d')
+    (cross-of s (m * up e) (down e) s' (m' * up e') (down e') (none-under s m e X) (none-under s' m' e' X') h)
+    (cross-of t' (n' * up d') (down d') t (n * up d) (down d) (ap (λ (z : Bool). under z (n' * up d')) (b' .0)) (ap (λ (z : Bool). under z (n * up d)) (b .0)) k)))
+  where
+    swap : (a p a' p' b q b' q' : ℕ) → a * p' ≤ a' * p → b' * q ≤ b * q' → a * q * (b' * p') ≤ a' * q' * (b * p)
+    swap a p a' p' b q b' q' h k = simp (mul-assoc, mul-comm, mul-left-comm) (simp (mul-assoc, mul-comm, mul-left-comm) at (mul-le-mul h k))
+
+-- a quotient of doubles that are not negative grows with the dividend and against the divisor
+pub div-mono : (x x' y y' : Float) → T (+0 ⩽ x) → T (+0 ⋖ y') → T (x ⩽ x') → T (y' ⩽ y) → T (not (isNan (x ⊘ y))) → T (not (isNan (x' ⊘ y'))) → T (x ⊘ y ⩽ x' ⊘ y')
+div-mono x x' y y' X Y' h k p q = div-view X (⩽-trans +0 x x' X h) (⋖-⩽-trans +0 y' y Y' k) Y' (le-view x x' h) (le-view y' y k) p q
