@@ -12,7 +12,7 @@ use lib.Pow.{pow-pos}
 use lib.Ieee.{Float, nan, inf, fin, Format, binary64, prec, emax, low, up, down, unlike, odd, units, round, neg, sum, add, sub, mul, div, le, lt, fits, isNan, ofBits}
 use lib.Ieee.Fits.{up-pos, down-pos, round-is, eq→eqb}
 use lib.Ieee.Order.{round-mono}
-use lib.Ieee.Scale.{round-same}
+use lib.Ieee.Positive.{first-pos}
 use Rattle.doubles.specs.F64.{_⊕_, _⊖_, _⊗_, _⊘_, _⩽_, _⋖_, +0, 1f}
 use Rattle.doubles.proofs.Unique.{round-self}
 use Rattle.doubles.proofs.Arithmetic.{not-zero-test}
@@ -246,13 +246,7 @@ mul-mono x x' y y' X Y h k p q = mul-view X (⩽-trans +0 x x' X h) Y (⩽-trans
 above-number : (t : Bool) (n : ℕ) (d : ℤ) → T (+0 ⋖ fin t n d) → (t ≡ false) × (0 < n)
 unfolding lt ofBits
 above-number true n d h = absurd h
-above-number false n d h = (refl, first (omega (arith, ltb→lt (0 * down d) (n * up d * 1) h)))
-  where
-    first : 0 < n * up d → 0 < n
-    first k = elim (eq-zero-or-pos n) [ inl z ↦ absurd (none (n * up d) (ap (λ (z : ℕ). z * up d) z ∙ zero-mul (up d)) k) | inr p ↦ p ]
-      where
-        none : (k : ℕ) → k ≡ 0 → 0 < k → ⊥
-        none k e h = omega arith
+above-number false n d h = (refl, first-pos n (up d) (omega (arith, ltb→lt (0 * down d) (n * up d * 1) h)))
 
 not-above-lowest : T (+0 ⋖ inf true) → ⊥
 unfolding lt ofBits
@@ -305,3 +299,54 @@ div-view X X' Y Y' (numbers s m e s' m' e' h) (numbers t' n' d' t n d k) p q =
 -- a quotient of doubles that are not negative grows with the dividend and against the divisor
 pub div-mono : (x x' y y' : Float) → T (+0 ⩽ x) → T (+0 ⋖ y') → T (x ⩽ x') → T (y' ⩽ y) → T (not (isNan (x ⊘ y))) → T (not (isNan (x' ⊘ y'))) → T (x ⊘ y ⩽ x' ⊘ y')
 div-mono x x' y y' X Y' h k p q = div-view X (⩽-trans +0 x x' X h) (⋖-⩽-trans +0 y' y Y' k) Y' (le-view x x' h) (le-view y' y k) p q
+
+-- ---- with 1
+unlike-false : (s : Bool) → unlike s false ≡ s
+unlike-false false = refl
+unlike-false true = refl
+
+pub mul-one-is : (x : Float) → T (fits binary64 x) → x ⊗ 1f ≡ x
+unfolding mul ofBits
+mul-one-is nan f = refl
+mul-one-is (inf s) f = ap inf (unlike-false s)
+mul-one-is (fin s m e) f =
+    ap (λ (u : Bool). round binary64 u (m * up e * 1) (down e * 1)) (unlike-false s)
+    ∙ round-self (fin s m e) s (m * up e * 1) (down e * 1) (mul-pos (down-pos e) (pow-pos 0)) f (refl, simp (mul-one, mul-assoc))
+
+zero-one : T (+0 ⩽ 1f)
+unfolding le ofBits
+zero-one = tt
+
+-- the factor is at most 1, or at least 1
+pub mul-shrinks : (x y : Float) → T (fits binary64 x) → T (+0 ⩽ x) → T (+0 ⩽ y) → T (y ⩽ 1f) → T (not (isNan (x ⊗ y))) → T (x ⊗ y ⩽ x)
+mul-shrinks x y f X Y h p =
+    let e = mul-one-is x f in
+    subst (λ (z : Float). T (x ⊗ y ⩽ z)) e (mul-mono x x y 1f X Y (⩽-refl x (le-number-right +0 x X)) h p (subst (λ (z : Float). T (not (isNan z))) (sym e) (le-number-right +0 x X)))
+
+pub mul-grows : (x y : Float) → T (fits binary64 x) → T (+0 ⩽ x) → T (1f ⩽ y) → T (not (isNan (x ⊗ y))) → T (x ⩽ x ⊗ y)
+mul-grows x y f X h p =
+    let e = mul-one-is x f in
+    subst (λ (z : Float). T (z ⩽ x ⊗ y)) e (mul-mono x x 1f y X zero-one (⩽-refl x (le-number-right +0 x X)) h (subst (λ (z : Float). T (not (isNan z))) (sym e) (le-number-right +0 x X)) p)
+
+-- a part of a whole is at most 1
+at-one : round binary64 false 1 1 ≡ 1f
+unfolding round ofBits
+at-one = refl
+
+end-part : (x : Float) → T (not (isNan (x ⊘ inf false))) → T (x ⊘ inf false ⩽ 1f)
+unfolding div isNan ofBits
+end-part nan p = absurd p
+end-part (inf s) p = absurd p
+end-part (fin s m e) p = ⩽-trans (fin (unlike s false) 0 (pos 0)) +0 1f (zeros (unlike s false) false) zero-one
+
+part-view : {x y : Float} → T (+0 ⩽ x) → T (+0 ⋖ y) → Le x y → T (not (isNan (x ⊘ y))) → T (x ⊘ y ⩽ 1f)
+part-view X Y (lowest h) p = absurd (no-lowest X)
+part-view {x} X Y (highest h) p = end-part x p
+part-view X Y (numbers s m e t n d h) p =
+    let b = above-number t n d Y in
+    rw (div-number s m e t n d (b .1), ← at-one)
+    (round-upper (unlike s t) (m * up e * down d) (n * up d * down e) false 1 1 (mul-pos (mul-pos (b .1) (up-pos d)) (down-pos e)) (pow-pos 0) (under-quotient s m e t d X (b .0)) refl
+    (omega (arith, cross-of s (m * up e) (down e) t (n * up d) (down d) (none-under s m e X) (ap (λ (z : Bool). under z (n * up d)) (b .0)) h)))
+
+pub div-part : (x y : Float) → T (+0 ⩽ x) → T (+0 ⋖ y) → T (x ⩽ y) → T (not (isNan (x ⊘ y))) → T (x ⊘ y ⩽ 1f)
+div-part x y X Y h p = part-view X Y (le-view x y h) p
