@@ -3,20 +3,21 @@
 use mathlib.Core.Path.{_≡_, refl, sym, ap, _∙_, subst}
 use mathlib.Core.Logic.{_⊎_, inl, inr}
 use Prim.Native.Nat.{ℕ, zero, suc, _+_, _-_, _*_, _^_, _≤_, _<_}
-use native.Mathlib.Nat.{le-trans, le-of-eq, mul-one, one-mul, zero-mul, mul-zero, mul-comm, mul-assoc, mul-left-comm, mul-right-comm, mul-mul-mul-comm, mul-le-mul, mul-le-mul-right, mul-pos, add-mul, eq-zero-or-pos}
+use native.Mathlib.Nat.{le-trans, le-of-eq, mul-one, one-mul, zero-mul, mul-zero, mul-comm, mul-assoc, mul-left-comm, mul-right-comm, mul-mul-mul-comm, mul-le-mul, mul-le-mul-right, mul-pos, add-mul, eq-zero-or-pos, le-of-mul-le-mul-right, lt-of-not-le, suc-mul}
 use native.Mathlib.Omega.{arith}
 use mathlib.Core.Bool.{Bool, true, false, not, _&&_, _||_, Bool·beq, cond, true≢false}
 use lib.IntN.{ℤ, pos}
 use lib.Dec.{T, ltb, eqb, ltb→lt, nltb→le, eqb→eq, T-not}
 use lib.Pow.{pow-pos}
-use lib.Ieee.{Float, nan, inf, fin, Format, binary64, prec, emax, low, up, down, unlike, odd, units, round, neg, sum, add, sub, mul, div, le, lt, fits, isNan, ofBits}
+use lib.Ieee.{Float, nan, inf, fin, Format, binary64, prec, emax, low, up, down, unlike, odd, units, round, neg, sum, add, sub, mul, div, le, lt, fits, isNan, ofBits, toBits}
 use lib.Ieee.Fits.{up-pos, down-pos, round-is, eq→eqb}
 use lib.Ieee.Order.{round-mono}
 use lib.Ieee.Positive.{first-pos}
+use Rattle.doubles.specs.Value.{val}
 use Rattle.doubles.specs.F64.{_⊕_, _⊖_, _⊗_, _⊘_, _⩽_, _⋖_, +0, 1f}
-use Rattle.doubles.proofs.Unique.{round-self}
+use Rattle.doubles.proofs.Unique.{round-self, pattern-value}
 use Rattle.doubles.proofs.Arithmetic.{not-zero-test}
-use Rattle.doubles.proofs.Total.{over, under, Before, over-mul, under-mul, over-not, under-not, le→before, before→le, Le, lowest, highest, numbers, le-view, view-le, le-lowest, le-highest, le-number-left, le-number-right, ⩽-refl, ⩽-trans, ⋖-⩽, ⋖-⩽-trans, ⋖-not, ⩽-neg, neg-number}
+use Rattle.doubles.proofs.Total.{over, under, Before, over-mul, under-mul, over-not, under-not, lt→ahead, le→before, before→le, Le, lowest, highest, numbers, le-view, view-le, le-lowest, le-highest, le-number-left, le-number-right, ⩽-refl, ⩽-trans, ⋖-⩽, ⋖-⩽-trans, ⋖-not, ⩽-neg, neg-number}
 
 -- ---- rounding with a sign
 odd-not : (d : ℕ) (s : Bool) (q k l : ℕ) → odd d (not s) q k l ≡ neg (odd d s q k l)
@@ -162,6 +163,57 @@ add-mono x x' y y' h k p q = add-view (le-view x x' h) (le-view y y' k) p q
 pub sub-mono : (x x' y y' : Float) → T (x ⩽ x') → T (y' ⩽ y) → T (not (isNan (x ⊖ y))) → T (not (isNan (x' ⊖ y'))) → T (x ⊖ y ⩽ x' ⊖ y')
 unfolding sub
 sub-mono x x' y y' h k p q = add-mono x x' (neg y) (neg y') h (⩽-neg y' y k) p q
+
+-- ---- a difference of two that differ is not lost: both are whole numbers of units of 2 ^ -1074, and so is the difference
+-- (P - N) / p is (P1 - N1) / K, (Q - M) / q is (Q1 - M1) / K and larger, and (X - Y) / (q * p) is the difference: it is 1 / K at least
+apart : (P N p P1 N1 Q M q Q1 M1 X Y K : ℕ) → 0 < K → P * K ≡ P1 * p → N * K ≡ N1 * p → Q * K ≡ Q1 * q → M * K ≡ M1 * q
+    → X + (M * p + P * q) ≡ Y + (Q * p + N * q) → P * q + M * p < Q * p + N * q → 1 * (q * p) + Y * K ≤ X * K + 0 * (q * p)
+apart P N p P1 N1 Q M q Q1 M1 X Y K k hP hN hQ hM e l =
+    let eP : P * q * K ≡ P1 * (q * p) = mul-right-comm P q K ∙ ap (λ (z : ℕ). z * q) hP ∙ mul-assoc P1 p q ∙ ap (λ (z : ℕ). P1 * z) (mul-comm p q) in
+    let eN : N * q * K ≡ N1 * (q * p) = mul-right-comm N q K ∙ ap (λ (z : ℕ). z * q) hN ∙ mul-assoc N1 p q ∙ ap (λ (z : ℕ). N1 * z) (mul-comm p q) in
+    let eQ : Q * p * K ≡ Q1 * (q * p) = mul-right-comm Q p K ∙ ap (λ (z : ℕ). z * p) hQ ∙ mul-assoc Q1 q p in
+    let eM : M * p * K ≡ M1 * (q * p) = mul-right-comm M p K ∙ ap (λ (z : ℕ). z * p) hM ∙ mul-assoc M1 q p in
+    let E = simp add-mul at (ap (λ (z : ℕ). z * K) e) in
+    let more : P1 + M1 < Q1 + N1 = lt-of-not-le (λ g. let f = simp add-mul at (mul-le-mul-right (q * p) g) in let XY : X ≤ Y = le-of-mul-le-mul-right (omega arith) k in omega arith) in
+    let step = simp (suc-mul, add-mul) at (mul-le-mul-right (q * p) more) in
+    omega arith
+
+over-scale : (s : Bool) (a k u c : ℕ) → a * k ≡ u * c → over s a * k ≡ over s u * c
+over-scale s a k u c h = over-mul s a k ∙ ap (over s) h ∙ sym (over-mul s u c)
+
+under-scale : (s : Bool) (a k u c : ℕ) → a * k ≡ u * c → under s a * k ≡ under s u * c
+under-scale s a k u c h = under-mul s a k ∙ ap (under s) h ∙ sym (under-mul s u c)
+
+least : T (+0 ⋖ round binary64 false 1 (2 ^ 1074))
+unfolding lt ofBits round
+least = tt
+
+zero-end : T (+0 ⋖ inf false)
+unfolding lt ofBits
+zero-end = tt
+
+sub-numbers : (s : Bool) (m : ℕ) (e : ℤ) (t : Bool) (n : ℕ) (d : ℤ) → T (fits binary64 (fin s m e)) → T (fits binary64 (fin t n d)) → T (fin s m e ⋖ fin t n d) → T (+0 ⋖ fin t n d ⊖ fin s m e)
+unfolding sub add neg
+sub-numbers s m e t n d f g h =
+    let r = sum-is t (n * up d * down e) (not s) (m * up e * down d) (down d * down e) in
+    let U = val (toBits binary64 (fin false m e)) in
+    let W = val (toBits binary64 (fin false n d)) in
+    let u : m * up e * 2 ^ 1074 ≡ U * down e = pattern-value (fin s m e) s (m * up e) (down e) f (refl, refl) in
+    let w : n * up d * 2 ^ 1074 ≡ W * down d = pattern-value (fin t n d) t (n * up d) (down d) g (refl, refl) in
+    rw (r .2) (⋖-⩽-trans +0 (round binary64 false 1 (2 ^ 1074)) (round binary64 (r .0) (r .1) (down d * down e)) least
+    (round-before false 1 (2 ^ 1074) (r .0) (r .1) (down d * down e) (pow-pos 1074) (mul-pos (down-pos d) (down-pos e))
+    (apart (over s (m * up e)) (under s (m * up e)) (down e) (over s U) (under s U) (over t (n * up d)) (under t (n * up d)) (down d) (over t W) (under t W) (over (r .0) (r .1)) (under (r .0) (r .1)) (2 ^ 1074) (pow-pos 1074)
+    (over-scale s (m * up e) (2 ^ 1074) U (down e) u) (under-scale s (m * up e) (2 ^ 1074) U (down e) u) (over-scale t (n * up d) (2 ^ 1074) W (down d) w) (under-scale t (n * up d) (2 ^ 1074) W (down d) w)
+    (simp (over-mul, under-mul) (simp (over-not, under-not) at (r .3))) (lt→ahead s m e t n d h))))
+
+above-view : {x y : Float} → T (fits binary64 x) → T (fits binary64 y) → Le x y → T (x ⋖ y) → T (not (isNan (y ⊖ x))) → T (+0 ⋖ y ⊖ x)
+unfolding sub neg
+above-view {x} {y} f g (lowest k) h p = rw (add-inf y false p) zero-end
+above-view {x} {y} f g (highest k) h p = rw (inf-add false (neg x) p) zero-end
+above-view f g (numbers s m e t n d k) h p = sub-numbers s m e t n d f g h
+
+pub sub-above : (x y : Float) → T (fits binary64 x) → T (fits binary64 y) → T (x ⋖ y) → T (not (isNan (y ⊖ x))) → T (+0 ⋖ y ⊖ x)
+sub-above x y f g h p = above-view f g (le-view x y (⋖-⩽ x y h)) h p
 
 -- ---- doubles that are not negative, a -0 included: +0 ⩽ x
 no-lowest : T (+0 ⩽ inf true) → ⊥

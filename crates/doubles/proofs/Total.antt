@@ -103,6 +103,11 @@ pub before→le : (s : Bool) (m : ℕ) (e : ℤ) (t : Bool) (n : ℕ) (d : ℤ) 
 unfolding le
 before→le s m e t n d h = at-most-of s (m * up e * down d) t (n * up d * down e) (simp (over-mul, under-mul) at h)
 
+pub lt→ahead : (s : Bool) (m : ℕ) (e : ℤ) (t : Bool) (n : ℕ) (d : ℤ) → T (fin s m e ⋖ fin t n d)
+    → over s (m * up e) * down d + under t (n * up d) * down e < over t (n * up d) * down e + under s (m * up e) * down d
+unfolding lt
+lt→ahead s m e t n d h = simp (over-mul, under-mul) (below-is s (m * up e * down d) t (n * up d * down e) h)
+
 -- ---- what `le` says of two doubles: the first is -infinity, or the second +infinity, or both are numbers in order
 pub data Le : Float → Float → Type 0 where
   lowest : {y : Float} → T (not (isNan y)) → Le (inf true) y
