@@ -14,7 +14,7 @@ use lib.Ieee.Fits.{up-pos, down-pos, round-is, eq→eqb}
 use lib.Ieee.Order.{round-mono}
 use lib.Ieee.Positive.{first-pos}
 use Rattle.doubles.specs.Value.{val}
-use Rattle.doubles.specs.F64.{_⊕_, _⊖_, _⊗_, _⊘_, _⩽_, _⋖_, +0, 1f}
+use Rattle.doubles.specs.F64.{_⊕_, _⊖_, _⊗_, _⊘_, _⩽_, _⋖_, +0, 1f, is-finite}
 use Rattle.doubles.proofs.Unique.{round-self, pattern-value}
 use Rattle.doubles.proofs.Arithmetic.{not-zero-test}
 use Rattle.doubles.proofs.Total.{over, under, Before, over-mul, under-mul, over-not, under-not, lt→ahead, le→before, before→le, Le, lowest, highest, numbers, le-view, view-le, le-lowest, le-highest, le-number-left, le-number-right, ⩽-refl, ⩽-trans, ⋖-⩽, ⋖-⩽-trans, ⋖-not, ⩽-neg, neg-number}
@@ -305,9 +305,9 @@ unfolding lt ofBits
 not-above-lowest h = h
 
 -- by a divisor that is a number above 0
-div-number : (s : Bool) (m : ℕ) (e : ℤ) (t : Bool) (n : ℕ) (d : ℤ) → 0 < n → fin s m e ⊘ fin t n d ≡ round binary64 (unlike s t) (m * up e * down d) (n * up d * down e)
+by-number : (s : Bool) (m : ℕ) (e : ℤ) (t : Bool) (n : ℕ) (d : ℤ) → 0 < n → fin s m e ⊘ fin t n d ≡ round binary64 (unlike s t) (m * up e * down d) (n * up d * down e)
 unfolding div
-div-number s m e t n d N = ap (λ (b : Bool). cond b (cond (eqb m 0) nan (inf (unlike s t))) (round binary64 (unlike s t) (m * up e * down d) (n * up d * down e))) (not-zero-test n N)
+by-number s m e t n d N = ap (λ (b : Bool). cond b (cond (eqb m 0) nan (inf (unlike s t))) (round binary64 (unlike s t) (m * up e * down d) (n * up d * down e))) (not-zero-test n N)
 
 under-quotient : (s : Bool) (m : ℕ) (e : ℤ) (t : Bool) (d : ℤ) → T (+0 ⩽ fin s m e) → t ≡ false → under (unlike s t) (m * up e * down d) ≡ 0
 under-quotient s m e t d X T₀ = under-product s (m * up e) t (down d) (none-under s m e X) (ap (λ (z : Bool). under z (down d)) T₀)
@@ -328,7 +328,7 @@ zero-div u (fin s m e) nan X Y h = absurd h
 zero-div u (fin s m e) (inf t) X Y h = zeros u (unlike s t)
 zero-div u (fin s m e) (fin t n d) X Y h =
     let a = above-number t n d Y in
-    rw (div-number s m e t n d (a .1)) (zero-round-up u (unlike s t) (m * up e * down d) (n * up d * down e) (mul-pos (mul-pos (a .1) (up-pos d)) (down-pos e)) (under-quotient s m e t d X (a .0)))
+    rw (by-number s m e t n d (a .1)) (zero-round-up u (unlike s t) (m * up e * down d) (n * up d * down e) (mul-pos (mul-pos (a .1) (up-pos d)) (down-pos e)) (under-quotient s m e t d X (a .0)))
 
 div-view : {x x' y y' : Float} → T (+0 ⩽ x) → T (+0 ⩽ x') → T (+0 ⋖ y) → T (+0 ⋖ y') → Le x x' → Le y' y → T (not (isNan (x ⊘ y))) → T (not (isNan (x' ⊘ y'))) → T (x ⊘ y ⩽ x' ⊘ y')
 div-view X X' Y Y' (lowest h) k p q = absurd (no-lowest X)
@@ -338,7 +338,7 @@ div-view {x} {x'} {y} {y'} X X' Y Y' (numbers s m e s' m' e' h) (highest k) p q 
 div-view X X' Y Y' (numbers s m e s' m' e' h) (numbers t' n' d' t n d k) p q =
     let b = above-number t n d Y in
     let b' = above-number t' n' d' Y' in
-    rw (div-number s m e t n d (b .1), div-number s' m' e' t' n' d' (b' .1))
+    rw (by-number s m e t n d (b .1), by-number s' m' e' t' n' d' (b' .1))
     (round-upper (unlike s t) (m * up e * down d) (n * up d * down e) (unlike s' t') (m' * up e' * down d') (n' * up d' * down e') (mul-pos (mul-pos (b .1) (up-pos d)) (down-pos e)) (mul-pos (mul-pos (b' .1) (up-pos d')) (down-pos e'))
     (under-quotient s m e t d X (b .0)) (under-quotient s' m' e' t' d' X' (b' .0))
     (swap (m * up e) (down e) (m' * up e') (down e') (n * up d) (down d) (n' * up d') (down d')
@@ -396,9 +396,71 @@ part-view X Y (lowest h) p = absurd (no-lowest X)
 part-view {x} X Y (highest h) p = end-part x p
 part-view X Y (numbers s m e t n d h) p =
     let b = above-number t n d Y in
-    rw (div-number s m e t n d (b .1), ← at-one)
+    rw (by-number s m e t n d (b .1), ← at-one)
     (round-upper (unlike s t) (m * up e * down d) (n * up d * down e) false 1 1 (mul-pos (mul-pos (b .1) (up-pos d)) (down-pos e)) (pow-pos 0) (under-quotient s m e t d X (b .0)) refl
     (omega (arith, cross-of s (m * up e) (down e) t (n * up d) (down d) (none-under s m e X) (ap (λ (z : Bool). under z (n * up d)) (b .0)) h)))
 
 pub div-part : (x y : Float) → T (+0 ⩽ x) → T (+0 ⋖ y) → T (x ⩽ y) → T (not (isNan (x ⊘ y))) → T (x ⊘ y ⩽ 1f)
 div-part x y X Y h p = part-view X Y (le-view x y h) p
+
+-- ---- the results of numbers are no NaN
+pub add-number : (x y : Float) → T (is-finite x) → T (is-finite y) → T (not (isNan (x ⊕ y)))
+unfolding add
+add-number nan y h k = absurd h
+add-number (inf s) y h k = absurd h
+add-number (fin s m e) nan h k = absurd k
+add-number (fin s m e) (inf t) h k = absurd k
+add-number (fin s m e) (fin t n d) h k = let r = sum-is s (m * up e * down d) t (n * up d * down e) (down e * down d) in rw (r .2) (round-number binary64 (r .0) (r .1) (down e * down d))
+
+pub sub-number : (x y : Float) → T (is-finite x) → T (is-finite y) → T (not (isNan (x ⊖ y)))
+unfolding sub neg
+sub-number x nan h k = absurd k
+sub-number x (inf t) h k = absurd k
+sub-number x (fin t n d) h k = add-number x (fin (not t) n d) h tt
+
+pub mul-number : (x y : Float) → T (is-finite x) → T (is-finite y) → T (not (isNan (x ⊗ y)))
+unfolding mul
+mul-number nan y h k = absurd h
+mul-number (inf s) y h k = absurd h
+mul-number (fin s m e) nan h k = absurd k
+mul-number (fin s m e) (inf t) h k = absurd k
+mul-number (fin s m e) (fin t n d) h k = round-number binary64 (unlike s t) (m * up e * (n * up d)) (down e * down d)
+
+pub div-number : (x y : Float) → T (is-finite x) → T (+0 ⋖ y) → T (not (isNan (x ⊘ y)))
+unfolding div isNan
+div-number nan y h k = absurd h
+div-number (inf s) y h k = absurd h
+div-number (fin s m e) nan h k = absurd (unfold lt ofBits in k)
+div-number (fin s m e) (inf t) h k = tt
+div-number (fin s m e) (fin t n d) h k = rw (by-number s m e t n d (above-number t n d k .1)) (round-number binary64 (unlike s t) (m * up e * down d) (n * up d * down e))
+
+-- ---- the results of doubles that are not negative are not negative
+add-ends : (x y : Float) → T (+0 ⩽ x) → T (+0 ⩽ y) → T (not (isNan (x ⊕ y)))
+unfolding add isNan le ofBits
+add-ends nan y X Y = absurd X
+add-ends (inf true) y X Y = absurd X
+add-ends (inf false) nan X Y = absurd Y
+add-ends (inf false) (inf true) X Y = absurd Y
+add-ends (inf false) (inf false) X Y = tt
+add-ends (inf false) (fin t n d) X Y = tt
+add-ends (fin s m e) nan X Y = absurd Y
+add-ends (fin s m e) (inf t) X Y = tt
+add-ends (fin s m e) (fin t n d) X Y = add-number (fin s m e) (fin t n d) tt tt
+
+zero-twice : (+0 ⊕ +0 ≡ +0) × (+0 ⊗ +0 ≡ +0) × T (+0 ⩽ +0)
+unfolding add mul le ofBits
+zero-twice = (refl, refl, tt)
+
+pub add-nonneg : (x y : Float) → T (+0 ⩽ x) → T (+0 ⩽ y) → T (+0 ⩽ x ⊕ y)
+add-nonneg x y X Y =
+    let z = zero-twice in
+    subst (λ (u : Float). T (u ⩽ x ⊕ y)) (z .0) (add-mono +0 x +0 y X Y (add-ends +0 +0 (z .2) (z .2)) (add-ends x y X Y))
+
+pub mul-nonneg : (x y : Float) → T (+0 ⩽ x) → T (+0 ⩽ y) → T (not (isNan (x ⊗ y))) → T (+0 ⩽ x ⊗ y)
+mul-nonneg x y X Y p =
+    let z = zero-twice in
+    subst (λ (u : Float). T (u ⩽ x ⊗ y)) (z .1) (mul-mono +0 x +0 y (z .2) (z .2) X Y (subst (λ (u : Float). T (not (isNan u))) (sym (z .1)) (le-number-left +0 x X)) p)
+
+pub div-nonneg : (x y : Float) → T (+0 ⩽ x) → T (+0 ⋖ y) → T (not (isNan (x ⊘ y))) → T (+0 ⩽ x ⊘ y)
+unfolding ofBits
+div-nonneg x y X Y p = zero-div false x y X Y p
