@@ -403,20 +403,24 @@ part-view X Y (numbers s m e t n d h) p =
 pub div-part : (x y : Float) → T (+0 ⩽ x) → T (+0 ⋖ y) → T (x ⩽ y) → T (not (isNan (x ⊘ y))) → T (x ⊘ y ⩽ 1f)
 div-part x y X Y h p = part-view X Y (le-view x y h) p
 
--- ---- the results of numbers are no NaN
-pub add-number : (x y : Float) → T (is-finite x) → T (is-finite y) → T (not (isNan (x ⊕ y)))
-unfolding add
+-- ---- where a result is no NaN
+pub finite-number : (x : Float) → T (is-finite x) → T (not (isNan x))
+unfolding isNan
+finite-number nan h = absurd h
+finite-number (inf s) h = absurd h
+finite-number (fin s m e) h = tt
+
+pub add-number : (x y : Float) → T (is-finite x) → T (not (isNan y)) → T (not (isNan (x ⊕ y)))
+unfolding add isNan
 add-number nan y h k = absurd h
 add-number (inf s) y h k = absurd h
 add-number (fin s m e) nan h k = absurd k
-add-number (fin s m e) (inf t) h k = absurd k
+add-number (fin s m e) (inf t) h k = tt
 add-number (fin s m e) (fin t n d) h k = let r = sum-is s (m * up e * down d) t (n * up d * down e) (down e * down d) in rw (r .2) (round-number binary64 (r .0) (r .1) (down e * down d))
 
-pub sub-number : (x y : Float) → T (is-finite x) → T (is-finite y) → T (not (isNan (x ⊖ y)))
-unfolding sub neg
-sub-number x nan h k = absurd k
-sub-number x (inf t) h k = absurd k
-sub-number x (fin t n d) h k = add-number x (fin (not t) n d) h tt
+pub sub-number : (x y : Float) → T (is-finite x) → T (not (isNan y)) → T (not (isNan (x ⊖ y)))
+unfolding sub
+sub-number x y h k = add-number x (neg y) h (neg-number y k)
 
 pub mul-number : (x y : Float) → T (is-finite x) → T (is-finite y) → T (not (isNan (x ⊗ y)))
 unfolding mul
@@ -435,7 +439,7 @@ div-number (fin s m e) (inf t) h k = tt
 div-number (fin s m e) (fin t n d) h k = rw (by-number s m e t n d (above-number t n d k .1)) (round-number binary64 (unlike s t) (m * up e * down d) (n * up d * down e))
 
 -- ---- the results of doubles that are not negative are not negative
-add-ends : (x y : Float) → T (+0 ⩽ x) → T (+0 ⩽ y) → T (not (isNan (x ⊕ y)))
+pub add-ends : (x y : Float) → T (+0 ⩽ x) → T (+0 ⩽ y) → T (not (isNan (x ⊕ y)))
 unfolding add isNan le ofBits
 add-ends nan y X Y = absurd X
 add-ends (inf true) y X Y = absurd X
@@ -464,3 +468,53 @@ mul-nonneg x y X Y p =
 pub div-nonneg : (x y : Float) → T (+0 ⩽ x) → T (+0 ⋖ y) → T (not (isNan (x ⊘ y))) → T (+0 ⩽ x ⊘ y)
 unfolding ofBits
 div-nonneg x y X Y p = zero-div false x y X Y p
+
+-- ---- with 0: what is not negative makes a sum larger and a difference smaller
+-- (X - Y) / (p * 1) is (P - N) / p
+same-value : (X Y P N p : ℕ) → X + N ≡ Y + P → P * (p * 1) + Y * p ≡ X * p + N * (p * 1)
+same-value X Y P N p e = let k = simp add-mul at (ap (λ (z : ℕ). z * p) e) in simp mul-one (omega arith)
+
+over-zero : (u : Bool) → over u 0 ≡ 0
+over-zero false = refl
+over-zero true = refl
+
+under-zero : (u : Bool) → under u 0 ≡ 0
+under-zero false = refl
+under-zero true = refl
+
+zero-total : (s : Bool) (a : ℕ) (u : Bool) (p : ℕ) (v : Bool) (g : ℕ) → Total s (a * 1) u (0 * p) v g → over v g + under s a ≡ under v g + over s a
+zero-total s a u p v g e = omega (arith, simp (mul-one, zero-mul, over-zero, under-zero) at e)
+
+add-zero-is : (u : Bool) (x : Float) → T (fits binary64 x) → T (not (isNan x)) → T (x ⩽ x ⊕ fin u 0 (pos 0)) × T (x ⊕ fin u 0 (pos 0) ⩽ x)
+unfolding add isNan
+add-zero-is u nan f h = absurd h
+add-zero-is u (inf s) f h = let r = ⩽-refl (inf s) tt in (r, r)
+add-zero-is u (fin s m e) f h =
+    let a = m * up e in
+    let p = down e in
+    let r = sum-is s (a * 1) u (0 * p) (p * 1) in
+    let v = same-value (over (r .0) (r .1)) (under (r .0) (r .1)) (over s a) (under s a) p (zero-total s a u p (r .0) (r .1) (r .3)) in
+    let g = round-self (fin s m e) s a p (down-pos e) f (refl, refl) in
+    let P = mul-pos (down-pos e) (pow-pos 0) in
+    (rw (r .2) (subst (λ (x : Float). T (x ⩽ round binary64 (r .0) (r .1) (p * 1))) g (round-before s a p (r .0) (r .1) (p * 1) (down-pos e) P (omega arith))),
+    rw (r .2) (subst (λ (x : Float). T (round binary64 (r .0) (r .1) (p * 1) ⩽ x)) g (round-before (r .0) (r .1) (p * 1) s a p P (down-pos e) (omega arith))))
+
+left-number : (x y : Float) → T (not (isNan (x ⊕ y))) → T (not (isNan x))
+unfolding add isNan
+left-number nan y h = h
+left-number (inf s) y h = tt
+left-number (fin s m e) y h = tt
+
+pub add-grows : (x y : Float) → T (fits binary64 x) → T (+0 ⩽ y) → T (not (isNan (x ⊕ y))) → T (x ⩽ x ⊕ y)
+unfolding ofBits
+add-grows x y f Y p =
+    let n = left-number x y p in
+    let z = add-zero-is false x f n in
+    ⩽-trans x (x ⊕ +0) (x ⊕ y) (z .0) (add-mono x x +0 y (⩽-refl x n) Y (le-number-right x (x ⊕ +0) (z .0)) p)
+
+pub sub-shrinks : (x y : Float) → T (fits binary64 x) → T (+0 ⩽ y) → T (not (isNan (x ⊖ y))) → T (x ⊖ y ⩽ x)
+unfolding sub neg ofBits
+sub-shrinks x y f Y p =
+    let n = left-number x (neg y) p in
+    let z = add-zero-is true x f n in
+    ⩽-trans (x ⊖ y) (x ⊕ neg +0) x (add-mono x x (neg y) (neg +0) (⩽-refl x n) (⩽-neg +0 y Y) p (le-number-right x (x ⊕ neg +0) (z .0))) (z .1)
