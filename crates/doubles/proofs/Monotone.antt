@@ -1,13 +1,13 @@
 -- Rounding with signs keeps the order, and so do sums, differences, and the products and quotients of doubles that are not negative: zeros of either sign, subnormal numbers, overflow and infinities included.
 -- Assumes nothing.
 use mathlib.Core.Path.{_≡_, refl, sym, ap, _∙_, subst}
-use mathlib.Core.Logic.{_⊎_, inl, inr}
+use mathlib.Core.Logic.{inl, inr}
 use Prim.Native.Nat.{ℕ, zero, suc, _+_, _-_, _*_, _^_, _≤_, _<_}
-use native.Mathlib.Nat.{le-trans, le-of-eq, mul-one, one-mul, zero-mul, mul-zero, mul-comm, mul-assoc, mul-left-comm, mul-right-comm, mul-mul-mul-comm, mul-le-mul, mul-le-mul-right, mul-pos, add-mul, eq-zero-or-pos, le-of-mul-le-mul-right, lt-of-not-le, suc-mul}
+use native.Mathlib.Nat.{le-trans, le-of-eq, mul-one, zero-mul, mul-zero, mul-comm, mul-assoc, mul-left-comm, mul-right-comm, mul-mul-mul-comm, mul-le-mul, mul-le-mul-right, mul-pos, add-mul, eq-zero-or-pos, le-of-mul-le-mul-right, lt-of-not-le, suc-mul}
 use native.Mathlib.Omega.{arith}
-use mathlib.Core.Bool.{Bool, true, false, not, _&&_, _||_, Bool·beq, cond, true≢false}
+use mathlib.Core.Bool.{Bool, true, false, not, cond}
 use lib.IntN.{ℤ, pos}
-use lib.Dec.{T, ltb, eqb, ltb→lt, nltb→le, eqb→eq, T-not}
+use lib.Dec.{T, ltb, eqb, ltb→lt, nltb→le, T-not}
 use lib.Pow.{pow-pos}
 use lib.Ieee.{Float, nan, inf, fin, Format, binary64, prec, emax, low, up, down, unlike, odd, units, round, neg, sum, add, sub, mul, div, le, lt, fits, isNan, ofBits, toBits}
 use lib.Ieee.Fits.{up-pos, down-pos, round-is, eq→eqb}
@@ -17,7 +17,7 @@ use Rattle.doubles.specs.Value.{val}
 use Rattle.doubles.specs.F64.{_⊕_, _⊖_, _⊗_, _⊘_, _⩽_, _⋖_, +0, 1f, is-finite}
 use Rattle.doubles.proofs.Unique.{round-self, pattern-value}
 use Rattle.doubles.proofs.Arithmetic.{not-zero-test}
-use Rattle.doubles.proofs.Total.{over, under, Before, over-mul, under-mul, over-not, under-not, lt→ahead, le→before, before→le, Le, lowest, highest, numbers, le-view, view-le, le-lowest, le-highest, le-number-left, le-number-right, ⩽-refl, ⩽-trans, ⋖-⩽, ⋖-⩽-trans, ⋖-not, ⩽-neg, neg-number}
+use Rattle.doubles.proofs.Total.{over, under, Before, over-mul, under-mul, over-not, under-not, lt→ahead, le→before, Le, lowest, highest, numbers, le-view, le-lowest, le-highest, le-number-left, le-number-right, ⩽-refl, ⩽-trans, ⋖-⩽, ⋖-⩽-trans, ⩽-neg, neg-number}
 
 -- ---- rounding with a sign
 odd-not : (d : ℕ) (s : Bool) (q k l : ℕ) → odd d (not s) q k l ≡ neg (odd d s q k l)
@@ -33,6 +33,7 @@ units-not f s q k = go (ltb (q * 2 ^ k) (2 ^ (low f + suc (emax f))))
     go true = odd-not (suc (prec f)) s q k (low f)
     go false = refl
 
+-- the other sign rounds to the negation
 pub round-not : (f : Format) (s : Bool) (a c : ℕ) → round f (not s) a c ≡ neg (round f s a c)
 round-not f s a c = round-is f (not s) a c ∙ units-not f s _ _ ∙ sym (ap neg (round-is f s a c))
 
@@ -45,6 +46,7 @@ units-number f s q k = go (ltb (q * 2 ^ k) (2 ^ (low f + suc (emax f)))) q
     go true (suc q) = tt
     go false q = tt
 
+-- a rounded fraction is no NaN
 pub round-number : (f : Format) (s : Bool) (a c : ℕ) → T (not (isNan (round f s a c)))
 round-number f s a c = subst (λ (x : Float). T (not (isNan x))) (sym (round-is f s a c)) (units-number f s _ _)
 
@@ -88,22 +90,22 @@ round-before false a c true b d C D h =
 
 -- ---- sums
 -- what `sum` rounds: ±g / c, with ±g = ±a + ±b
-abbrev Total : Bool → ℕ → Bool → ℕ → Bool → ℕ → Type 0
-Total s a t b u g = over u g + (under s a + under t b) ≡ under u g + (over s a + over t b)
+abbrev Sums : Bool → ℕ → Bool → ℕ → Bool → ℕ → Type 0
+Sums s a t b u g = over u g + (under s a + under t b) ≡ under u g + (over s a + over t b)
 
-sum-is : (s : Bool) (a : ℕ) (t : Bool) (b c : ℕ) → (u : Bool) × (g : ℕ) × (sum binary64 s a t b c ≡ round binary64 u g c) × Total s a t b u g
+sum-is : (s : Bool) (a : ℕ) (t : Bool) (b c : ℕ) → (u : Bool) × (g : ℕ) × (sum binary64 s a t b c ≡ round binary64 u g c) × Sums s a t b u g
 unfolding sum
 sum-is false a false b c = (false, a + b, refl, omega arith)
 sum-is true a true b c = (true, a + b, refl, omega arith)
 sum-is false a true b c = go (ltb a b) (ltb→lt a b) (nltb→le a b)
   where
-    go : (x : Bool) → (T x → a < b) → (T (not x) → b ≤ a) → (u : Bool) × (g : ℕ) × (cond x (round binary64 true (b - a) c) (round binary64 false (a - b) c) ≡ round binary64 u g c) × Total false a true b u g
+    go : (x : Bool) → (T x → a < b) → (T (not x) → b ≤ a) → (u : Bool) × (g : ℕ) × (cond x (round binary64 true (b - a) c) (round binary64 false (a - b) c) ≡ round binary64 u g c) × Sums false a true b u g
     go true h k = let l = h tt in (true, b - a, refl, omega arith)
     go false h k = let l = k tt in (false, a - b, refl, omega arith)
 sum-is true a false b c = go (ltb a b) (ltb→lt a b) (nltb→le a b) (ltb b a) (nltb→le b a)
   where
     go : (x : Bool) → (T x → a < b) → (T (not x) → b ≤ a) → (y : Bool) → (T (not y) → a ≤ b)
-        → (u : Bool) × (g : ℕ) × (cond x (round binary64 false (b - a) c) (round binary64 y (a - b) c) ≡ round binary64 u g c) × Total true a false b u g
+        → (u : Bool) × (g : ℕ) × (cond x (round binary64 false (b - a) c) (round binary64 y (a - b) c) ≡ round binary64 u g c) × Sums true a false b u g
     go true h k y i = let l = h tt in (false, b - a, refl, omega arith)
     go false h k true i = let l = k tt in (true, a - b, refl, omega arith)
     go false h k false i = let l = k tt in let j = i tt in (false, a - b, refl, omega arith)
@@ -115,9 +117,9 @@ sum-cross : (P N p P' N' p' Q M q Q' M' q' X U X' U' : ℕ)
 sum-cross P N p P' N' p' Q M q Q' M' q' X U X' U' e e' h k =
     let a = simp (add-mul, mul-assoc, mul-comm, mul-left-comm) at (ap (λ (z : ℕ). z * (p' * q')) e) in
     let a' = simp (add-mul, mul-assoc, mul-comm, mul-left-comm) at (ap (λ (z : ℕ). z * (p * q)) e') in
-    let b = simp (add-mul, mul-assoc, mul-comm, mul-left-comm) at (mul-le-mul-right (q * q') h) in
+    let b = simp (add-mul, mul-assoc, mul-comm) at (mul-le-mul-right (q * q') h) in
     let c = simp (add-mul, mul-assoc, mul-comm, mul-left-comm) at (mul-le-mul-right (p * p') k) in
-    simp (mul-assoc, mul-comm, mul-left-comm) (omega arith)
+    simp (mul-comm, mul-left-comm) (omega arith)
 
 -- an infinity plus whatever gives no NaN is that infinity
 inf-add : (s : Bool) (y : Float) → T (not (isNan (inf s ⊕ y))) → inf s ⊕ y ≡ inf s
@@ -156,10 +158,11 @@ add-view {x} {x'} {y} {y'} (numbers s m e s' m' e' h) (lowest k) p q = rw (add-i
 add-view {x} {x'} {y} {y'} (numbers s m e s' m' e' h) (highest k) p q = rw (add-inf (fin s' m' e') false q) (le-highest (fin s m e ⊕ y) p)
 add-view (numbers s m e s' m' e' h) (numbers t n d t' n' d' k) p q = add-numbers s m e s' m' e' t n d t' n' d' h k
 
--- a sum grows with each term, a difference with its first and against its second
+-- a sum of any two doubles grows with each term
 pub add-mono : (x x' y y' : Float) → T (x ⩽ x') → T (y ⩽ y') → T (not (isNan (x ⊕ y))) → T (not (isNan (x' ⊕ y'))) → T (x ⊕ y ⩽ x' ⊕ y')
 add-mono x x' y y' h k p q = add-view (le-view x x' h) (le-view y y' k) p q
 
+-- a difference grows with its first term and against its second
 pub sub-mono : (x x' y y' : Float) → T (x ⩽ x') → T (y' ⩽ y) → T (not (isNan (x ⊖ y))) → T (not (isNan (x' ⊖ y'))) → T (x ⊖ y ⩽ x' ⊖ y')
 unfolding sub
 sub-mono x x' y y' h k p q = add-mono x x' (neg y) (neg y') h (⩽-neg y' y k) p q
@@ -212,6 +215,7 @@ above-view {x} {y} f g (lowest k) h p = rw (add-inf y false p) zero-end
 above-view {x} {y} f g (highest k) h p = rw (inf-add false (neg x) p) zero-end
 above-view f g (numbers s m e t n d k) h p = sub-numbers s m e t n d f g h
 
+-- of two doubles that fit, the larger minus the smaller is above 0 after rounding too
 pub sub-above : (x y : Float) → T (fits binary64 x) → T (fits binary64 y) → T (x ⋖ y) → T (not (isNan (y ⊖ x))) → T (+0 ⋖ y ⊖ x)
 sub-above x y f g h p = above-view f g (le-view x y (⋖-⩽ x y h)) h p
 
@@ -255,24 +259,24 @@ sign-clear : (t : Bool) (n : ℕ) (d : ℤ) → under t (n * up d) ≡ 0 → T (
 sign-clear false n d h k = refl
 sign-clear true n d h k = absurd (T-not (eqb n 0) k (eq→eqb (zero-of n (up d) (up-pos d) h)))
 
-endless : (b u : Bool) → (T (not b) → u ≡ false) → T (not (isNan (cond b nan (inf u)))) → cond b nan (inf u) ≡ inf false
+end-is : (b u : Bool) → (T (not b) → u ≡ false) → T (not (isNan (cond b nan (inf u)))) → cond b nan (inf u) ≡ inf false
 unfolding isNan
-endless true u f h = absurd h
-endless false u f h = ap inf (f tt)
+end-is true u f h = absurd h
+end-is false u f h = ap inf (f tt)
 
 inf-mul : (y : Float) → T (+0 ⩽ y) → T (not (isNan (inf false ⊗ y))) → inf false ⊗ y ≡ inf false
 unfolding mul isNan
 inf-mul nan p h = absurd h
 inf-mul (inf true) p h = absurd (no-lowest p)
 inf-mul (inf false) p h = refl
-inf-mul (fin t n d) p h = endless (eqb n 0) (unlike false t) (λ k. ap (unlike false) (sign-clear t n d (none-under t n d p) k)) h
+inf-mul (fin t n d) p h = end-is (eqb n 0) (unlike false t) (λ k. ap (unlike false) (sign-clear t n d (none-under t n d p) k)) h
 
 mul-inf : (x : Float) → T (+0 ⩽ x) → T (not (isNan (x ⊗ inf false))) → x ⊗ inf false ≡ inf false
 unfolding mul isNan
 mul-inf nan p h = absurd h
 mul-inf (inf true) p h = absurd (no-lowest p)
 mul-inf (inf false) p h = refl
-mul-inf (fin s m e) p h = endless (eqb m 0) (unlike s false) (λ k. ap (λ (z : Bool). unlike z false) (sign-clear s m e (none-under s m e p) k)) h
+mul-inf (fin s m e) p h = end-is (eqb m 0) (unlike s false) (λ k. ap (λ (z : Bool). unlike z false) (sign-clear s m e (none-under s m e p) k)) h
 
 mul-view : {x x' y y' : Float} → T (+0 ⩽ x) → T (+0 ⩽ x') → T (+0 ⩽ y) → T (+0 ⩽ y') → Le x x' → Le y y' → T (not (isNan (x ⊗ y))) → T (not (isNan (x' ⊗ y'))) → T (x ⊗ y ⩽ x' ⊗ y')
 unfolding mul
@@ -346,7 +350,7 @@ div-view X X' Y Y' (numbers s m e s' m' e' h) (numbers t' n' d' t n d k) p q =
     (cross-of t' (n' * up d') (down d') t (n * up d) (down d) (ap (λ (z : Bool). under z (n' * up d')) (b' .0)) (ap (λ (z : Bool). under z (n * up d)) (b .0)) k)))
   where
     swap : (a p a' p' b q b' q' : ℕ) → a * p' ≤ a' * p → b' * q ≤ b * q' → a * q * (b' * p') ≤ a' * q' * (b * p)
-    swap a p a' p' b q b' q' h k = simp (mul-assoc, mul-comm, mul-left-comm) (simp (mul-assoc, mul-comm, mul-left-comm) at (mul-le-mul h k))
+    swap a p a' p' b q b' q' h k = simp (mul-assoc, mul-comm, mul-left-comm) (simp (mul-assoc, mul-comm) at (mul-le-mul h k))
 
 -- a quotient of doubles that are not negative grows with the dividend and against the divisor
 pub div-mono : (x x' y y' : Float) → T (+0 ⩽ x) → T (+0 ⋖ y') → T (x ⩽ x') → T (y' ⩽ y) → T (not (isNan (x ⊘ y))) → T (not (isNan (x' ⊘ y'))) → T (x ⊘ y ⩽ x' ⊘ y')
@@ -357,6 +361,7 @@ unlike-false : (s : Bool) → unlike s false ≡ s
 unlike-false false = refl
 unlike-false true = refl
 
+-- 1 changes nothing
 pub mul-one-is : (x : Float) → T (fits binary64 x) → x ⊗ 1f ≡ x
 unfolding mul ofBits
 mul-one-is nan f = refl
@@ -369,18 +374,18 @@ zero-one : T (+0 ⩽ 1f)
 unfolding le ofBits
 zero-one = tt
 
--- the factor is at most 1, or at least 1
+-- a factor of at most 1 makes a product no larger
 pub mul-shrinks : (x y : Float) → T (fits binary64 x) → T (+0 ⩽ x) → T (+0 ⩽ y) → T (y ⩽ 1f) → T (not (isNan (x ⊗ y))) → T (x ⊗ y ⩽ x)
 mul-shrinks x y f X Y h p =
     let e = mul-one-is x f in
     subst (λ (z : Float). T (x ⊗ y ⩽ z)) e (mul-mono x x y 1f X Y (⩽-refl x (le-number-right +0 x X)) h p (subst (λ (z : Float). T (not (isNan z))) (sym e) (le-number-right +0 x X)))
 
+-- a factor of at least 1 makes it no smaller
 pub mul-grows : (x y : Float) → T (fits binary64 x) → T (+0 ⩽ x) → T (1f ⩽ y) → T (not (isNan (x ⊗ y))) → T (x ⩽ x ⊗ y)
 mul-grows x y f X h p =
     let e = mul-one-is x f in
     subst (λ (z : Float). T (z ⩽ x ⊗ y)) e (mul-mono x x 1f y X zero-one (⩽-refl x (le-number-right +0 x X)) h (subst (λ (z : Float). T (not (isNan z))) (sym e) (le-number-right +0 x X)) p)
 
--- a part of a whole is at most 1
 at-one : round binary64 false 1 1 ≡ 1f
 unfolding round ofBits
 at-one = refl
@@ -400,6 +405,7 @@ part-view X Y (numbers s m e t n d h) p =
     (round-upper (unlike s t) (m * up e * down d) (n * up d * down e) false 1 1 (mul-pos (mul-pos (b .1) (up-pos d)) (down-pos e)) (pow-pos 0) (under-quotient s m e t d X (b .0)) refl
     (omega (arith, cross-of s (m * up e) (down e) t (n * up d) (down d) (none-under s m e X) (ap (λ (z : Bool). under z (n * up d)) (b .0)) h)))
 
+-- a part of a whole is at most 1
 pub div-part : (x y : Float) → T (+0 ⩽ x) → T (+0 ⋖ y) → T (x ⩽ y) → T (not (isNan (x ⊘ y))) → T (x ⊘ y ⩽ 1f)
 div-part x y X Y h p = part-view X Y (le-view x y h) p
 
@@ -410,6 +416,7 @@ finite-number nan h = absurd h
 finite-number (inf s) h = absurd h
 finite-number (fin s m e) h = tt
 
+-- a number plus or minus whatever is no NaN
 pub add-number : (x y : Float) → T (is-finite x) → T (not (isNan y)) → T (not (isNan (x ⊕ y)))
 unfolding add isNan
 add-number nan y h k = absurd h
@@ -422,6 +429,7 @@ pub sub-number : (x y : Float) → T (is-finite x) → T (not (isNan y)) → T (
 unfolding sub
 sub-number x y h k = add-number x (neg y) h (neg-number y k)
 
+-- a product of two numbers
 pub mul-number : (x y : Float) → T (is-finite x) → T (is-finite y) → T (not (isNan (x ⊗ y)))
 unfolding mul
 mul-number nan y h k = absurd h
@@ -430,6 +438,7 @@ mul-number (fin s m e) nan h k = absurd k
 mul-number (fin s m e) (inf t) h k = absurd k
 mul-number (fin s m e) (fin t n d) h k = round-number binary64 (unlike s t) (m * up e * (n * up d)) (down e * down d)
 
+-- a number over what is above 0
 pub div-number : (x y : Float) → T (is-finite x) → T (+0 ⋖ y) → T (not (isNan (x ⊘ y)))
 unfolding div isNan
 div-number nan y h k = absurd h
@@ -439,7 +448,7 @@ div-number (fin s m e) (inf t) h k = tt
 div-number (fin s m e) (fin t n d) h k = rw (by-number s m e t n d (above-number t n d k .1)) (round-number binary64 (unlike s t) (m * up e * down d) (n * up d * down e))
 
 -- ---- the results of doubles that are not negative are not negative
-pub add-ends : (x y : Float) → T (+0 ⩽ x) → T (+0 ⩽ y) → T (not (isNan (x ⊕ y)))
+add-ends : (x y : Float) → T (+0 ⩽ x) → T (+0 ⩽ y) → T (not (isNan (x ⊕ y)))
 unfolding add isNan le ofBits
 add-ends nan y X Y = absurd X
 add-ends (inf true) y X Y = absurd X
@@ -455,21 +464,24 @@ zero-twice : (+0 ⊕ +0 ≡ +0) × (+0 ⊗ +0 ≡ +0) × T (+0 ⩽ +0)
 unfolding add mul le ofBits
 zero-twice = (refl, refl, tt)
 
+-- a sum, which is then no NaN either
 pub add-nonneg : (x y : Float) → T (+0 ⩽ x) → T (+0 ⩽ y) → T (+0 ⩽ x ⊕ y)
 add-nonneg x y X Y =
     let z = zero-twice in
     subst (λ (u : Float). T (u ⩽ x ⊕ y)) (z .0) (add-mono +0 x +0 y X Y (add-ends +0 +0 (z .2) (z .2)) (add-ends x y X Y))
 
+-- a product
 pub mul-nonneg : (x y : Float) → T (+0 ⩽ x) → T (+0 ⩽ y) → T (not (isNan (x ⊗ y))) → T (+0 ⩽ x ⊗ y)
 mul-nonneg x y X Y p =
     let z = zero-twice in
     subst (λ (u : Float). T (u ⩽ x ⊗ y)) (z .1) (mul-mono +0 x +0 y (z .2) (z .2) X Y (subst (λ (u : Float). T (not (isNan u))) (sym (z .1)) (le-number-left +0 x X)) p)
 
+-- a quotient
 pub div-nonneg : (x y : Float) → T (+0 ⩽ x) → T (+0 ⋖ y) → T (not (isNan (x ⊘ y))) → T (+0 ⩽ x ⊘ y)
 unfolding ofBits
 div-nonneg x y X Y p = zero-div false x y X Y p
 
--- ---- with 0: what is not negative makes a sum larger and a difference smaller
+-- ---- with 0
 -- (X - Y) / (p * 1) is (P - N) / p
 same-value : (X Y P N p : ℕ) → X + N ≡ Y + P → P * (p * 1) + Y * p ≡ X * p + N * (p * 1)
 same-value X Y P N p e = let k = simp add-mul at (ap (λ (z : ℕ). z * p) e) in simp mul-one (omega arith)
@@ -482,7 +494,7 @@ under-zero : (u : Bool) → under u 0 ≡ 0
 under-zero false = refl
 under-zero true = refl
 
-zero-total : (s : Bool) (a : ℕ) (u : Bool) (p : ℕ) (v : Bool) (g : ℕ) → Total s (a * 1) u (0 * p) v g → over v g + under s a ≡ under v g + over s a
+zero-total : (s : Bool) (a : ℕ) (u : Bool) (p : ℕ) (v : Bool) (g : ℕ) → Sums s (a * 1) u (0 * p) v g → over v g + under s a ≡ under v g + over s a
 zero-total s a u p v g e = omega (arith, simp (mul-one, zero-mul, over-zero, under-zero) at e)
 
 add-zero-is : (u : Bool) (x : Float) → T (fits binary64 x) → T (not (isNan x)) → T (x ⩽ x ⊕ fin u 0 (pos 0)) × T (x ⊕ fin u 0 (pos 0) ⩽ x)
@@ -495,9 +507,10 @@ add-zero-is u (fin s m e) f h =
     let r = sum-is s (a * 1) u (0 * p) (p * 1) in
     let v = same-value (over (r .0) (r .1)) (under (r .0) (r .1)) (over s a) (under s a) p (zero-total s a u p (r .0) (r .1) (r .3)) in
     let g = round-self (fin s m e) s a p (down-pos e) f (refl, refl) in
-    let P = mul-pos (down-pos e) (pow-pos 0) in
-    (rw (r .2) (subst (λ (x : Float). T (x ⩽ round binary64 (r .0) (r .1) (p * 1))) g (round-before s a p (r .0) (r .1) (p * 1) (down-pos e) P (omega arith))),
-    rw (r .2) (subst (λ (x : Float). T (round binary64 (r .0) (r .1) (p * 1) ⩽ x)) g (round-before (r .0) (r .1) (p * 1) s a p P (down-pos e) (omega arith))))
+    let P = mul-pos (down-pos e) (pow-pos 0) in (
+      rw (r .2) (subst (λ (x : Float). T (x ⩽ round binary64 (r .0) (r .1) (p * 1))) g (round-before s a p (r .0) (r .1) (p * 1) (down-pos e) P (omega arith))),
+      rw (r .2) (subst (λ (x : Float). T (round binary64 (r .0) (r .1) (p * 1) ⩽ x)) g (round-before (r .0) (r .1) (p * 1) s a p P (down-pos e) (omega arith))),
+    )
 
 left-number : (x y : Float) → T (not (isNan (x ⊕ y))) → T (not (isNan x))
 unfolding add isNan
@@ -505,6 +518,7 @@ left-number nan y h = h
 left-number (inf s) y h = tt
 left-number (fin s m e) y h = tt
 
+-- a double is at most its sum with what is not negative
 pub add-grows : (x y : Float) → T (fits binary64 x) → T (+0 ⩽ y) → T (not (isNan (x ⊕ y))) → T (x ⩽ x ⊕ y)
 unfolding ofBits
 add-grows x y f Y p =
@@ -512,6 +526,7 @@ add-grows x y f Y p =
     let z = add-zero-is false x f n in
     ⩽-trans x (x ⊕ +0) (x ⊕ y) (z .0) (add-mono x x +0 y (⩽-refl x n) Y (le-number-right x (x ⊕ +0) (z .0)) p)
 
+-- and at least its difference
 pub sub-shrinks : (x y : Float) → T (fits binary64 x) → T (+0 ⩽ y) → T (not (isNan (x ⊖ y))) → T (x ⊖ y ⩽ x)
 unfolding sub neg ofBits
 sub-shrinks x y f Y p =

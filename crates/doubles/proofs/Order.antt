@@ -2,26 +2,22 @@
 -- Assumes nothing.
 use mathlib.Core.Path.{_≡_, refl, sym, ap, _∙_, subst}
 use mathlib.Core.Logic.{_⊎_, inl, inr}
-use Prim.Native.Nat.{ℕ, zero, suc, _+_, _-_, _*_, _/_, _%_, _^_, _≤_, _<_, zero-le}
-use native.Mathlib.Nat.{le-refl, le-trans, le-of-eq, le-of-lt, lt-of-lt-of-le, lt-of-le-of-lt, not-le-of-lt, lt-of-not-le, lt-irrefl, eq-or-lt-of-le, mul-one, mul-zero, zero-mul, mul-comm, mul-assoc, mul-right-comm, mul-mul-mul-comm, mul-le-mul, mul-le-mul-right, le-of-mul-le-mul-right, mul-pos, zero-lt-suc, eq-zero-or-pos}
+use Prim.Native.Nat.{ℕ, zero, suc, _+_, _*_, _^_, _≤_, _<_}
+use native.Mathlib.Nat.{le-trans, lt-of-le-of-lt, lt-of-not-le, lt-irrefl, eq-or-lt-of-le, mul-zero, zero-mul, mul-le-mul-right, le-of-mul-le-mul-right, mul-pos, eq-zero-or-pos}
 use native.Mathlib.Omega.{arith}
-use mathlib.Core.Bool.{Bool, true, false, not, _&&_, _||_, cond, true≢false}
+use mathlib.Core.Bool.{Bool, true, false, not, cond, true≢false}
 use lib.IntN.{ℤ, pos}
-use lib.Dec.{T, ltb, leb, eqb, ltb→lt, lt→ltb, nltb→le, eqb→eq, T-not, not-T, lit<, eqb·suc-zero}
+use lib.Dec.{T, ltb, eqb, eqb·suc-zero}
 use lib.Pow.{pow-pos}
-use lib.Ieee.{Float, nan, inf, fin, Format, binary64, prec, emax, low, up, down, odd, units, round, mul, le, lt, ofBits, toBits, fits, isNan}
-use lib.Ieee.Fits.{up-pos, down-pos, round-is, and-l, and-r}
-use lib.Ieee.Bits.{ofBits-toBits}
+use lib.Ieee.{Float, nan, inf, fin, Format, binary64, prec, emax, low, up, down, odd, units, round, add, sum, mul, le, lt, ofBits, isNan}
+use lib.Ieee.Fits.{down-pos, round-is}
 use lib.Ieee.Exact.{HasValue, round-exact}
-use lib.Ieee.Order.{le-of-values, round-mono, transfer}
-use lib.Ieee.Positive.{through}
+use lib.Ieee.Order.{le-of-values, transfer}
 use Rattle.doubles.specs.Value.{val}
-use Rattle.doubles.specs.F64.{abs, is-finite, +0, _⩽_}
+use Rattle.doubles.specs.F64.{+0, _⊕_, _⩽_}
 use Rattle.doubles.proofs.Patterns.{bits-value, infinity, val-le}
-use Rattle.doubles.proofs.Magnitude.{finite-bits}
-use Rattle.doubles.proofs.Total.{le→before, before→le, le-highest, ⩽-trans, ⩽-or-⋖, ⋖-not}
+use Rattle.doubles.proofs.Total.{le→before, before→le, le-highest, ⩽-trans, ⩽-or-⋖, ⋖-not, sign}
 use Rattle.doubles.proofs.Monotone
-use Rattle.lists.proofs.Bounds.{lt-or-le}
 
 -- no NaN, and the sign clear
 abbrev pub nonneg : Float → Bool
@@ -40,6 +36,7 @@ some nan = false
 some (inf s) = true
 some (fin s m e) = ltb 0 m
 
+-- a double with the sign clear is no NaN, is at least +0
 pub nonneg-number : (x : Float) → T (nonneg x) → T (not (isNan x))
 unfolding isNan
 nonneg-number nan h = absurd h
@@ -76,6 +73,13 @@ nonneg-zero x h = go (view x h)
     go endless = le-inf +0 tt
     go (number m e) = cross→le 0 (pos 0) m e (omega arith)
 
+pub nonneg-sign : (x : Float) → T (nonneg x) → sign x ≡ false
+nonneg-sign x h = go (view x h)
+  where
+    go : {x : Float} → View x → sign x ≡ false
+    go endless = refl
+    go (number m e) = refl
+
 -- ---- the order is transitive and total, as it is on all doubles that are no NaN
 pub le-trans-nonneg : (x y z : Float) → T (nonneg x) → T (nonneg y) → T (nonneg z) → T (le x y) → T (le y z) → T (le x z)
 le-trans-nonneg x y z p q r h k = ⩽-trans x y z h k
@@ -98,7 +102,7 @@ units-of-le (fin false m e) (fin false n d) a b c C h k l =
     le-of-mul-le-mul-right (transfer a b c c (m * up e) (n * up d) (down e) (down d) (down-pos e) (down-pos d) (sym (h .1)) (sym (k .1)) (le→cross m e n d l)) C
 
 -- ---- the patterns' order
-nonneg-of-value : (x : Float) (a c : ℕ) → HasValue x false a c → T (nonneg x)
+pub nonneg-of-value : (x : Float) (a c : ℕ) → HasValue x false a c → T (nonneg x)
 nonneg-of-value nan a c h = h
 nonneg-of-value (inf s) a c h = absurd h
 nonneg-of-value (fin true m e) a c h = absurd (true≢false (h .0))
@@ -136,6 +140,17 @@ nonneg-units f q k = go (ltb (q * 2 ^ k) (2 ^ (low f + suc (emax f))))
 
 pub nonneg-round : (f : Format) (a c : ℕ) → T (nonneg (round f false a c))
 nonneg-round f a c = subst (λ (x : Float). T (nonneg x)) (sym (round-is f false a c)) (nonneg-units f _ _)
+
+-- a sum of two with the sign clear has it clear
+pub nonneg-add : (x y : Float) → T (nonneg x) → T (nonneg y) → T (nonneg (x ⊕ y))
+unfolding add sum
+nonneg-add x y p q = go (view x p) (view y q)
+  where
+    go : {x y : Float} → View x → View y → T (nonneg (x ⊕ y))
+    go endless endless = tt
+    go endless (number n d) = tt
+    go (number m e) endless = tt
+    go (number m e) (number n d) = nonneg-round binary64 (m * up e * down d + n * up d * down e) (down e * down d)
 
 pub round-zero-finite : (f : Format) (s : Bool) (a c : ℕ) → 0 < c → a ≡ 0 → T (infinite (round f s a c)) → ⊥
 round-zero-finite f s a c C e t =

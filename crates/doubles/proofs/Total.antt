@@ -1,13 +1,13 @@
 -- The order of all doubles that are no NaN, with their signs and infinities: `le` is reflexive, transitive and total, `lt` is its complement, and a negation turns it round.
 -- A signed number ±a is the difference `over` - `under` of two numbers, so that one proof in ℕ serves all signs. Assumes nothing.
-use mathlib.Core.Path.{_≡_, refl, sym, ap, _∙_, subst}
+use mathlib.Core.Path.{_≡_, refl, sym, subst}
 use mathlib.Core.Logic.{_⊎_, inl, inr}
-use Prim.Native.Nat.{ℕ, zero, suc, _+_, _*_, _≤_, _<_}
-use native.Mathlib.Nat.{le-refl, le-of-eq, le-of-lt, eq-or-lt-of-le, eq-zero-or-pos, zero-mul, mul-right-comm, mul-le-mul-right, le-of-mul-le-mul-right, add-mul}
+use Prim.Native.Nat.{ℕ, _+_, _*_, _≤_, _<_}
+use native.Mathlib.Nat.{le-refl, le-of-eq, le-of-lt, eq-or-lt-of-le, zero-mul, mul-right-comm, mul-le-mul-right, le-of-mul-le-mul-right, add-mul}
 use native.Mathlib.Omega.{arith}
 use mathlib.Core.Bool.{Bool, true, false, not, _&&_, _||_, true≢false}
 use lib.IntN.{ℤ}
-use lib.Dec.{T, ltb, eqb, ltb→lt, lt→ltb, eqb→eq, T-not, not-T}
+use lib.Dec.{T, eqb, ltb→lt, lt→ltb, eqb→eq, T-not, not-T}
 use lib.Ieee.{Float, nan, inf, fin, binary64, up, down, below, level, neg, le, lt, eq, fits, isNan}
 use lib.Ieee.Fits.{down-pos, and-l, and-r, and-i, eq→eqb}
 use lib.Ieee.Bits.{is-false}
@@ -103,6 +103,7 @@ pub before→le : (s : Bool) (m : ℕ) (e : ℤ) (t : Bool) (n : ℕ) (d : ℤ) 
 unfolding le
 before→le s m e t n d h = at-most-of s (m * up e * down d) t (n * up d * down e) (simp (over-mul, under-mul) at h)
 
+-- `lt` of two numbers is the strict order
 pub lt→ahead : (s : Bool) (m : ℕ) (e : ℤ) (t : Bool) (n : ℕ) (d : ℤ) → T (fin s m e ⋖ fin t n d)
     → over s (m * up e) * down d + under t (n * up d) * down e < over t (n * up d) * down e + under s (m * up e) * down d
 unfolding lt
@@ -114,6 +115,7 @@ pub data Le : Float → Float → Type 0 where
   highest : {x : Float} → T (not (isNan x)) → Le x (inf false)
   numbers : (s : Bool) (m : ℕ) (e : ℤ) (t : Bool) (n : ℕ) (d : ℤ) → Before s (m * up e) (down e) t (n * up d) (down d) → Le (fin s m e) (fin t n d)
 
+-- le-view reads `le`, and view-le writes it
 pub le-view : (x y : Float) → T (x ⩽ y) → Le x y
 unfolding le isNan
 le-view nan y h = absurd h
@@ -148,7 +150,6 @@ view-le (lowest {y} h) = le-lowest y h
 view-le (highest {x} h) = le-highest x h
 view-le (numbers s m e t n d h) = before→le s m e t n d h
 
--- what is compared is no NaN
 no-nan-left : {x y : Float} → Le x y → T (not (isNan x))
 unfolding isNan
 no-nan-left (lowest h) = tt
@@ -161,6 +162,7 @@ no-nan-right (lowest h) = h
 no-nan-right (highest h) = tt
 no-nan-right (numbers s m e t n d h) = tt
 
+-- what is compared is no NaN
 pub le-number-left : (x y : Float) → T (x ⩽ y) → T (not (isNan x))
 le-number-left x y h = no-nan-left (le-view x y h)
 
@@ -168,6 +170,7 @@ pub le-number-right : (x y : Float) → T (x ⩽ y) → T (not (isNan y))
 le-number-right x y h = no-nan-right (le-view x y h)
 
 -- ---- the laws of the order
+-- a double that is no NaN is at most itself
 pub ⩽-refl : (x : Float) → T (not (isNan x)) → T (x ⩽ x)
 unfolding isNan
 ⩽-refl nan h = absurd h
@@ -183,16 +186,17 @@ trans-view (numbers s m e t n d h) (highest k) = highest tt
 trans-view (numbers s m e t n d h) (numbers _ _ _ u l c k) =
     numbers s m e u l c (through (over s (m * up e)) (under s (m * up e)) (down e) (over t (n * up d)) (under t (n * up d)) (down d) (over u (l * up c)) (under u (l * up c)) (down c) (down-pos d) h k)
 
+-- the order is transitive
 pub ⩽-trans : (x y z : Float) → T (x ⩽ y) → T (y ⩽ z) → T (x ⩽ z)
 ⩽-trans x y z h k = view-le (trans-view (le-view x y h) (le-view y z k))
 
--- `lt` is the complement of `le`
 bool-eq : (a b : Bool) → (T a → T b) → (T b → T a) → a ≡ b
 bool-eq true true f g = refl
 bool-eq true false f g = absurd (f tt)
 bool-eq false true f g = absurd (g tt)
 bool-eq false false f g = refl
 
+-- off NaN `lt` is the complement of `le`
 pub ⋖-is : (x y : Float) → T (not (isNan x)) → T (not (isNan y)) → (x ⋖ y) ≡ not (y ⩽ x)
 unfolding le isNan
 ⋖-is nan y h k = absurd h
@@ -213,7 +217,8 @@ unfolding le isNan
         (λ h. not-T (below t b s a || level t b s a) (λ k. let u = below-is s a t b h in let v = at-most-is t b s a k in omega arith))
         (λ h. below-of s a t b (elim (lt-or-le (over s a + under t b) (over t b + under s a)) [ inl l ↦ l | inr g ↦ absurd (T-not (below t b s a || level t b s a) h (at-most-of t b s a g)) ]))
 
-lt-numbers : (x y : Float) → T (x ⋖ y) → T (not (isNan x)) × T (not (isNan y))
+-- what is below another is, like it, no NaN
+pub lt-numbers : (x y : Float) → T (x ⋖ y) → T (not (isNan x)) × T (not (isNan y))
 unfolding lt isNan
 lt-numbers nan y h = absurd h
 lt-numbers (inf s) nan h = absurd h
@@ -223,12 +228,15 @@ lt-numbers (fin s m e) nan h = absurd h
 lt-numbers (fin s m e) (inf t) h = (tt, tt)
 lt-numbers (fin s m e) (fin t n d) h = (tt, tt)
 
+-- so what is below is not above
 pub ⋖-not : (x y : Float) → T (x ⋖ y) → T (y ⩽ x) → ⊥
 ⋖-not x y h k = let n = lt-numbers x y h in T-not (y ⩽ x) (subst T (⋖-is x y (n .0) (n .1)) h) k
 
+-- what is not at most is above
 pub not-⩽ : (x y : Float) → T (not (isNan x)) → T (not (isNan y)) → (T (x ⩽ y) → ⊥) → T (y ⋖ x)
 not-⩽ x y p q f = subst T (sym (⋖-is y x q p)) (not-T (x ⩽ y) f)
 
+-- and the order is total
 pub ⩽-or-⋖ : (x y : Float) → T (not (isNan x)) → T (not (isNan y)) → T (x ⩽ y) ⊎ T (y ⋖ x)
 ⩽-or-⋖ x y p q = subst (λ (b : Bool). T (x ⩽ y) ⊎ T b) (sym (⋖-is y x q p)) (go (x ⩽ y))
   where
@@ -236,21 +244,22 @@ pub ⩽-or-⋖ : (x y : Float) → T (not (isNan x)) → T (not (isNan y)) → T
     go true = inl tt
     go false = inr tt
 
--- the same of the flags of a test in the code
+-- ⋖-not of the flags of a test in the code
 pub ⋖-false : (x y : Float) → (x ⋖ y) ≡ true → (y ⩽ x) ≡ false
 ⋖-false x y h = is-false (y ⩽ x) (not-T (y ⩽ x) (⋖-not x y (subst T (sym h) tt)))
 
+-- `lt` is part of `le`
 pub ⋖-⩽ : (x y : Float) → T (x ⋖ y) → T (x ⩽ y)
 unfolding le
 ⋖-⩽ x y h = or-join (lt x y) (eq x y) (inl h)
 
+-- chains of both
 pub ⩽-⋖-trans : (x y z : Float) → T (x ⩽ y) → T (y ⋖ z) → T (x ⋖ z)
 ⩽-⋖-trans x y z h k = not-⩽ z x (lt-numbers y z k .1) (le-number-left x y h) (λ g. ⋖-not y z k (⩽-trans z x y g h))
 
 pub ⋖-⩽-trans : (x y z : Float) → T (x ⋖ y) → T (y ⩽ z) → T (x ⋖ z)
 ⋖-⩽-trans x y z h k = not-⩽ z x (le-number-right y z k) (lt-numbers x y h .0) (λ g. ⋖-not x y h (⩽-trans y z x k g))
 
--- a negation turns the order round
 pub neg-number : (x : Float) → T (not (isNan x)) → T (not (isNan (neg x)))
 unfolding neg isNan
 neg-number nan h = h
@@ -263,10 +272,11 @@ neg-view (lowest {y} h) = highest (neg-number y h)
 neg-view (highest {x} h) = lowest (neg-number x h)
 neg-view (numbers s m e t n d h) = numbers (not t) n d (not s) m e (simp (over-not, under-not) (omega arith))
 
+-- a negation turns the order round
 pub ⩽-neg : (x y : Float) → T (x ⩽ y) → T (neg y ⩽ neg x)
 ⩽-neg x y h = view-le (neg-view (le-view x y h))
 
--- two that fit, of one sign and in order both ways, are one
+-- the sign: clear for a NaN
 abbrev pub sign : Float → Bool
 sign nan = false
 sign (inf s) = s
@@ -283,5 +293,6 @@ antisymm-view f g p (numbers s m e t n d h) (numbers _ _ _ _ _ _ k) = value-uniq
     cross true false a c b d p h k = absurd (true≢false p)
     cross true true a c b d p h k = omega arith
 
+-- two that fit, of one sign and in order both ways, are one
 pub ⩽-antisymm : (x y : Float) → T (fits binary64 x) → T (fits binary64 y) → sign x ≡ sign y → T (x ⩽ y) → T (y ⩽ x) → x ≡ y
 ⩽-antisymm x y f g p h k = antisymm-view f g p (le-view x y h) (le-view y x k)
