@@ -36,7 +36,7 @@ some nan = false
 some (inf s) = true
 some (fin s m e) = ltb 0 m
 
--- a double with the sign clear is no NaN, is at least +0
+-- a double with the sign clear is no NaN
 pub nonneg-number : (x : Float) → T (nonneg x) → T (not (isNan x))
 unfolding isNan
 nonneg-number nan h = absurd h
@@ -65,6 +65,7 @@ view (inf false) h = endless
 view (fin true m e) h = absurd h
 view (fin false m e) h = number m e
 
+-- it is at least +0
 pub nonneg-zero : (x : Float) → T (nonneg x) → T (+0 ⩽ x)
 unfolding ofBits
 nonneg-zero x h = go (view x h)
@@ -73,6 +74,7 @@ nonneg-zero x h = go (view x h)
     go endless = le-inf +0 tt
     go (number m e) = cross→le 0 (pos 0) m e (omega arith)
 
+-- and its sign is clear
 pub nonneg-sign : (x : Float) → T (nonneg x) → sign x ≡ false
 nonneg-sign x h = go (view x h)
   where
