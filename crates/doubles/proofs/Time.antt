@@ -24,8 +24,12 @@ use Rattle.doubles.proofs.Unique.{pattern-value, finite-of-value}
 use Rattle.doubles.proofs.Nearest.{Near, closest-near, grid-units}
 use Rattle.doubles.proofs.Arithmetic.{add-units}
 
+-- 1, written out
+abbrev pub one : Float
+one = fin false 1 (pos 0)
+
 -- the literal 1.0, and that it fits
-pub one-bits : 1f ≡ fin false 1 (pos 0)
+pub one-bits : 1f ≡ one
 unfolding ofBits
 one-bits = refl
 
