@@ -38,7 +38,7 @@ mul-by (fin false m e) (fin false n i) a c b d C D h k =
     round-same binary64 false (m * up e * (n * up i)) (down e * down i) (a * b) (c * d) (mul-pos (down-pos e) (down-pos i)) (mul-pos C D)
     (mul-mul-mul-comm (m * up e) (n * up i) c d ∙ ap (λ (z : ℕ). z * (n * up i * d)) (h .1) ∙ ap (λ (z : ℕ). a * down e * z) (k .1) ∙ mul-mul-mul-comm a (down e) b (down i))
 
-not-zero-test : (n : ℕ) → 0 < n → eqb n 0 ≡ false
+pub not-zero-test : (n : ℕ) → 0 < n → eqb n 0 ≡ false
 not-zero-test zero h = absurd (lt-irrefl 0 h)
 not-zero-test (suc n) h = eqb·suc-zero n
 

@@ -2,6 +2,8 @@ pub mod Patterns
 pub mod Magnitude
 pub mod Unique
 pub mod Compare
+pub mod Total
+pub mod Monotone
 pub mod Order
 pub mod Nearest
 pub mod Arithmetic

@@ -2,24 +2,22 @@
 -- Assumes nothing.
 use mathlib.Core.Path.{_≡_, refl, sym, ap, _∙_, subst}
 use mathlib.Core.Logic.{_⊎_, inl, inr}
-use Prim.Native.Nat.{ℕ, zero, suc, _+_, _-_, _*_, _/_, _%_, _^_, _≤_, _<_, zero-le}
-use native.Mathlib.Nat.{le-refl, le-trans, le-of-eq, le-of-lt, lt-of-lt-of-le, lt-of-le-of-lt, not-le-of-lt, lt-of-not-le, lt-irrefl, eq-or-lt-of-le, mul-one, mul-zero, zero-mul, mul-comm, mul-assoc, mul-right-comm, mul-mul-mul-comm, mul-le-mul, mul-le-mul-right, le-of-mul-le-mul-right, mul-pos, zero-lt-suc, eq-zero-or-pos}
+use Prim.Native.Nat.{ℕ, zero, suc, _+_, _*_, _^_, _≤_, _<_}
+use native.Mathlib.Nat.{le-trans, lt-of-le-of-lt, lt-of-not-le, lt-irrefl, eq-or-lt-of-le, mul-zero, zero-mul, mul-le-mul-right, le-of-mul-le-mul-right, mul-pos, eq-zero-or-pos}
 use native.Mathlib.Omega.{arith}
-use mathlib.Core.Bool.{Bool, true, false, not, _&&_, _||_, cond, true≢false}
+use mathlib.Core.Bool.{Bool, true, false, not, cond, true≢false}
 use lib.IntN.{ℤ, pos}
-use lib.Dec.{T, ltb, leb, eqb, ltb→lt, lt→ltb, nltb→le, eqb→eq, T-not, not-T, lit<, eqb·suc-zero}
+use lib.Dec.{T, ltb, eqb, eqb·suc-zero}
 use lib.Pow.{pow-pos}
-use lib.Ieee.{Float, nan, inf, fin, Format, binary64, prec, emax, low, up, down, odd, units, round, mul, le, lt, ofBits, toBits, fits}
-use lib.Ieee.Fits.{up-pos, down-pos, round-is, and-l, and-r}
-use lib.Ieee.Bits.{ofBits-toBits}
+use lib.Ieee.{Float, nan, inf, fin, Format, binary64, prec, emax, low, up, down, odd, units, round, add, sum, mul, le, lt, ofBits, isNan}
+use lib.Ieee.Fits.{down-pos, round-is}
 use lib.Ieee.Exact.{HasValue, round-exact}
-use lib.Ieee.Order.{le-of-values, round-mono, transfer}
-use lib.Ieee.Positive.{through}
+use lib.Ieee.Order.{le-of-values, transfer}
 use Rattle.doubles.specs.Value.{val}
-use Rattle.doubles.specs.F64.{abs, is-finite}
+use Rattle.doubles.specs.F64.{+0, _⊕_, _⩽_}
 use Rattle.doubles.proofs.Patterns.{bits-value, infinity, val-le}
-use Rattle.doubles.proofs.Magnitude.{finite-bits}
-use Rattle.lists.proofs.Bounds.{lt-or-le}
+use Rattle.doubles.proofs.Total.{le→before, before→le, le-highest, ⩽-trans, ⩽-or-⋖, ⋖-not, sign}
+use Rattle.doubles.proofs.Monotone
 
 -- no NaN, and the sign clear
 abbrev pub nonneg : Float → Bool
@@ -38,28 +36,22 @@ some nan = false
 some (inf s) = true
 some (fin s m e) = ltb 0 m
 
--- ---- `le` of two numbers is the order of the fractions
-or-split : (a b : Bool) → T (a || b) → T a ⊎ T b
-or-split true b t = inl tt
-or-split false b t = inr t
+-- a double with the sign clear is no NaN
+pub nonneg-number : (x : Float) → T (nonneg x) → T (not (isNan x))
+unfolding isNan
+nonneg-number nan h = absurd h
+nonneg-number (inf s) h = tt
+nonneg-number (fin s m e) h = tt
 
+-- ---- `le` of two numbers is the order of the fractions
 pub le→cross : (m : ℕ) (e : ℤ) (n : ℕ) (d : ℤ) → T (le (fin false m e) (fin false n d)) → m * up e * down d ≤ n * up d * down e
-unfolding le
-le→cross m e n d t = go (m * up e * down d) (n * up d * down e) t
-  where
-    go : (a b : ℕ) → T (ltb a b || (eqb a b && true)) → a ≤ b
-    go a b t = elim (or-split (ltb a b) (eqb a b && true) t) [ inl u ↦ le-of-lt (ltb→lt a b u) | inr u ↦ le-of-eq (eqb→eq a b (and-l (eqb a b) true u)) ]
+le→cross m e n d t = let h = le→before false m e false n d t in omega arith
 
 pub cross→le : (m : ℕ) (e : ℤ) (n : ℕ) (d : ℤ) → m * up e * down d ≤ n * up d * down e → T (le (fin false m e) (fin false n d))
-cross→le m e n d h = le-of-values (fin false m e) (fin false n d) (m * up e) (down e) (n * up d) (down d) (down-pos e) (down-pos d) (refl, refl) (refl, refl) h
+cross→le m e n d h = before→le false m e false n d (omega arith)
 
 pub le-inf : (x : Float) → T (nonneg x) → T (le x (inf false))
-unfolding le
-le-inf nan h = h
-le-inf (inf true) h = absurd h
-le-inf (inf false) h = tt
-le-inf (fin true m e) h = absurd h
-le-inf (fin false m e) h = tt
+le-inf x h = le-highest x (nonneg-number x h)
 
 -- a double that is not negative is a number m * 2 ^ e or the infinity: two cases to match on, where `Float` has five
 pub data View : Float → Type 0 where
@@ -73,47 +65,32 @@ view (inf false) h = endless
 view (fin true m e) h = absurd h
 view (fin false m e) h = number m e
 
-no-more : (m : ℕ) (e : ℤ) → T (le (inf false) (fin false m e)) → ⊥
-unfolding le
-no-more m e h = h
+-- it is at least +0
+pub nonneg-zero : (x : Float) → T (nonneg x) → T (+0 ⩽ x)
+unfolding ofBits
+nonneg-zero x h = go (view x h)
+  where
+    go : {x : Float} → View x → T (+0 ⩽ x)
+    go endless = le-inf +0 tt
+    go (number m e) = cross→le 0 (pos 0) m e (omega arith)
 
-trans-view : {x y z : Float} → View x → View y → View z → T (le x y) → T (le y z) → T (le x z)
-trans-view endless endless endless h k = k
-trans-view endless endless (number l c) h k = k
-trans-view endless (number n d) endless h k = absurd (no-more n d h)
-trans-view endless (number n d) (number l c) h k = absurd (no-more n d h)
-trans-view (number m e) endless endless h k = h
-trans-view (number m e) endless (number l c) h k = absurd (no-more l c k)
-trans-view (number m e) (number n d) endless h k = le-inf (fin false m e) tt
-trans-view (number m e) (number n d) (number l c) h k =
-    cross→le m e l c (through (m * up e) (n * up d) (l * up c) (down e) (down d) (down c) (down-pos d) (le→cross m e n d h) (le→cross n d l c k))
+-- and its sign is clear
+pub nonneg-sign : (x : Float) → T (nonneg x) → sign x ≡ false
+nonneg-sign x h = go (view x h)
+  where
+    go : {x : Float} → View x → sign x ≡ false
+    go endless = refl
+    go (number m e) = refl
 
+-- ---- the order is transitive and total, as it is on all doubles that are no NaN
 pub le-trans-nonneg : (x y z : Float) → T (nonneg x) → T (nonneg y) → T (nonneg z) → T (le x y) → T (le y z) → T (le x z)
-le-trans-nonneg x y z p q r h k = trans-view (view x p) (view y q) (view z r) h k
-
--- ---- the order is total
-either-view : {x y : Float} → View x → View y → T (le x y) ⊎ T (lt y x)
-unfolding lt
-either-view endless endless = inl (le-inf (inf false) tt)
-either-view endless (number n d) = inr tt
-either-view (number m e) endless = inl (le-inf (fin false m e) tt)
-either-view (number m e) (number n d) = elim (lt-or-le (n * up d * down e) (m * up e * down d)) [
-  | inl l ↦ inr (lt→ltb (n * up d * down e) (m * up e * down d) l)
-  | inr g ↦ inl (cross→le m e n d g)
-]
+le-trans-nonneg x y z p q r h k = ⩽-trans x y z h k
 
 pub le-or-above : (x y : Float) → T (nonneg x) → T (nonneg y) → T (le x y) ⊎ T (lt y x)
-le-or-above x y p q = either-view (view x p) (view y q)
-
-lt-not-view : {x y : Float} → View x → View y → T (lt x y) → T (le y x) → ⊥
-unfolding lt
-lt-not-view endless endless h k = h
-lt-not-view endless (number n d) h k = h
-lt-not-view (number m e) endless h k = no-more m e k
-lt-not-view (number m e) (number n d) h k = not-le-of-lt (ltb→lt (m * up e * down d) (n * up d * down e) h) (le→cross n d m e k)
+le-or-above x y p q = ⩽-or-⋖ x y (nonneg-number x p) (nonneg-number y q)
 
 pub lt-not-le : (x y : Float) → T (nonneg x) → T (nonneg y) → T (lt x y) → T (le y x) → ⊥
-lt-not-le x y p q h k = lt-not-view (view x p) (view y q) h k
+lt-not-le x y p q h k = ⋖-not x y h k
 
 -- ---- the order, by any fractions of one denominator
 pub units-of-le : (x y : Float) (a b c : ℕ) → 0 < c → HasValue x false a c → HasValue y false b c → T (le x y) → a ≤ b
@@ -127,7 +104,7 @@ units-of-le (fin false m e) (fin false n d) a b c C h k l =
     le-of-mul-le-mul-right (transfer a b c c (m * up e) (n * up d) (down e) (down d) (down-pos e) (down-pos d) (sym (h .1)) (sym (k .1)) (le→cross m e n d l)) C
 
 -- ---- the patterns' order
-nonneg-of-value : (x : Float) (a c : ℕ) → HasValue x false a c → T (nonneg x)
+pub nonneg-of-value : (x : Float) (a c : ℕ) → HasValue x false a c → T (nonneg x)
 nonneg-of-value nan a c h = h
 nonneg-of-value (inf s) a c h = absurd h
 nonneg-of-value (fin true m e) a c h = absurd (true≢false (h .0))
@@ -166,6 +143,17 @@ nonneg-units f q k = go (ltb (q * 2 ^ k) (2 ^ (low f + suc (emax f))))
 pub nonneg-round : (f : Format) (a c : ℕ) → T (nonneg (round f false a c))
 nonneg-round f a c = subst (λ (x : Float). T (nonneg x)) (sym (round-is f false a c)) (nonneg-units f _ _)
 
+-- a sum of two with the sign clear has it clear
+pub nonneg-add : (x y : Float) → T (nonneg x) → T (nonneg y) → T (nonneg (x ⊕ y))
+unfolding add sum
+nonneg-add x y p q = go (view x p) (view y q)
+  where
+    go : {x y : Float} → View x → View y → T (nonneg (x ⊕ y))
+    go endless endless = tt
+    go endless (number n d) = tt
+    go (number m e) endless = tt
+    go (number m e) (number n d) = nonneg-round binary64 (m * up e * down d + n * up d * down e) (down e * down d)
+
 pub round-zero-finite : (f : Format) (s : Bool) (a c : ℕ) → 0 < c → a ≡ 0 → T (infinite (round f s a c)) → ⊥
 round-zero-finite f s a c C e t =
     no (round f s a c) a c (round-exact f s a c 0 0 C (pow-pos (prec f)) (subst (λ (z : ℕ). z < 2 ^ (low f + suc (emax f))) (sym (zero-mul (2 ^ 0))) (pow-pos (low f + suc (emax f)))) (ap (λ (z : ℕ). z * 2 ^ low f) e ∙ zero-mul (2 ^ low f) ∙ sym (zero-mul c))) t
@@ -199,17 +187,7 @@ fine-view n d (number m e) g =
 pub mul-fine : (p : Float) (n : ℕ) (d : ℤ) → Fine p n → Fine (mul binary64 p (fin false n d)) n
 mul-fine p n d h = fine-view n d (view p (h .sign)) (h .grows)
 
-mono-view : {p p' : Float} (n : ℕ) (d : ℤ) (n' : ℕ) (d' : ℤ) → View p → View p' → (T (infinite p) → 0 < n) → (T (infinite p') → 0 < n') → T (le p p') → T (le (fin false n d) (fin false n' d')) → T (le (mul binary64 p (fin false n d)) (mul binary64 p' (fin false n' d')))
-unfolding mul
-mono-view n d n' d' endless endless g g' h k =
-    subst (λ (x : Float). T (le (cond (eqb n 0) nan (inf false)) x)) (sym (inf-mul n' (g' tt))) (subst (λ (x : Float). T (le x (inf false))) (sym (inf-mul n (g tt))) (le-inf (inf false) tt))
-mono-view n d n' d' endless (number m' e') g g' h k = absurd (no-more m' e' h)
-mono-view n d n' d' (number m e) endless g g' h k =
-    subst (λ (x : Float). T (le (round binary64 false (m * up e * (n * up d)) (down e * down d)) x)) (sym (inf-mul n' (g' tt))) (le-inf (round binary64 false (m * up e * (n * up d)) (down e * down d)) (nonneg-round binary64 (m * up e * (n * up d)) (down e * down d)))
-mono-view n d n' d' (number m e) (number m' e') g g' h k =
-    round-mono binary64 (m * up e * (n * up d)) (down e * down d) (m' * up e' * (n' * up d')) (down e' * down d') (mul-pos (down-pos e) (down-pos d)) (mul-pos (down-pos e') (down-pos d'))
-    (le-trans (le-of-eq (mul-mul-mul-comm (m * up e) (n * up d) (down e') (down d')))
-    (le-trans (mul-le-mul (le→cross m e m' e' h) (le→cross n d n' d' k)) (le-of-eq (mul-mul-mul-comm (m' * up e') (down e) (n' * up d') (down d)))))
-
 pub mul-mono : (p p' : Float) (n : ℕ) (d : ℤ) (n' : ℕ) (d' : ℤ) → Fine p n → Fine p' n' → T (le p p') → T (le (fin false n d) (fin false n' d')) → T (le (mul binary64 p (fin false n d)) (mul binary64 p' (fin false n' d')))
-mul-mono p p' n d n' d' a b h k = mono-view n d n' d' (view p (a .sign)) (view p' (b .sign)) (a .grows) (b .grows) h k
+mul-mono p p' n d n' d' a b h k =
+    Monotone.mul-mono p p' (fin false n d) (fin false n' d') (nonneg-zero p (a .sign)) (nonneg-zero (fin false n d) tt) h k
+    (nonneg-number (mul binary64 p (fin false n d)) (mul-fine p n d a .sign)) (nonneg-number (mul binary64 p' (fin false n' d')) (mul-fine p' n' d' b .sign))
