@@ -9,3 +9,4 @@ pub mod Nearest
 pub mod Arithmetic
 pub mod Time
 pub mod Sum
+pub mod Sizes
