@@ -4,7 +4,7 @@ use Prim.Native.Nat.{ℕ, zero, suc, _+_, _-_, _*_, _/_, _%_, _^_, _≤_, _<_}
 use native.Mathlib.Nat.{lt-irrefl, mul-comm, mul-assoc, mul-left-comm, mul-right-comm, mul-mul-mul-comm, mul-pos, add-mul, zero-mul, zero-lt-suc, eq-of-mul-eq-mul-right}
 use mathlib.Core.Bool.{Bool, true, false, cond, true≢false}
 use lib.Dec.{eqb, eqb·suc-zero}
-use lib.Ieee.{Float, nan, inf, fin, binary64, up, down, round, add, mul, div}
+use lib.Ieee.{Float, nan, inf, fin, binary64, unlike, up, down, round, add, mul, div}
 use lib.Ieee.Fits.{up-pos, down-pos}
 use lib.Ieee.Exact.{HasValue}
 use lib.Ieee.Scale.{round-same}
@@ -66,3 +66,25 @@ div-by (fin false m e) (fin false n d) a b c C B h k =
 
     right : (a e n c : ℕ) → a * e * (n * c) ≡ a * (n * e) * c
     right a e n c = simp (mul-assoc, mul-comm, mul-left-comm)
+
+-- ---- a product does not turn on the order of its factors
+unlike-comm : (s t : Bool) → unlike s t ≡ unlike t s
+unlike-comm true true = refl
+unlike-comm true false = refl
+unlike-comm false true = refl
+unlike-comm false false = refl
+
+pub mul-commutes : (x y : Float) → mul binary64 x y ≡ mul binary64 y x
+unfolding mul
+mul-commutes nan nan = refl
+mul-commutes nan (inf t) = refl
+mul-commutes nan (fin t n d) = refl
+mul-commutes (inf s) nan = refl
+mul-commutes (inf s) (inf t) = ap inf (unlike-comm s t)
+mul-commutes (inf s) (fin t n d) = ap (λ (b : Bool). cond (eqb n 0) nan (inf b)) (unlike-comm s t)
+mul-commutes (fin s m e) nan = refl
+mul-commutes (fin s m e) (inf t) = ap (λ (b : Bool). cond (eqb m 0) nan (inf b)) (unlike-comm s t)
+mul-commutes (fin s m e) (fin t n d) =
+    ap (λ (b : Bool). round binary64 b (m * up e * (n * up d)) (down e * down d)) (unlike-comm s t)
+    ∙ ap (λ (a : ℕ). round binary64 (unlike t s) a (down e * down d)) (mul-comm (m * up e) (n * up d))
+    ∙ ap (λ (c : ℕ). round binary64 (unlike t s) (n * up d * (m * up e)) c) (mul-comm (down e) (down d))

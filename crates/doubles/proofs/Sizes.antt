@@ -5,11 +5,11 @@ use mathlib.Core.Bool.{Bool, true, false, not, true≢false}
 use Prim.Native.Nat.{ℕ, zero, suc, _<_}
 use native.Mathlib.Omega.{arith}
 use lib.Dec.{T}
-use lib.Ieee.{Float, nan, inf, fin, binary64, lt, ne, fits, isNan, ofBits}
+use lib.Ieee.{Float, nan, inf, fin, binary64, lt, le, ne, fits, isNan, ofBits}
 use lib.Ieee.Fits.{add-fits}
 use lib.Ieee.Bits.{ofBits-fits, is-true}
 use Rattle.lists.specs.Loop.{iter}
-use Rattle.doubles.specs.F64.{_⊕_, _⋖_, _⩽_, +0, abs}
+use Rattle.doubles.specs.F64.{_⊕_, _⋖_, _⩽_, +0, abs, is-finite}
 use Rattle.doubles.specs.Sum.{sum}
 use Rattle.doubles.proofs.Magnitude.{is-nan}
 use Rattle.doubles.proofs.Total.{⩽-or-⋖, ⩽-antisymm}
@@ -52,3 +52,22 @@ not-above-zero x f p h = ⩽-antisymm x +0 f (ofBits-fits binary64 0) (nonneg-si
   where
     under : T (x ⩽ +0)
     under = elim (⩽-or-⋖ x +0 (nonneg-number x p) (nonneg-number +0 zero-nonneg)) [ inl l ↦ l | inr g ↦ absurd (true≢false (sym (is-true (+0 ⋖ x) g) ∙ h)) ]
+
+-- what is not negative and below something, or at most something finite, is finite
+pub finite-below : (x y : Float) → T (+0 ⩽ x) → T (x ⋖ y) → T (is-finite x)
+unfolding le lt ofBits
+finite-below nan y p l = p
+finite-below (inf true) y p l = p
+finite-below (inf false) nan p l = l
+finite-below (inf false) (inf t) p l = l
+finite-below (inf false) (fin t n d) p l = l
+finite-below (fin s m e) y p l = tt
+
+pub finite-under : (x y : Float) → T (+0 ⩽ x) → T (x ⩽ y) → T (is-finite y) → T (is-finite x)
+unfolding le ofBits
+finite-under nan y p l f = p
+finite-under (inf true) y p l f = p
+finite-under (inf false) nan p l f = f
+finite-under (inf false) (inf t) p l f = f
+finite-under (inf false) (fin t n d) p l f = l
+finite-under (fin s m e) y p l f = tt

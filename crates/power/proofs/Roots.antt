@@ -7,15 +7,17 @@ use native.Mathlib.Omega.{arith}
 use mathlib.Core.Bool.{Bool, true, false, not, _&&_, true≢false}
 use lib.IntN.{ℤ, pos}
 use lib.Dec.{T, ltb, ltb→lt, lt→ltb, lit<, lit≤}
-use lib.Ieee.{Float, nan, inf, fin, binary64, up, down, mul, le, lt, ofBits, toBits, fits}
-use lib.Ieee.Fits.{and-i, and-l, and-r}
-use lib.Ieee.Bits.{ofBits-toBits}
+use lib.Ieee.{Float, nan, inf, fin, binary64, up, down, mul, le, lt, ofBits, toBits, fits, isNan}
+use lib.Ieee.Fits.{and-i, and-l, and-r, mul-fits}
+use lib.Ieee.Bits.{ofBits-toBits, ofBits-fits}
 use lib.Ieee.Exact.{HasValue}
 use Rattle.doubles.specs.Value.{val}
-use Rattle.doubles.specs.F64.{abs, is-finite}
+use Rattle.doubles.specs.F64.{_⊗_, _⩽_, 1f, abs, is-finite}
 use Rattle.doubles.proofs.Patterns.{bits-value}
 use Rattle.doubles.proofs.Magnitude.{finite-bits}
-use Rattle.doubles.proofs.Order.{nonneg, infinite, Fine, mul-fine, mul-mono, bits-le, bits-nonneg, bits-lt-back, le-trans-nonneg, le-or-above, lt-not-le, cross→le, units-of-le}
+use Rattle.doubles.proofs.Total.{⩽-refl, ⩽-trans, ⩽-or-⋖, ⋖-not, ⋖-⩽}
+use Rattle.doubles.proofs.Monotone.{mul-grows}
+use Rattle.doubles.proofs.Order.{nonneg, nonneg-number, nonneg-zero, infinite, Fine, mul-fine, mul-mono, bits-le, bits-nonneg, bits-lt-back, le-trans-nonneg, le-or-above, lt-not-le, cross→le, units-of-le}
 use Rattle.doubles.proofs.Unique.{value-unique, units-of}
 use lib.Pow.{pow-pos}
 use Rattle.lists.specs.Greatest.{greatest}
@@ -169,3 +171,56 @@ root-unique t q r s tp fr fs a b =
       | inl l ↦ units-of-le r s (val (toBits binary64 r)) (val (toBits binary64 s)) (2 ^ 1074) (pow-pos 1074) (units-of r fr (a .finite) (a .sign)) (units-of s fs (b .finite) (b .sign)) l
       | inr g ↦ absurd (lt-not-le t (power r q) tp (power-nonneg r q (a .finite) (a .sign)) (b .greatest r fr (a .finite) g) (a .at-most))
     ]
+
+-- ---- a root of at most 1
+times-fits : (y : Float) (k : ℕ) → T (fits binary64 y) → T (fits binary64 (times y k))
+unfolding times
+times-fits y zero f = f
+times-fits y (suc k) f = mul-fits binary64 (times y k) y
+
+-- with a factor of at least 1 the product only grows
+times-grows : (n : ℕ) (d : ℤ) (k : ℕ) → T (fits binary64 (fin false n d)) → T (1f ⩽ fin false n d) → T (fin false n d ⩽ times (fin false n d) k)
+unfolding times
+times-grows n d zero f l = ⩽-refl (fin false n d) (nonneg-number (fin false n d) tt)
+times-grows n d (suc k) f l =
+    let y = fin false n d in
+    let p = times-fine n d k .sign in
+    ⩽-trans y (times y k) (times y k ⊗ y) (times-grows n d k f l)
+    (mul-grows (times y k) y (times-fits y k f) (nonneg-zero (times y k) p) l (nonneg-number (times y k ⊗ y) (times-fine n d (suc k) .sign)))
+
+-- the root of what is at most 1 is NaN, or a finite double from 0 to 1
+pub root-le-one : (t : Float) (q : ℕ) → T (t ⩽ 1f) → (root t q ≡ nan) ⊎ (T (is-finite (root t q)) × T (nonneg (root t q)) × T (root t q ⩽ 1f))
+root-le-one nan q l = inl (unfold root in refl)
+root-le-one (inf true) q l = inl (unfold root in refl)
+root-le-one (inf false) q l = absurd (no l)
+  where
+    no : T (inf false ⩽ 1f) → ⊥
+    no l = unfold le ofBits in l
+root-le-one (fin s zero e) q l = inr (zero-root s e)
+  where
+    zero-root : (s : Bool) (e : ℤ) → T (is-finite (root (fin s 0 e) q)) × T (nonneg (root (fin s 0 e) q)) × T (root (fin s 0 e) q ⩽ 1f)
+    zero-root s e = unfold root ofBits le in (tt, tt, tt)
+root-le-one (fin true (suc m) e) q l = inl (unfold root in refl)
+root-le-one (fin false (suc m) e) q l =
+    let r = root-is m e q in
+    inr (
+      r .finite,
+      r .sign,
+      elim (⩽-or-⋖ (root (fin false (suc m) e) q) 1f (nonneg-number _ (r .sign)) one-number) [
+        | inl a ↦ a
+        | inr b ↦ absurd (⋖-not 1f (root (fin false (suc m) e) q) b (⩽-trans (root (fin false (suc m) e) q) (fin false (suc m) e) 1f
+            (⩽-trans (root (fin false (suc m) e) q) (power (root (fin false (suc m) e) q) q) (fin false (suc m) e) (grown (root (fin false (suc m) e) q) (root-fits m e) (r .finite) (r .sign) (⋖-⩽ 1f (root (fin false (suc m) e) q) b)) (r .at-most)) l))
+      ],
+    )
+  where
+    one-number : T (not (isNan 1f))
+    one-number = unfold ofBits isNan in tt
+
+    root-fits : (m : ℕ) (e : ℤ) → T (fits binary64 (root (fin false (suc m) e) q))
+    root-fits m e = unfold root in ofBits-fits binary64 (greatest (within (fin false (suc m) e) q) 63 0)
+
+    grown : (r : Float) → T (fits binary64 r) → T (is-finite r) → T (nonneg r) → T (1f ⩽ r) → T (r ⩽ power r q)
+    grown nan f h p l = absurd h
+    grown (inf s) f h p l = absurd h
+    grown (fin true n d) f h p l = absurd p
+    grown (fin false n d) f h p l = times-grows n d (q - 1) f l
