@@ -5,6 +5,7 @@ use mathlib.Core.Path.{_≡_, refl}
 use Prim.Native.Nat.{ℕ}
 use lib.Ieee.{Float, nan, binary64, round}
 use Rattle.doubles.specs.F64.{nat, 1f}
+use Rattle.pow2.specs.Pow2.{eta-scaling, open-Pow2}
 use Rattle.power.specs.Power.{root, open-Power}
 use Rattle.round2.specs.Rounded.{round2, open-Rounded}
 use Rattle.vectors.specs.Vectors.{dot, open-Vectors}
@@ -14,11 +15,13 @@ unfoldable ratio : ℕ → ℕ → Float
 ratio a b = round binary64 false a b
 
 data Job : Type 0 where
+  Eta : Float → Job
   Round2 : Float → Job
   Root : Float → ℕ → Job
   Dot : List Float → List Float → Job
 
 unfoldable answer : Job → List Float
+answer (Eta x) = eta-scaling x .eta ∷ eta-scaling x .inv ∷ []
 answer (Round2 x) = round2 x ∷ []
 answer (Root t q) = root t q ∷ []
 answer (Dot x y) = dot x y ∷ []
@@ -29,7 +32,10 @@ record Case : Type 0 where
 
 unfoldable table : List Case
 table =
-    record { job = Round2 (nat 250); is = nat 250 ∷ [] }
+    record { job = Eta (nat 3); is = ratio 1 4 ∷ nat 4 ∷ [] }
+    ∷ record { job = Eta (nat 1); is = 1f ∷ 1f ∷ [] }
+    ∷ record { job = Eta (nat 0); is = 1f ∷ 1f ∷ [] }
+    ∷ record { job = Round2 (nat 250); is = nat 250 ∷ [] }
     ∷ record { job = Round2 (nat 251); is = nat 260 ∷ [] }
     ∷ record { job = Round2 (ratio 199 2); is = nat 100 ∷ [] }
     ∷ record { job = Round2 (nat 0); is = nan ∷ [] }
@@ -40,5 +46,5 @@ table =
     ∷ []
 
 starred : map (λ (c : Case). answer (c .job)) table ≡ map (λ (c : Case). c .is) table
-unfolding table answer ratio open-Power open-Rounded open-Vectors
+unfolding table answer ratio open-Pow2 open-Power open-Rounded open-Vectors
 starred = refl

@@ -1,0 +1,2 @@
+-- Powers of two.
+pub mod Pow2
