@@ -1,0 +1,121 @@
+-- Whole calls: the answer, and what the output and the working memory hold at the end (phi_action.rs, `phi_combination`, `phi_action`,
+-- `phi_action_batched`). Definitions only.
+use mathlib.Core.Bool.{Bool, true, false}
+use mathlib.Core.List.{List, [], _∷_, _++_}
+use Prim.Native.Nat.{ℕ, suc, _+_, _-_, _*_}
+use lib.ListN.{length, replicate}
+use lib.Ieee.{Float}
+use Rattle.lists.specs.Loop.{iter}
+use Rattle.lists.specs.Window.{window, splice}
+use Rattle.doubles.specs.F64.{+0}
+use Rattle.checks.specs.First.{Check, first}
+use Rattle.checks.specs.declared.Checked.{Checked}
+use Rattle.checks.specs.declared.Checked.the-variants.{Sound, Refused}
+use Rattle.general_operator.specs.Csr.{Csr, row-sum-norm}
+use Rattle.generator_action.specs.Mass.{Mass, quotients, generator-checks, open-Mass}
+use Rattle.expmv.specs.Select.{M-MAX}
+use Rattle.pow2.specs.Pow2.{sup, eta-scaling}
+use Rattle.phi_action_helpers.specs.Augmented.{Augmented}
+use Rattle.phi_action_helpers.specs.Sweeps.{Swept, run-sweeps}
+use Rattle.phi_action_helpers.specs.declared.SweepPlan.{SweepPlan}
+use Rattle.phi_shift.specs.Plan.{sweep-plan}
+use Rattle.phi_shift.specs.declared.PlanAnswer.{PlanAnswer}
+use Rattle.phi_shift.specs.declared.PlanAnswer.the-variants.{NoPlan, Plan}
+use Rattle.phi_action.specs.declared.TaylorReport.{TaylorReport}
+use Rattle.phi_action.specs.declared.TaylorAnswer.{TaylorAnswer}
+use Rattle.phi_action.specs.declared.TaylorAnswer.the-variants.{Refusal, Soaked}
+use Rattle.phi_action.specs.Combination.{vector, eta-of, combination-operator, combination-start, action-operator, action-start}
+use Rattle.phi_action.specs.Checks.{count-checks, index-checks, time-checks, length-checks, finite-checks, magnitude-checks, schedule-checks, memory-checks, taylor-need, open-Checks}
+
+-- the answer, the output and the working memory at the end
+pub record Call : Type 0 where
+  pub answer : TaylorAnswer
+  pub output : List Float
+  pub memory : List Float
+
+abbrev pub ends : TaylorAnswer → List Float → List Float → Call
+ends a output memory = record { answer = a; output = output; memory = memory }
+
+-- the fields made, and the products with the generator
+pub record Fields : Type 0 where
+  pub fields : List Float
+  pub applied : ℕ
+
+abbrev pub report : SweepPlan → ℕ → TaylorAnswer
+report p applied = Soaked (record { s = p .s; m = p .m; mu = p .mu; applications = applied })
+
+-- the needed length of the memory holds +0, the rest is unchanged
+unfoldable pub cleared : ℕ → List Float → List Float
+cleared need memory = splice 0 (replicate need +0) memory
+
+-- refusals change no lent memory; an accepted job leaves its fields and clears what it needed
+unfoldable pub unless-refused : Checked → ℕ → List Float → List Float → PlanAnswer → (SweepPlan → Fields) → Call
+unless-refused (Refused k x) need output memory p run = ends (Refusal k x) output memory
+unless-refused Sound need output memory NoPlan run = ends (Refusal 25 +0) output memory
+unless-refused Sound need output memory (Plan p) run = ends (report p (run p .applied)) (run p .fields) (cleared need memory)
+
+-- the n values of the field after the sweeps
+unfoldable pub soaked : Augmented → Float → List Float → SweepPlan → Fields
+soaked b tau y p = let r = run-sweeps b tau p y in record { fields = window 0 (b .matrix .n) (r .y); applied = r .applied }
+
+-- ---- `phi_combination` of `count` vectors in one slice
+unfoldable pub combination-checks : Csr → Mass → Float → ℕ → List Float → ℕ → ℕ → List Check
+combination-checks a mass tau count w output memory =
+    let d = count - 1 in
+    generator-checks a mass
+    ++ (count-checks count
+    ++ (time-checks tau
+    ++ (length-checks output (a .n) (length w) (count * a .n)
+    ++ (finite-checks w
+    ++ (magnitude-checks (a .n) w tau d
+    ++ (schedule-checks M-MAX (row-sum-norm (quotients a mass)) tau
+    ++ memory-checks memory (taylor-need a mass d)))))))
+
+unfoldable pub phi-combination : Csr → Mass → Float → ℕ → List Float → List Float → List Float → Call
+phi-combination a mass tau count w output memory =
+    let d = count - 1 in
+    let q = quotients a mass in
+    let eta = eta-of (a .n) w tau d in
+    unless-refused (first (combination-checks a mass tau count w (length output) (length memory))) (taylor-need a mass d) output memory
+    (sweep-plan M-MAX tau q (row-sum-norm q))
+    (soaked (combination-operator q w tau d (eta .eta)) tau (combination-start (a .n) w d (eta .inv)))
+
+-- ---- `phi_action` of index k, `phi_action_batched` of the indices 0 to p
+unfoldable pub action-checks : Csr → Mass → Float → ℕ → List Float → ℕ → ℕ → ℕ → List Check
+action-checks a mass tau k v output wanted memory =
+    generator-checks a mass
+    ++ (index-checks k
+    ++ (time-checks tau
+    ++ (length-checks output wanted (length v) (a .n)
+    ++ (schedule-checks M-MAX (row-sum-norm (quotients a mass)) tau
+    ++ memory-checks memory (taylor-need a mass 3)))))
+
+unfoldable pub phi-action : Csr → Mass → Float → ℕ → List Float → List Float → List Float → Call
+phi-action a mass tau k v output memory =
+    let q = quotients a mass in
+    let eta = eta-scaling (sup v) in
+    unless-refused (first (action-checks a mass tau k v (length output) (a .n) (length memory))) (taylor-need a mass 3) output memory
+    (sweep-plan M-MAX tau q (row-sum-norm q))
+    (soaked (action-operator q v (eta .eta)) tau (action-start (a .n) v (eta .inv) k))
+
+-- one more function of a batch
+unfoldable pub batch-step : Augmented → Float → SweepPlan → List Float → Float → ℕ → Fields → Fields
+batch-step b tau p v inv k r =
+    let f = soaked b tau (action-start (b .matrix .n) v inv k) p in
+    record { fields = r .fields ++ f .fields; applied = r .applied + f .applied }
+
+unfoldable pub batched : Augmented → Float → List Float → Float → ℕ → SweepPlan → Fields
+batched b tau v inv k p = iter (batch-step b tau p v inv) k (record { fields = []; applied = 0 })
+
+unfoldable pub phi-action-batched : Csr → Mass → Float → ℕ → List Float → List Float → List Float → Call
+phi-action-batched a mass tau p v output memory =
+    let q = quotients a mass in
+    let eta = eta-scaling (sup v) in
+    unless-refused (first (action-checks a mass tau p v (length output) (suc p * a .n) (length memory))) (taylor-need a mass 3) output memory
+    (sweep-plan M-MAX tau q (row-sum-norm q))
+    (batched (action-operator q v (eta .eta)) tau v (eta .inv) (suc p))
+
+-- to compute: a line `unfolding open-Calls` opens every definition of this file and of those below it
+unfoldable pub open-Calls : Unit {0}
+unfolding cleared unless-refused soaked combination-checks phi-combination action-checks phi-action batch-step batched phi-action-batched open-Mass open-Checks
+open-Calls = tt

@@ -1,0 +1,82 @@
+-- The checks of a job, in number order (document 01, 'Whoever sends the job', 'Matrix and job together', 'The host'; phi_action.rs,
+-- `validate_combination`, `eta_scaled_columns`, `phi_schedule`). Definitions only.
+use mathlib.Core.Bool.{Bool, true, false, not, _||_}
+use mathlib.Core.List.{List, [], _∷_, _++_}
+use mathlib.Core.Option.{none, some}
+use Prim.Native.Nat.{ℕ, _+_, _*_}
+use lib.Dec.{ltb, eqb}
+use lib.ListN.{length}
+use lib.Ieee.{Float, nan}
+use Rattle.lists.specs.Find.{find, exists, open-Find}
+use Rattle.doubles.specs.F64.{_⊗_, _⋖_, +0, nat, at, is-finite}
+use Rattle.checks.specs.First.{Check, refuse}
+use Rattle.general_operator.specs.Csr.{Csr}
+use Rattle.generator_action.specs.Mass.{Mass}
+use Rattle.expmv.specs.Select.{select-s-m}
+use Rattle.expmv.specs.declared.Selected.{Selected}
+use Rattle.expmv.specs.declared.Selected.the-variants.{NoRow, Row}
+use Rattle.phi_shift.specs.Plan.{argument, open-Plan}
+use Rattle.phi_action.specs.Combination.{magnitude, gain, eta-of, open-Combination}
+
+-- vectors not 1 to 4
+unfoldable pub count-checks : ℕ → List Check
+count-checks count = refuse 12 (eqb count 0 || ltb 4 count) (nat count) ∷ []
+
+-- k or p above 3
+unfoldable pub index-checks : ℕ → List Check
+index-checks k = refuse 13 (ltb 3 k) (nat k) ∷ []
+
+-- tau negative or not finite
+unfoldable pub bad-time : Float → Bool
+bad-time tau = not (is-finite tau) || tau ⋖ +0
+
+unfoldable pub time-checks : Float → List Check
+time-checks tau = refuse 14 (bad-time tau) tau ∷ []
+
+-- the output's and the vectors' lengths: what is handed in, and what is wanted
+unfoldable pub length-checks : ℕ → ℕ → ℕ → ℕ → List Check
+length-checks output wanted vectors expected =
+    refuse 15 (not (eqb output wanted)) (nat output) ∷ refuse 16 (not (eqb vectors expected)) (nat vectors) ∷ []
+
+unfoldable pub not-finite-at : List Float → ℕ → Bool
+not-finite-at w i = not (is-finite (at w i))
+
+unfoldable pub finite-checks : List Float → List Check
+finite-checks w = refuse 17 (exists (not-finite-at w) (length w)) (at w (find (not-finite-at w) (length w))) ∷ []
+
+-- tau ^ k * eta of w_k, k = j + 1
+unfoldable pub bad-gain : ℕ → List Float → Float → ℕ → ℕ → Bool
+bad-gain n w tau d j = not (is-finite (gain n w tau (j + 1) ⊗ eta-of n w tau d .eta))
+
+unfoldable pub magnitude-checks : ℕ → List Float → Float → ℕ → List Check
+magnitude-checks n w tau d =
+    refuse 21 (not (is-finite (magnitude n w tau d))) (magnitude n w tau d) ∷ refuse 22 (exists (bad-gain n w tau d) d) nan ∷ []
+
+abbrev pub no-row : Selected → Bool
+no-row NoRow = true
+no-row (Row s m) = false
+
+unfoldable pub schedule-checks : ℕ → Float → Float → List Check
+schedule-checks m-max norm tau =
+    refuse 23 (not (is-finite norm) || norm ⋖ +0) norm
+    ∷ refuse 24 (not (is-finite (argument tau norm))) (argument tau norm)
+    ∷ refuse 25 (no-row (select-s-m m-max (argument tau norm))) (argument tau norm)
+    ∷ []
+
+-- the working memory is shorter than what is needed
+unfoldable pub memory-checks : ℕ → ℕ → List Check
+memory-checks memory need = refuse 26 (ltb memory need) nan ∷ []
+
+-- a mass adds the number of entries
+unfoldable pub quotient-need : Csr → Mass → ℕ
+quotient-need a none = 0
+quotient-need a (some mass) = length (a .entries)
+
+-- what a Taylor job needs: 3 n + 2 d, and the entries with a mass
+unfoldable pub taylor-need : Csr → Mass → ℕ → ℕ
+taylor-need a mass d = 3 * a .n + 2 * d + quotient-need a mass
+
+-- to compute: a line `unfolding open-Checks` opens every definition of this file and of those below it
+unfoldable pub open-Checks : Unit {0}
+unfolding count-checks index-checks bad-time time-checks length-checks not-finite-at finite-checks bad-gain magnitude-checks schedule-checks memory-checks quotient-need taylor-need open-Find open-Combination open-Plan
+open-Checks = tt

@@ -1,0 +1,62 @@
+-- What a combination and an action are made of: weights, scaling, start (phi_action.rs, `weighted_columns`, `eta_scaled_columns`,
+-- `init_aug_vector`). Definitions only.
+use mathlib.Core.Bool.{Bool, true, false}
+use mathlib.Core.List.{List, [], _∷_, _++_}
+use Prim.Native.Nat.{ℕ, zero, suc, _+_, _-_, _*_}
+use lib.Dec.{ltb}
+use lib.ListN.{length, replicate, set}
+use lib.Ieee.{Float, eq}
+use Rattle.lists.specs.Loop.{iter, tabulate}
+use Rattle.lists.specs.Window.{window}
+use Rattle.doubles.specs.F64.{if_then_else_, _⊕_, _⊗_, +0, 1f}
+use Rattle.power.specs.Power.{power, open-Power}
+use Rattle.pow2.specs.Pow2.{sup, eta-scaling, open-Pow2}
+use Rattle.pow2.specs.declared.Scaling.{Scaling}
+use Rattle.general_operator.specs.Csr.{Csr}
+use Rattle.phi_action_helpers.specs.Augmented.{Augmented, augmented}
+use Rattle.phi_action_helpers.specs.Sweeps.{open-Sweeps}
+
+-- w_k of the flat slice
+unfoldable pub vector : ℕ → List Float → ℕ → List Float
+vector n w k = window (k * n) n w
+
+-- tau ^ k, by products from the left; 0 for an all-zero vector
+unfoldable pub gain : ℕ → List Float → Float → ℕ → Float
+gain n w tau k = if eq (sup (vector n w k)) +0 then +0 else power tau k
+
+-- the sum of tau ^ k * sup |w_k| over k from 1 to d, all-zero vectors skipped
+unfoldable pub magnitude : ℕ → List Float → Float → ℕ → Float
+magnitude n w tau d =
+    iter (λ j s. if eq (sup (vector n w (j + 1))) +0 then s else s ⊕ power tau (j + 1) ⊗ sup (vector n w (j + 1))) d +0
+
+unfoldable pub eta-of : ℕ → List Float → Float → ℕ → Scaling
+eta-of n w tau d = eta-scaling (magnitude n w tau d)
+
+-- cols[d - k] is w_k, and gains[d - k] its weight times eta; of three places those from d on are not used
+unfoldable pub column-places : ℕ → ℕ → List ℕ
+column-places n d = tabulate 3 (λ j. if ltb j d then (d - j) * n else 0)
+
+unfoldable pub scaled-gains : ℕ → List Float → Float → ℕ → Float → List Float
+scaled-gains n w tau d eta = tabulate 3 (λ j. if ltb j d then gain n w tau (d - j) ⊗ eta else 1f)
+
+unfoldable pub combination-operator : Csr → List Float → Float → ℕ → Float → Augmented
+combination-operator q w tau d eta = augmented q d w (column-places (q .n) d) (scaled-gains (q .n) w tau d eta) d
+
+-- w_0, then the chain: zeros, and 1 / eta at its end
+unfoldable pub combination-start : ℕ → List Float → ℕ → Float → List Float
+combination-start n w zero inv = vector n w 0
+combination-start n w (suc d) inv = vector n w 0 ++ (replicate d +0 ++ (inv ∷ []))
+
+-- an action has one column, v, and a chain of three
+unfoldable pub action-operator : Csr → List Float → Float → Augmented
+action-operator q v eta = augmented q 3 v (0 ∷ 0 ∷ 0 ∷ []) (eta ∷ 1f ∷ 1f ∷ []) 1
+
+-- for phi_0 v and an empty chain, for phi_k zeros and 1 / eta at place k - 1 of the chain
+unfoldable pub action-start : ℕ → List Float → Float → ℕ → List Float
+action-start n v inv zero = v ++ replicate 3 +0
+action-start n v inv (suc k) = replicate n +0 ++ set (replicate 3 +0) k inv
+
+-- to compute: a line `unfolding open-Combination` opens every definition of this file and of those below it
+unfoldable pub open-Combination : Unit {0}
+unfolding vector gain magnitude eta-of column-places scaled-gains combination-operator combination-start action-operator action-start open-Power open-Pow2 open-Sweeps
+open-Combination = tt

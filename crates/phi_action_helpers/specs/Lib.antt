@@ -1,0 +1,3 @@
+-- The augmented operator, and Taylor sweeps with it.
+pub mod Augmented
+pub mod Sweeps
