@@ -25,12 +25,12 @@ abbrev pub augmented : Csr → ℕ → List Float → List ℕ → List Float �
 augmented q d vectors places gains count = record { matrix = q; d = d; vectors = vectors; places = places; gains = gains; count = count }
 
 -- the factor of each column: gain times chain first, then the step
-unfoldable pub scalars : Augmented → Float → List Float → List Float
-scalars b one c = tabulate 3 (λ j. if ltb j (b .count) then at (b .gains) j ⊗ at c j ⊗ one else +0)
+unfoldable pub scalars : List Float → ℕ → Float → List Float → List Float
+scalars gains count one c = tabulate 3 (λ j. if ltb j count then at gains j ⊗ at c j ⊗ one else +0)
 
 -- acc and the columns' share of row i
-unfoldable pub coupled : Augmented → List Float → ℕ → Float → Float
-coupled b sc i acc = iter (λ j a. a ⊕ at sc j ⊗ at (b .vectors) (getD (b .places) j 0 + i)) (b .count) acc
+unfoldable pub coupled : List Float → List ℕ → ℕ → List Float → ℕ → Float → Float
+coupled vectors places count sc i acc = iter (λ j a. a ⊕ at sc j ⊗ at vectors (getD places j 0 + i)) count acc
 
 -- the generator's share of a row
 unfoldable pub generator-term : Scales → Float → Float → Float
@@ -42,17 +42,24 @@ chain-term k d c i =
     if ltb (i + 1) d then (if k .shifted then k .one ⊗ at c (i + 1) ⊖ k .mu ⊗ at c i else k .one ⊗ at c (i + 1))
     else (if k .shifted then neg (k .mu ⊗ at c i) else +0)
 
--- one product with the operator, n values and the chain
+-- the n values of a product: x has n values u and the chain c, and av is G u
+unfoldable pub top : Augmented → Scales → List Float → List Float → List Float → List Float
+top b k av u c =
+    let sc = scalars (b .gains) (b .count) (k .one) c in
+    tabulate (b .matrix .n) (λ i. coupled (b .vectors) (b .places) (b .count) sc i (generator-term k (at av i) (at u i)))
+
+-- the chain of a product
+unfoldable pub bottom : Scales → ℕ → List Float → List Float
+bottom k d c = tabulate d (chain-term k d c)
+
+-- one product with the operator
 unfoldable pub aug-matvec : Augmented → Scales → List Float → List Float
 aug-matvec b k x =
-    let n = b .matrix .n in
-    let u = window 0 n x in
-    let c = window n (b .d) x in
-    let av = apply-generator (b .matrix) u in
-    let sc = scalars b (k .one) c in
-    tabulate n (λ i. coupled b sc i (generator-term k (at av i) (at u i))) ++ tabulate (b .d) (chain-term k (b .d) c)
+    let u = window 0 (b .matrix .n) x in
+    let c = window (b .matrix .n) (b .d) x in
+    top b k (apply-generator (b .matrix) u) u c ++ bottom k (b .d) c
 
 -- to compute: a line `unfolding open-Augmented` opens every definition of this file and of those below it
 unfoldable pub open-Augmented : Unit {0}
-unfolding scalars coupled generator-term chain-term aug-matvec open-Window open-Csr
+unfolding scalars coupled generator-term chain-term top bottom aug-matvec open-Window open-Csr
 open-Augmented = tt

@@ -14,3 +14,21 @@ pub struct Scales {
     pub one: f64,
     pub mu: f64,
 }
+
+// The columns of W: at most three, column j gains[j] times the n values of the vectors from places[j].
+pub struct Coupling {
+    pub places: [usize; 3],
+    pub gains: [f64; 3],
+    pub count: usize,
+}
+
+// Where things lie in the working memory: the field y and the term w of n + d values each, G w of n values, and with a mass the quotients.
+pub struct Layout {
+    pub n: usize,
+    pub d: usize,
+    pub y: usize,
+    pub w: usize,
+    pub av: usize,
+    pub q: usize,
+    pub with_mass: bool,
+}
