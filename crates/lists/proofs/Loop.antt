@@ -6,13 +6,17 @@ use Prim.Native.Nat.{ℕ, zero, suc, _+_, _-_, _≤_, _<_, suc-le-suc}
 use native.Mathlib.Omega.{arith}
 use native.Mathlib.Numerals.{add-one}
 use native.Mathlib.Nat.{suc-add, zero-add, suc-inj, le-refl, le-antisymm}
-use lib.ListN.{length, getD, set, take, drop, replicate, length-set}
+use mathlib.Core.Bool.{cond}
+use lib.Dec.{ltb}
+use lib.ListN.{length, getD, set, take, drop, replicate, length-set, length-replicate, getD-replicate}
+use lib.Seq.{ext-getD}
+use borrow.Author.Tests.{lt-ltb, le-ltb}
 use mathlib.Core.Logic.{_⊎_, ⊎-elim}
 use Rattle.lists.specs.Loop.{iter, tabulate, zipWith}
 use Rattle.lists.specs.Window.{window, splice}
 use Rattle.lists.specs.Bounds.{Disjoint, Apart}
-use Rattle.lists.proofs.Bounds.{disjoint-cases}
-use Rattle.lists.proofs.Window.{splice-snoc, splice-nil, getD-window, length-window, getD-splice-after, getD-splice-before, splice-whole, window-splice-before, window-splice-after}
+use Rattle.lists.proofs.Bounds.{disjoint-cases, lt-or-le}
+use Rattle.lists.proofs.Window.{splice-snoc, splice-nil, getD-window, length-window, length-splice, getD-splice-in, getD-splice-after, getD-splice-before, splice-whole, window-splice-before, window-splice-after}
 
 module _ {A : Type 0} where
   pub iter-none : (step : ℕ → A → A) (a : A) → iter step 0 a ≡ a
@@ -152,6 +156,21 @@ module _ {A : Type 0} where
   unfolding tabulate
   replicate-tabulate zero a = refl
   replicate-tabulate (suc n) a = ap (λ (r : List A). a ∷ r) (replicate-tabulate n a)
+
+-- an array of m places that starts at z, with its first d places written
+pub partly-filled : {A : Type 0} (m d : ℕ) (f : ℕ → A) (z : A) → d ≤ m → splice 0 (tabulate d f) (replicate m z) ≡ tabulate m (λ k. cond (ltb k d) (f k) z)
+partly-filled {A} m d f z h =
+    ext-getD z (splice 0 (tabulate d f) (replicate m z)) (tabulate m (λ k. cond (ltb k d) (f k) z))
+    (length-splice 0 (tabulate d f) (replicate m z) ∙ length-replicate m z ∙ sym (length-tabulate m (λ k. cond (ltb k d) (f k) z)))
+    (λ k l.
+    let few : k < m = rw (length-splice 0 (tabulate d f) (replicate m z), length-replicate m z) at l in
+    here k few ∙ sym (getD-tabulate m (λ i. cond (ltb i d) (f i) z) k z few))
+  where
+    here : (k : ℕ) → k < m → getD (splice 0 (tabulate d f) (replicate m z)) k z ≡ cond (ltb k d) (f k) z
+    here k l = ⊎-elim
+        (λ (g : k < d). ap (λ (i : ℕ). getD (splice 0 (tabulate d f) (replicate m z)) i z) (sym (zero-add k)) ∙ getD-splice-in 0 (tabulate d f) (replicate m z) k z (rw length-tabulate g) (rw length-replicate (omega arith)) ∙ getD-tabulate d f k z g ∙ rw (lt-ltb k d g))
+        (λ (g : d ≤ k). getD-splice-after 0 (tabulate d f) (replicate m z) k z (rw length-tabulate (omega arith)) ∙ getD-replicate m k z z l ∙ rw (le-ltb k d g))
+        (lt-or-le k d)
 
 -- map g, by the index
 pub map-tabulate : {A B : Type 0} (g : A → B) (xs : List A) (d : A) → map g xs ≡ tabulate (length xs) (λ k. g (getD xs k d))

@@ -4,7 +4,7 @@ use mathlib.Core.Bool.{Bool, true, false}
 use mathlib.Core.List.{List, [], _∷_, _++_}
 use Prim.Native.Nat.{ℕ, suc, _+_, _-_, _*_}
 use lib.ListN.{length, replicate}
-use lib.Ieee.{Float}
+use lib.Ieee.{Float, nan}
 use Rattle.lists.specs.Loop.{iter}
 use Rattle.lists.specs.Window.{window, splice}
 use Rattle.doubles.specs.F64.{+0}
@@ -24,8 +24,8 @@ use Rattle.phi_shift.specs.declared.PlanAnswer.the-variants.{NoPlan, Plan}
 use Rattle.phi_action.specs.declared.TaylorReport.{TaylorReport}
 use Rattle.phi_action.specs.declared.TaylorAnswer.{TaylorAnswer}
 use Rattle.phi_action.specs.declared.TaylorAnswer.the-variants.{Refusal, Soaked}
-use Rattle.phi_action.specs.Combination.{vector, eta-of, combination-operator, combination-start, action-operator, action-start}
-use Rattle.phi_action.specs.Checks.{count-checks, index-checks, time-checks, length-checks, finite-checks, magnitude-checks, schedule-checks, memory-checks, taylor-need, open-Checks}
+use Rattle.combination.specs.Combination.{vector, eta-of, combination-operator, combination-start, action-operator, action-start}
+use Rattle.combination.specs.Checks.{count-checks, index-checks, time-checks, length-checks, finite-checks, magnitude-checks, schedule-checks, memory-checks, taylor-need, open-Checks}
 
 -- the answer, the output and the working memory at the end
 pub record Call : Type 0 where
@@ -48,10 +48,10 @@ report p applied = Soaked (record { s = p .s; m = p .m; mu = p .mu; applications
 unfoldable pub cleared : ℕ → List Float → List Float
 cleared need memory = splice 0 (replicate need +0) memory
 
--- refusals change no lent memory; an accepted job leaves its fields and clears what it needed
+-- refusals change no lent memory; an accepted job leaves its fields and clears what it needed. That there is no plan is refusal 25 of the list already.
 unfoldable pub unless-refused : Checked → ℕ → List Float → List Float → PlanAnswer → (SweepPlan → Fields) → Call
 unless-refused (Refused k x) need output memory p run = ends (Refusal k x) output memory
-unless-refused Sound need output memory NoPlan run = ends (Refusal 25 +0) output memory
+unless-refused Sound need output memory NoPlan run = ends (Refusal 25 nan) output memory
 unless-refused Sound need output memory (Plan p) run = ends (report p (run p .applied)) (run p .fields) (cleared need memory)
 
 -- the n values of the field after the sweeps

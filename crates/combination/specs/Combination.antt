@@ -24,10 +24,13 @@ vector n w k = window (k * n) n w
 unfoldable pub gain : ℕ → List Float → Float → ℕ → Float
 gain n w tau k = if eq (sup (vector n w k)) +0 then +0 else power tau k
 
--- the sum of tau ^ k * sup |w_k| over k from 1 to d, all-zero vectors skipped
+-- s and w_k's share, tau ^ k * sup |w_k|; an all-zero vector is skipped
+unfoldable pub weighed : ℕ → List Float → Float → ℕ → Float → Float
+weighed n w tau k s = if eq (sup (vector n w k)) +0 then s else s ⊕ power tau k ⊗ sup (vector n w k)
+
+-- the sum of these over k from 1 to d
 unfoldable pub magnitude : ℕ → List Float → Float → ℕ → Float
-magnitude n w tau d =
-    iter (λ j s. if eq (sup (vector n w (j + 1))) +0 then s else s ⊕ power tau (j + 1) ⊗ sup (vector n w (j + 1))) d +0
+magnitude n w tau d = iter (λ j s. weighed n w tau (j + 1) s) d +0
 
 unfoldable pub eta-of : ℕ → List Float → Float → ℕ → Scaling
 eta-of n w tau d = eta-scaling (magnitude n w tau d)
@@ -58,5 +61,5 @@ action-start n v inv (suc k) = replicate n +0 ++ set (replicate 3 +0) k inv
 
 -- to compute: a line `unfolding open-Combination` opens every definition of this file and of those below it
 unfoldable pub open-Combination : Unit {0}
-unfolding vector gain magnitude eta-of column-places scaled-gains combination-operator combination-start action-operator action-start open-Power open-Pow2 open-Sweeps
+unfolding vector gain weighed magnitude eta-of column-places scaled-gains combination-operator combination-start action-operator action-start open-Power open-Pow2 open-Sweeps
 open-Combination = tt

@@ -16,7 +16,7 @@ use Rattle.expmv.specs.Select.{select-s-m}
 use Rattle.expmv.specs.declared.Selected.{Selected}
 use Rattle.expmv.specs.declared.Selected.the-variants.{NoRow, Row}
 use Rattle.phi_shift.specs.Plan.{argument, open-Plan}
-use Rattle.phi_action.specs.Combination.{magnitude, gain, eta-of, open-Combination}
+use Rattle.combination.specs.Combination.{magnitude, gain, eta-of, open-Combination}
 
 -- vectors not 1 to 4
 unfoldable pub count-checks : ℕ → List Check
@@ -56,9 +56,13 @@ abbrev pub no-row : Selected → Bool
 no-row NoRow = true
 no-row (Row s m) = false
 
+-- negative or not finite
+unfoldable pub bad-norm : Float → Bool
+bad-norm norm = not (is-finite norm) || norm ⋖ +0
+
 unfoldable pub schedule-checks : ℕ → Float → Float → List Check
 schedule-checks m-max norm tau =
-    refuse 23 (not (is-finite norm) || norm ⋖ +0) norm
+    refuse 23 (bad-norm norm) norm
     ∷ refuse 24 (not (is-finite (argument tau norm))) (argument tau norm)
     ∷ refuse 25 (no-row (select-s-m m-max (argument tau norm))) (argument tau norm)
     ∷ []
@@ -78,5 +82,5 @@ taylor-need a mass d = 3 * a .n + 2 * d + quotient-need a mass
 
 -- to compute: a line `unfolding open-Checks` opens every definition of this file and of those below it
 unfoldable pub open-Checks : Unit {0}
-unfolding count-checks index-checks bad-time time-checks length-checks not-finite-at finite-checks bad-gain magnitude-checks schedule-checks memory-checks quotient-need taylor-need open-Find open-Combination open-Plan
+unfolding count-checks index-checks bad-time time-checks length-checks not-finite-at finite-checks bad-gain magnitude-checks bad-norm schedule-checks memory-checks quotient-need taylor-need open-Find open-Combination open-Plan
 open-Checks = tt

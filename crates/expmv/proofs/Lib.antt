@@ -1,0 +1,4 @@
+pub mod Counted
+pub mod Rows
+pub mod Least
+pub mod Examples
