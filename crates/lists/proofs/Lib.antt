@@ -6,3 +6,4 @@ pub mod Stack
 pub mod Find
 pub mod Greatest
 pub mod Descent
+pub mod Walk

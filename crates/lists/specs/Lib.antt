@@ -4,3 +4,4 @@ pub mod Window
 pub mod Bounds
 pub mod Find
 pub mod Greatest
+pub mod Walk

@@ -1,0 +1,1 @@
+// The Arnoldi basis of one substep.

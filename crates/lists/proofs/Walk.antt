@@ -1,0 +1,37 @@
+-- A counted loop that may end early: turn i of at most n. Assumes nothing.
+use mathlib.Core.Path.{_≡_, refl, sym, _∙_, ap}
+use Prim.Native.Nat.{ℕ, zero, suc, _+_, _-_, _≤_, _<_}
+use native.Mathlib.Omega.{arith}
+use Rattle.lists.specs.Walk.{Turn, on, out, walk}
+
+module _ {S E : Type 0} where
+  pub walk-out : (step : ℕ → S → Turn S E) (k i : ℕ) (e : E) → walk step k i (out e) ≡ out e
+  unfolding walk
+  walk-out step zero i e = refl
+  walk-out step (suc k) i e = refl
+
+  -- i turns of n having been taken, the whole is what the present status leads to
+  pub record Left (step : ℕ → S → Turn S E) (n i : ℕ) (o₀ o : Turn S E) : Type 0 where
+    pub same : walk step n 0 o₀ ≡ walk step (n - i) i o
+
+  pub left-start : (step : ℕ → S → Turn S E) (n : ℕ) (o : Turn S E) → Left step n 0 o o
+  left-start step n o = record { same = ap (λ (k : ℕ). walk step k 0 o) (omega arith) }
+
+  one-turn : (step : ℕ → S → Turn S E) (n i : ℕ) (s : S) → i < n → walk step (n - i) i (on s) ≡ walk step (n - (i + 1)) (i + 1) (step i s)
+  unfolding walk
+  one-turn step n i s l =
+      let e : n - i ≡ suc (n - (i + 1)) = omega arith in
+      rw e
+
+  pub left-turn : {step : ℕ → S → Turn S E} {n i : ℕ} {o₀ o : Turn S E} → Left step n i o₀ o → (s : S) (o₁ : Turn S E) → i < n → o ≡ on s → o₁ ≡ step i s → Left step n (i + 1) o₀ o₁
+  left-turn {step} {n} {i} {o₀} {o} h s o₁ l e d =
+      record { same = h .same ∙ ap (walk step (n - i) i) e ∙ one-turn step n i s l ∙ ap (walk step (n - (i + 1)) (i + 1)) (sym d) }
+
+  pub left-out : {step : ℕ → S → Turn S E} {n i : ℕ} {o₀ o : Turn S E} → Left step n i o₀ o → (e : E) → o ≡ out e → o ≡ walk step n 0 o₀
+  left-out {step} {n} {i} {o₀} {o} h e d = sym (h .same ∙ ap (walk step (n - i) i) d ∙ walk-out step (n - i) i e ∙ sym d)
+
+  pub left-none : {step : ℕ → S → Turn S E} {n i : ℕ} {o₀ o : Turn S E} → Left step n i o₀ o → n ≤ i → o ≡ walk step n 0 o₀
+  unfolding walk
+  left-none {step} {n} {i} {o₀} {o} h l =
+      let e : n - i ≡ 0 = omega arith in
+      sym (h .same ∙ ap (λ (k : ℕ). walk step k i o) e)
