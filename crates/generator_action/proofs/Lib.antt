@@ -1,2 +1,3 @@
 pub mod Quotients
 pub mod Leading
+pub mod Answered

@@ -1,9 +1,8 @@
 -- The answer to a matrix. Definitions only.
 use Prim.Native.Nat.{ℕ, _<_}
 use mathlib.Core.Path.{_≡_}
-use mathlib.Core.List.{List}
 use lib.Ieee.{Float}
-use Rattle.checks.specs.First.{Check, first}
+use Rattle.checks.specs.First.{first}
 use Rattle.checks.specs.declared.Checked.{Checked}
 use Rattle.checks.specs.declared.Checked.the-variants.{Sound, Refused}
 use Rattle.general_operator.specs.Csr.{Csr, row-sum, row-sum-norm}
@@ -28,11 +27,6 @@ fixed (Norm x i) = Norm x 0
 abbrev pub LargestRow : Csr → MatrixAnswer → Type 0
 LargestRow q (Refusal k x) = Unit
 LargestRow q (Norm x i) = (i < q .n) × (row-sum q i ≡ x)
-
--- the answer r to a matrix q that is left some checks
-pub record Answered (q : Csr) (checks : List Check) (r : MatrixAnswer) : Type 0 where
-  pub is : fixed r ≡ unless-refused (first checks) (row-sum-norm q)
-  pub row : LargestRow q r
 
 -- to compute: a line `unfolding open-Answer` opens every definition of this file and of those below it
 unfoldable pub open-Answer : Unit {0}

@@ -12,11 +12,10 @@ ghost use Rattle.lists.specs.Find.{find};
 ghost use Rattle.doubles.specs.F64.{_⊘_, _⋖_, at, abs};
 ghost use Rattle.doubles.specs.Sum.{sum};
 ghost use Rattle.checks.specs.First.{first};
-ghost use Rattle.checks.specs.declared.Checked.the-variants.{Sound};
 ghost use Rattle.general_operator.specs.Csr.{csr, Valid, size-sum};
-ghost use Rattle.general_operator.specs.Checks.{matrix-checks};
 ghost use Rattle.generator_action.specs.Mass.{given, normalise, quotients, bad-mass, mass-checks, sum-checks, norm-checks};
-ghost use Rattle.generator_action.specs.Answer.{matrix-answer, fixed, LargestRow, Answered};
+ghost use Rattle.generator_action.specs.Answer.{matrix-answer, fixed, LargestRow};
+ghost use Rattle.generator_action.specs.Known.{Finite, Dividing, Answered};
 
 // A refusal's number and double, or the norm and a row whose sum equals it.
 pub enum MatrixAnswer {
@@ -107,7 +106,8 @@ fn larger(l: Largest, s: f64, i: usize) -> Largest
 
 // 11, and the norm of a matrix that has no mass.
 fn entry_norm(n: usize, starts: &[u32], cols: &[u32], vals: &[f64]) -> MatrixAnswer
-    requires { ⌜ Sound ≡ first (matrix-checks (csr n (now starts) (now cols) (now vals))) ⌝ }
+    requires { ⌜ Valid (csr n (now starts) (now cols) (now vals)) ⌝ }
+    requires { ⌜ Finite (csr n (now starts) (now cols) (now vals)) ⌝ }
     ensures { λ r. ⌜ Answered (csr n (now (starts .entry)) (now (cols .entry)) (now (vals .entry))) (norm-checks (csr n (now (starts .entry)) (now (cols .entry)) (now (vals .entry)))) r ⌝ }
 {
     let mut best = Largest { norm: 0.0, row: 0 };
@@ -125,8 +125,9 @@ fn entry_norm(n: usize, starts: &[u32], cols: &[u32], vals: &[f64]) -> MatrixAns
 
 // 10, and the norm of the quotients, which are not stored.
 fn quotient_norm(n: usize, starts: &[u32], cols: &[u32], vals: &[f64], mass: &[f64]) -> MatrixAnswer
-    requires { ⌜ Sound ≡ first (matrix-checks (csr n (now starts) (now cols) (now vals))) ⌝ }
-    requires { ⌜ Sound ≡ first (mass-checks (csr n (now starts) (now cols) (now vals)) (now mass)) ⌝ }
+    requires { ⌜ Valid (csr n (now starts) (now cols) (now vals)) ⌝ }
+    requires { ⌜ Finite (csr n (now starts) (now cols) (now vals)) ⌝ }
+    requires { ⌜ Dividing (csr n (now starts) (now cols) (now vals)) (now mass) ⌝ }
     ensures { λ r. ⌜ Answered (normalise (csr n (now (starts .entry)) (now (cols .entry)) (now (vals .entry))) (now (mass .entry))) (sum-checks (normalise (csr n (now (starts .entry)) (now (cols .entry)) (now (vals .entry))) (now (mass .entry)))) r ⌝ }
 {
     let mut best = Largest { norm: 0.0, row: 0 };
