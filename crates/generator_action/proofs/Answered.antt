@@ -1,7 +1,7 @@
 -- How the answer to a matrix comes about, and what it tells. Assumes nothing.
 use mathlib.Core.Path.{_≡_, refl, sym, ap, _∙_, subst}
 use mathlib.Core.Bool.{Bool, true, false, not, true≢false}
-use mathlib.Core.List.{List, []}
+use mathlib.Core.List.{List, [], _++_}
 use mathlib.Core.Option.{none, some}
 use Prim.Native.Nat.{ℕ, zero, suc, _+_, _≤_, _<_}
 use native.Mathlib.Nat.{le-refl}
@@ -21,7 +21,7 @@ use Rattle.doubles.proofs.Total.{not-⩽}
 use Rattle.checks.specs.First.{Check, first}
 use Rattle.checks.specs.declared.Checked.{Checked}
 use Rattle.checks.specs.declared.Checked.the-variants.{Sound, Refused}
-use Rattle.checks.proofs.First.{stops, stops-not, passes-not, passes-find, ends-sound, sound-cons, sound-append}
+use Rattle.checks.proofs.First.{stops, stops-not, passes-not, passes-find, ends-sound, refused-up, sound-on, sound-cons, sound-append}
 use Rattle.general_operator.specs.Csr.{Csr, start, row-sum, row-sum-norm, Valid}
 use Rattle.general_operator.specs.Checks.{matrix-checks}
 use Rattle.general_operator.proofs.Sound.{or-false, sound-valid}
@@ -42,6 +42,18 @@ answered-refusal e = record { is = rw (← e); row = tt }
 pub answered-norm : {q : Csr} {checks : List Check} {x : Float} {i : ℕ} → Sound ≡ first checks → (x ≡ row-sum-norm q) × (i < q .n) × (row-sum q i ≡ x) → Answered q checks (Norm x i)
 unfolding unless-refused
 answered-norm e h = record { is = rw (← e, h .0); row = (h .1, h .2) }
+
+-- the first of two lists of checks refuses, or has passed
+pub answered-up : {q : Csr} (xs ys : List Check) {s : Checked} {k : ℕ} {x : Float} → s ≡ Refused k x → s ≡ first xs → Answered q (xs ++ ys) (Refusal k x)
+answered-up xs ys e d = answered-refusal (sym e ∙ refused-up xs ys e d)
+
+pub answered-on : {q : Csr} (xs : List Check) {ys : List Check} {s : Checked} {r : MatrixAnswer} → s ≡ Sound → s ≡ first xs → Answered q ys r → Answered q (xs ++ ys) r
+answered-on {q} xs {ys} e d h = record { is = h .is ∙ ap (λ (c : Checked). unless-refused c (row-sum-norm q)) (sound-on xs ys e d refl); row = h .row }
+
+-- no check is left
+pub answer-is : (a : Csr) (mass : Mass) {r : MatrixAnswer} → Answered (quotients a mass) (generator-checks a mass) r → (fixed r ≡ matrix-answer a mass) × LargestRow (quotients a mass) r
+unfolding matrix-answer
+answer-is a mass h = (h .is, h .row)
 
 -- ---- 10: a search passes the rows whose sums are finite
 module _ (q : Csr) {i : ℕ} (p : Passed (bad-sum q) i) where
