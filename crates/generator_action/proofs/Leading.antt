@@ -1,8 +1,7 @@
 -- The largest row sum, row by row, and a row that has it. Assumes nothing.
-use mathlib.Core.Path.{_≡_, refl, sym, ap, _∙_, subst}
+use mathlib.Core.Path.{_≡_, refl, sym, ap, _∙_}
 use mathlib.Core.Bool.{Bool, true, false, not, cond}
-use Prim.Native.Nat.{ℕ, zero, suc, _+_, _-_, _≤_, _<_}
-use native.Mathlib.Nat.{le-refl}
+use Prim.Native.Nat.{ℕ, _+_, _-_, _≤_, _<_}
 use native.Mathlib.Omega.{arith}
 use lib.Dec.{T}
 use lib.Ieee.{Float, binary64, fits, isNan}
@@ -10,7 +9,7 @@ use mathlib.Core.Logic.{_⊎_, ⊎-elim}
 use Rattle.lists.specs.Loop.{iter}
 use Rattle.lists.proofs.Bounds.{lt-or-le}
 use Rattle.lists.proofs.Loop.{iter-none, iter-turn}
-use Rattle.doubles.specs.F64.{_⋖_, +0, at, abs, maxNum}
+use Rattle.doubles.specs.F64.{_⋖_, +0, at, maxNum}
 use Rattle.doubles.proofs.Order.{nonneg, nonneg-number}
 use Rattle.doubles.proofs.Sizes.{zero-nonneg, abs-nonneg, sum-nonneg, sum-fits, equals-itself, not-above-zero}
 use Rattle.float.proofs.Extremes.{where-told, where-not}

@@ -1,6 +1,5 @@
 -- The quotients of a valid matrix, row by row. Assumes nothing.
 use mathlib.Core.Path.{_≡_, refl, sym, ap, _∙_}
-use mathlib.Core.Bool.{true}
 use mathlib.Core.List.{List}
 use mathlib.Core.Option.{none, some}
 use Prim.Native.Nat.{ℕ, _+_, _-_, _≤_, _<_}
@@ -17,7 +16,7 @@ use Rattle.doubles.specs.F64.{_⊘_, at, abs}
 use Rattle.doubles.specs.Sum.{sum}
 use Rattle.doubles.proofs.Sum.{sum-ext}
 use Rattle.general_operator.specs.Csr.{Csr, start, size-sum, row-sum, Valid}
-use Rattle.general_operator.proofs.Rows.{rises, start-le}
+use Rattle.general_operator.proofs.Rows.{rises, row-within}
 use Rattle.generator_action.specs.Mass.{Mass, row-of, normalise, quotients}
 
 -- entry k, divided by its row's mass
@@ -43,7 +42,7 @@ module _ {a : Csr} (v : Valid a) where
     pub quotient-at : (i k : ℕ) → i < a .n → start a i ≤ k → k < start a (i + 1) → at (normalise a mass .entries) k ≡ at (a .entries) k ⊘ at mass i
     unfolding normalise
     quotient-at i k l f t =
-        let h = start-le v (i + 1) (omega arith) in
+        let h = row-within v i l in
         getD-tabulate (length (a .entries)) (quotient a mass) k nan (omega arith) ∙ quotient-is i k l f t
 
     -- a turn of a loop that writes the quotients row by row

@@ -111,11 +111,11 @@ fn entry_norm(n: usize, starts: &[u32], cols: &[u32], vals: &[f64]) -> MatrixAns
     ensures { λ r. ⌜ Answered (csr n (now (starts .entry)) (now (cols .entry)) (now (vals .entry))) (norm-checks (csr n (now (starts .entry)) (now (cols .entry)) (now (vals .entry)))) r ⌝ }
 {
     let mut best = Largest { norm: 0.0, row: 0 };
-    for i in 0..n {
-        let from = starts[i] as usize;
-        let to = starts[i + 1] as usize;
+    for row in 0..n {
+        let from = starts[row] as usize;
+        let to = starts[row + 1] as usize;
         let s = size_sum(vals, from, to);
-        best = larger(best, s, i);
+        best = larger(best, s, row);
     }
     if !float::is_finite(best.norm) {
         return MatrixAnswer::Refusal(11, best.norm);
@@ -144,7 +144,14 @@ fn quotient_norm(n: usize, starts: &[u32], cols: &[u32], vals: &[f64], mass: &[f
 }
 
 // 1 to 11, on any input; then the norm of Q, and a row whose sum it is.
-pub fn check_generator(n: usize, starts: &[u32], cols: &[u32], vals: &[f64], with_mass: bool, mass: &[f64]) -> MatrixAnswer
+pub fn check_generator(
+    n: usize,
+    starts: &[u32],
+    cols: &[u32],
+    vals: &[f64],
+    with_mass: bool,
+    mass: &[f64],
+) -> MatrixAnswer
     ensures { λ r. ⌜ fixed r ≡ matrix-answer (csr n (now (starts .entry)) (now (cols .entry)) (now (vals .entry))) (given «with_mass» (now (mass .entry))) ⌝ }
     ensures { λ r. ⌜ LargestRow (quotients (csr n (now (starts .entry)) (now (cols .entry)) (now (vals .entry))) (given «with_mass» (now (mass .entry)))) r ⌝ }
 {

@@ -1,10 +1,10 @@
 -- `generator_action::check_generator` meets its contract. Assumes nothing.
 use borrow.Author.Needs.{needs}
 use native.Mathlib.Omega.{arith}
-use mathlib.Core.Path.{_≡_, sym, _∙_}
+use mathlib.Core.Path.{sym, _∙_}
 use Rattle.general_operator.proofs.Sound.{sound-valid, sound-finite}
 use Rattle.generator_action.specs.Mass.{quotients, bound-checks, generator-checks}
-use Rattle.generator_action.proofs.Answered.{answered-up, answered-on, answer-is, mass-sound}
+use Rattle.generator_action.proofs.Ways.{answered-up, answered-on, answer-is, mass-sound}
 use Rattle.generator_action.proofs.check_generator.Statement.{statement}
 use Rattle.generator_action.proofs.check_generator.Tie as tie
 

@@ -1,5 +1,4 @@
 -- `generator_action::larger` meets its contract. Assumes nothing.
-use mathlib.Core.Path.{_≡_, refl}
 use Rattle.generator_action.proofs.larger.Statement.{statement}
 use Rattle.generator_action.proofs.larger.Tie as tie
 

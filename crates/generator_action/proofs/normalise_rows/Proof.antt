@@ -1,11 +1,10 @@
 -- `generator_action::normalise_rows` meets its contract. Assumes nothing.
 use native.Mathlib.Omega.{arith}
-use mathlib.Core.Path.{_≡_, refl, sym, ap, _∙_, subst}
-use Prim.Native.Nat.{ℕ, _+_, _-_, _≤_}
-use lib.ListN.{length, getD}
+use Prim.Native.Nat.{_+_, _-_, _≤_}
+use lib.ListN.{getD}
 use Rattle.lists.proofs.Loop.{Filled, started, finished}
 use Rattle.general_operator.specs.Csr.{csr}
-use Rattle.general_operator.proofs.Rows.{rises, start-le}
+use Rattle.general_operator.proofs.Rows.{rises, start-le, row-within}
 use Rattle.generator_action.specs.Mass.{normalise}
 use Rattle.generator_action.proofs.Quotients.{quotient, row-filled}
 use Rattle.generator_action.proofs.normalise_rows.Statement.{statement}
@@ -26,13 +25,15 @@ cast-from c = omega (arith, c .shared-slice-known5 .given (c .before .before .lo
 cast-to : tie.Need-cast-to Inv-loop μ-loop
 cast-to c = omega (arith, c .shared-slice-known6 .given (c .before .before .before .loop .i + 1))
 
--- the row lies within the entries
-row : (c : tie.In-loop Inv-loop μ-loop) → let v = c .before .before .before .before .before .before .before in
-    (getD (v .args .starts .now) (c .before .loop .i) 0 ≤ getD (v .args .starts .now) (c .before .loop .i + 1) 0) × (getD (v .args .starts .now) (c .before .loop .i + 1) 0 ≤ length (v .args .vals .now))
-row c =
-    let i = c .before .loop .i in
-    let v = c .before .before .before .before .before .before .before .pre .0 in
-    (v .rising i (omega arith), start-le v (i + 1) (omega arith))
+add-divide-row : tie.Need-add-divide-row Inv-loop μ-loop
+add-divide-row c =
+    let l = c .before .before .before .before in
+    omega (arith, row-within (l .before .before .before .before .before .before .pre .0) (l .loop .i) (omega arith))
+
+divide-row-requires : tie.Need-divide-row-requires Inv-loop μ-loop
+divide-row-requires c κs =
+    let l = c .before .before .before .before .before in
+    omega (arith, row-within (l .before .before .before .before .before .before .pre .0) (l .loop .i) (omega arith))
 
 loop-again : tie.Need-loop-again Inv-loop μ-loop
 loop-again c =
@@ -62,10 +63,10 @@ normalise-rows-spec =
     (λ c. omega arith)
     (λ c. omega arith)
     cast-to
-    (λ c. omega (arith, row (c .before .before .before)))
+    add-divide-row
     (λ c. omega arith)
     (λ c. omega arith)
-    (λ c κs. omega (arith, row (c .before .before .before .before)))
+    divide-row-requires
     (λ c. omega arith)
     (λ c. omega arith)
     loop-again

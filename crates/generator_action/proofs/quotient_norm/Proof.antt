@@ -1,16 +1,16 @@
 -- `generator_action::quotient_norm` meets its contract. Assumes nothing.
 use native.Mathlib.Omega.{arith}
-use mathlib.Core.Path.{_≡_, sym, ap, _∙_}
+use mathlib.Core.Path.{sym, ap, _∙_}
 use mathlib.Core.Bool.{not}
 use Prim.Native.Nat.{_+_, _-_, _≤_}
 use Rattle.lists.proofs.Find.{Passed, passed-start, passed-next}
 use Rattle.doubles.specs.F64.{is-finite}
-use Rattle.general_operator.specs.Csr.{csr, row-sum}
-use Rattle.general_operator.proofs.Rows.{start-le}
+use Rattle.general_operator.specs.Csr.{csr}
+use Rattle.general_operator.proofs.Rows.{row-within}
 use Rattle.generator_action.specs.Mass.{normalise, bad-sum}
 use Rattle.generator_action.proofs.Quotients.{row-sum-normalise}
 use Rattle.generator_action.proofs.Leading.{Leading, leading-start, leading-turn, leading-end}
-use Rattle.generator_action.proofs.Answered.{answered-refusal, answered-norm, refused-sum, sound-sums, quotients-nonneg}
+use Rattle.generator_action.proofs.Ways.{answered-refusal, answered-norm, refused-sum, sound-sums, quotients-nonneg}
 use Rattle.generator_action.proofs.quotient_norm.Statement.{statement}
 use Rattle.generator_action.proofs.quotient_norm.Tie as tie
 
@@ -31,7 +31,7 @@ quotient-sum-requires : tie.Need-quotient-sum-requires Inv-loop μ-loop
 quotient-sum-requires c κs =
     let l = c .before .before .before .before in
     let v = l .before .before .before .before .before .pre .0 in
-    (v .rising (l .loop .i) (omega arith), start-le v (l .loop .i + 1) (omega arith))
+    omega (arith, row-within v (l .loop .i) (omega arith))
 
 returns : tie.Need-returns Inv-loop μ-loop
 unfolding normalise
@@ -44,7 +44,7 @@ returns c =
 
 loop-again : tie.Need-loop-again Inv-loop μ-loop
 unfolding bad-sum
-loop-again c = 
+loop-again c =
     let s = c .before .before .before in
     let l = s .before .before .before .before .before in
     let a = l .before .before .before .before .before in
