@@ -22,6 +22,10 @@ module _ {q : Csr} (v : Valid q) where
   pub start-le : (i : ℕ) → i ≤ q .n → start q i ≤ length (q .entries)
   start-le i h = subst (λ (k : ℕ). start q i ≤ k) (v .last) (rises i (q .n) h (le-refl (q .n)))
 
+  -- a row lies within the entries
+  pub row-within : (i : ℕ) → i < q .n → (start q i ≤ start q (i + 1)) × (start q (i + 1) ≤ length (q .entries))
+  row-within i h = (v .rising i h, start-le (i + 1) (omega arith))
+
 pub length-apply : (q : Csr) (x : List Float) → length (apply-generator q x) ≡ q .n
 unfolding apply-generator
 length-apply q x = length-tabulate (q .n) _

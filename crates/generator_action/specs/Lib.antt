@@ -1,3 +1,4 @@
 -- The mass, the quotients, the checks 7 to 11 and the answer to a matrix.
 pub mod Mass
 pub mod Answer
+pub mod Known

@@ -16,7 +16,7 @@ use Rattle.lists.specs.Loop.{iter, tabulate, zipWith}
 use Rattle.lists.specs.Window.{window, splice}
 use Rattle.lists.specs.Bounds.{Disjoint, Apart}
 use Rattle.lists.proofs.Bounds.{disjoint-cases, lt-or-le}
-use Rattle.lists.proofs.Window.{splice-snoc, splice-nil, getD-window, length-window, length-splice, getD-splice-in, getD-splice-after, getD-splice-before, splice-whole, window-splice-before, window-splice-after}
+use Rattle.lists.proofs.Window.{splice-more, splice-snoc, splice-nil, getD-window, length-window, length-splice, getD-splice-in, getD-splice-after, getD-splice-before, splice-whole, window-splice-before, window-splice-after}
 
 module _ {A : Type 0} where
   pub iter-none : (step : ℕ → A → A) (a : A) → iter step 0 a ≡ a
@@ -51,6 +51,11 @@ module _ {A : Type 0} where
   unfolding tabulate
   tabulate-suc zero f = refl
   tabulate-suc (suc n) f = ap (λ (r : List A). f 0 ∷ r) (tabulate-suc n (λ k. f (suc k)))
+
+  pub tabulate-add : (i m : ℕ) (f : ℕ → A) → tabulate (i + m) f ≡ tabulate i f ++ tabulate m (λ k. f (i + k))
+  unfolding tabulate
+  tabulate-add zero m f = simp zero-add
+  tabulate-add (suc i) m f = simp suc-add (ap (λ (r : List A). f 0 ∷ r) (tabulate-add i m (λ k. f (suc k))))
 
   -- a list is what its index says
   pub tabulate-getD : (w : List A) (d : A) → tabulate (length w) (λ k. getD w k d) ≡ w
@@ -91,6 +96,15 @@ module _ {A : Type 0} where
   -- the same where the code has the place by another name
   pub turned-at : {p i : ℕ} {f : ℕ → A} {w₀ w : List A} {v : A} → Filled p i f w₀ w → (k : ℕ) → k ≡ p + i → v ≡ f i → Filled p (i + 1) f w₀ (set w k v)
   turned-at {p} {i} {f} {w₀} {w} {v} h k e d = subst (λ (m : ℕ). Filled p (i + 1) f w₀ (set w m v)) (sym e) (turned h d)
+
+  -- a turn that writes the next m elements
+  pub filled-more : {p i : ℕ} {f : ℕ → A} {w₀ w w₁ : List A} → Filled p i f w₀ w → (m : ℕ) → w₁ ≡ splice (p + i) (tabulate m (λ k. f (i + k))) w → Filled p (i + m) f w₀ w₁
+  filled-more {p} {i} {f} {w₀} {w} {w₁} h m e =
+      let next = tabulate m (λ k. f (i + k)) in
+      record {
+        is = e ∙ ap (splice (p + i) next) (h .is) ∙ splice-more p i (tabulate i f) next w₀ (length-tabulate i f) ∙ ap (λ (r : List A). splice p r w₀) (sym (tabulate-add i m f));
+        long = ap length e ∙ length-splice (p + i) next w ∙ h .long;
+      }
 
   -- what a turn reads is as it was: at the place that it is about to write, past it, before the window, and in a window apart
   pub read-after : {p i : ℕ} {f : ℕ → A} {w₀ w : List A} → Filled p i f w₀ w → (k : ℕ) (d : A) → p + i ≤ k → getD w k d ≡ getD w₀ k d

@@ -8,7 +8,7 @@ use native.Mathlib.Omega.{arith}
 use lib.ListN.{length, length-append}
 use Rattle.lists.specs.Loop.{stack}
 use Rattle.lists.specs.Window.{splice}
-use Rattle.lists.proofs.Window.{splice-nil, splice-append, splice-comm, splice-whole, length-splice}
+use Rattle.lists.proofs.Window.{splice-nil, splice-more, splice-whole, length-splice}
 
 module _ {A : Type 0} where
   pub record Stacked (p n i : ℕ) (r : ℕ → List A) (w₀ w : List A) : Type 0 where
@@ -25,10 +25,9 @@ module _ {A : Type 0} where
   unfolding stack
   stack-turn {p} {n} {i} {r} {w₀} {w} h w₁ l e =
       let s = stack i r in
-      let q : p + length s ≡ p + i * n = ap (λ (k : ℕ). p + k) (h .size) in
       rw (add-one i)
       (record {
-        is = e ∙ ap (splice (p + i * n) (r i)) (h .is) ∙ rw (splice-append p s (r i) w₀, q) (sym (splice-comm p (p + i * n) s (r i) w₀ (omega arith)));
+        is = e ∙ ap (splice (p + i * n) (r i)) (h .is) ∙ splice-more p (i * n) s (r i) w₀ (h .size);
         size = length-append s (r i) ∙ rw (suc-mul i n) (omega (arith, h .size));
         long = ap length e ∙ length-splice (p + i * n) (r i) w ∙ h .long;
       })

@@ -159,6 +159,10 @@ module _ {A : Type 0} where
   splice-append (suc n) vs us [] = rw (suc-add n (length vs))
   splice-append (suc n) vs us (x ∷ w) = rw (suc-add n (length vs)) (ap (λ (r : List A). x ∷ r) (splice-append n vs us w))
 
+  -- a second write just past the first
+  pub splice-more : (at k : ℕ) (vs us w : List A) → length vs ≡ k → splice (at + k) us (splice at vs w) ≡ splice at (vs ++ us) w
+  splice-more at k vs us w e = sym (rw (splice-append at vs us w, e) (splice-comm at (at + k) vs us w (omega arith)))
+
   pub splice-nil : (at : ℕ) (w : List A) → splice at [] w ≡ w
   unfolding splice over
   splice-nil zero w = refl

@@ -16,9 +16,6 @@ returns-2 : tie.Need-returns-2
 unfolding wrong-rows
 returns-2 c = rw (ne-eqb _ _ (c .before .if1 .left), ne-eqb (c .before .before .args .len) (c .before .before .args .n + 1) (λ e. omega arith))
 
-sub-if3 : tie.Need-sub-if3
-sub-if3 c = search needs
-
 returns-3 : tie.Need-returns-3
 unfolding wrong-rows
 returns-3 c =
@@ -32,4 +29,4 @@ returns-4 c =
     (ne-eqb _ _ (c .before .before .if1 .left), eq-eqb (c .before .before .before .args .len) (c .before .before .before .args .n + 1) (omega arith))
 
 pub wrong-rows-spec : {M : Type 1} → statement M
-wrong-rows-spec = tie.close (tie.spec returns returns-2 sub-if3 returns-3 returns-4)
+wrong-rows-spec = tie.close (tie.spec returns returns-2 (λ c. search needs) returns-3 returns-4)

@@ -1,0 +1,102 @@
+-- What the answer to a matrix tells. Assumes nothing.
+use mathlib.Core.Path.{_≡_, refl, sym, ap, _∙_, subst}
+use mathlib.Core.Bool.{Bool, true, false, true≢false}
+use mathlib.Core.List.{List}
+use mathlib.Core.Option.{none, some}
+use Prim.Native.Nat.{ℕ, zero, suc, _<_}
+use native.Mathlib.Omega.{arith}
+use lib.Dec.{T}
+use lib.Ieee.{Float, nan, inf, fin}
+use borrow.Author.Tests.{not-false}
+use Rattle.lists.specs.Loop.{iter}
+use Rattle.lists.proofs.Find.{none-below}
+use Rattle.doubles.specs.F64.{+0, is-finite, replaced, maxNum}
+use Rattle.checks.specs.First.{first}
+use Rattle.checks.specs.declared.Checked.{Checked}
+use Rattle.checks.specs.declared.Checked.the-variants.{Sound, Refused}
+use Rattle.checks.proofs.First.{sound-cons, sound-append}
+use Rattle.general_operator.specs.Csr.{Csr, row-sum, row-sum-norm, Valid}
+use Rattle.general_operator.specs.Checks.{matrix-checks}
+use Rattle.general_operator.proofs.Sound.{sound-valid}
+use Rattle.generator_action.specs.declared.MatrixAnswer.{MatrixAnswer}
+use Rattle.generator_action.specs.declared.MatrixAnswer.the-variants.{Refusal, Norm}
+use Rattle.generator_action.specs.Mass.{Mass, given, normalise, quotients, mass-checks, bad-sum, sum-checks, norm-checks, bound-checks, generator-checks}
+use Rattle.generator_action.specs.Answer.{unless-refused, matrix-answer, fixed}
+use Rattle.generator_action.specs.Known.{Dividing}
+use Rattle.generator_action.proofs.Quotients.{quotients-valid}
+use Rattle.generator_action.proofs.Ways.{mass-sound}
+
+refusal-of : (r : Checked) (norm : Float) {k : ℕ} {x : Float} → Refusal k x ≡ unless-refused r norm → Refused k x ≡ r
+unfolding unless-refused
+refusal-of (Refused j y) norm e = cc
+refusal-of Sound norm e = cc
+
+norm-of : (r : Checked) (norm : Float) {x : Float} {i : ℕ} → Norm x i ≡ unless-refused r norm → (Sound ≡ r) × (x ≡ norm)
+unfolding unless-refused
+norm-of (Refused j y) norm e = (cc, cc)
+norm-of Sound norm e = (refl, cc)
+
+-- the largest of finite sums is finite
+max-finite : (x y : Float) (b : Bool) → is-finite x ≡ true → is-finite y ≡ true → is-finite (replaced x y b) ≡ true
+unfolding replaced
+max-finite nan y b p q = q
+max-finite (inf s) y b p q = absurd (subst T (sym p) tt)
+max-finite (fin s m d) y true p q = q
+max-finite (fin s m d) y false p q = p
+
+largest-finite : (q : Csr) (i : ℕ) → ((k : ℕ) → k < i → is-finite (row-sum q k) ≡ true) → is-finite (iter (λ j m. maxNum m (row-sum q j)) i +0) ≡ true
+unfolding iter maxNum lib.Ieee.ofBits
+largest-finite q zero h = refl
+largest-finite q (suc i) h = max-finite _ (row-sum q i) _ (largest-finite q i (λ k l. h k (omega arith))) (h i (omega arith))
+
+sums-finite : (q : Csr) → Sound ≡ first (sum-checks q) → is-finite (row-sum-norm q) ≡ true
+unfolding sum-checks bad-sum row-sum-norm
+sums-finite q e = largest-finite q (q .n) (λ k l. not-false _ (none-below (bad-sum q) (q .n) (sound-cons _ _ _ _ e .0) k l))
+
+norm-finite : (a : Csr) → Sound ≡ first (norm-checks a) → is-finite (row-sum-norm a) ≡ true
+unfolding norm-checks
+norm-finite a e = not-false _ (sound-cons _ _ _ _ e .0)
+
+-- with a mass that is given
+abbrev pub Divided : Csr → Mass → Type 0
+Divided a none = Unit
+Divided a (some mass) = Dividing a mass
+
+pub given-divides : (a : Csr) (b : Bool) (mass : List Float) → b ≡ true → Divided a (given b mass) → Dividing a mass
+given-divides a true mass e d = d
+given-divides a false mass e d = absurd (true≢false (sym e))
+
+bound-sound : (a : Csr) (mass : Mass) → Sound ≡ first (bound-checks a mass) → (is-finite (row-sum-norm (quotients a mass)) ≡ true) × Divided a mass
+unfolding bound-checks quotients
+bound-sound a none e = (norm-finite a e, tt)
+bound-sound a (some mass) e = let s = sound-append (mass-checks a mass) (sum-checks (normalise a mass)) e in (sums-finite (normalise a mass) (s .1), mass-sound a mass (s .0))
+
+-- what is known where a norm x is answered
+pub record Accepted (a : Csr) (mass : Mass) (x : Float) : Type 0 where
+  pub sound : Sound ≡ first (generator-checks a mass)
+  pub norm : x ≡ row-sum-norm (quotients a mass)
+  pub finite : is-finite x ≡ true
+  pub valid : Valid a
+  pub quotients-are : Valid (quotients a mass)
+  pub divided : Divided a mass
+
+module _ (a : Csr) (mass : Mass) {r : MatrixAnswer} (e : fixed r ≡ matrix-answer a mass) where
+  pub refusal-told : {k : ℕ} {x : Float} → r ≡ Refusal k x → Refused k x ≡ first (generator-checks a mass)
+  unfolding matrix-answer
+  refusal-told d = refusal-of _ _ (sym (ap fixed d) ∙ e)
+
+  pub norm-told : {x : Float} {i : ℕ} → r ≡ Norm x i → Accepted a mass x
+  unfolding matrix-answer generator-checks
+  norm-told d =
+      let h = norm-of _ _ (sym (ap fixed d) ∙ e) in
+      let s = sound-append (matrix-checks a) (bound-checks a mass) (h .0) in
+      let b = bound-sound a mass (s .1) in
+      let v = sound-valid a (s .0) in
+      record {
+        sound = h .0;
+        norm = h .1;
+        finite = ap is-finite (h .1) ∙ b .0;
+        valid = v;
+        quotients-are = quotients-valid v mass;
+        divided = b .1;
+      }

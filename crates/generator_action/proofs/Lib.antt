@@ -1,0 +1,5 @@
+pub mod Quotients
+pub mod Leading
+pub mod Ways
+pub mod Answered
+pub mod Examples

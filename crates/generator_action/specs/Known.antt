@@ -1,0 +1,28 @@
+-- What the parts of `check_generator` know and answer. Definitions only.
+use mathlib.Core.Bool.{true}
+use mathlib.Core.List.{List}
+use mathlib.Core.Path.{_≡_}
+use Prim.Native.Nat.{ℕ, _<_}
+use lib.Dec.{T}
+use lib.ListN.{length}
+use lib.Ieee.{Float}
+use Rattle.doubles.specs.F64.{_⋖_, +0, at, is-finite}
+use Rattle.checks.specs.First.{Check, first}
+use Rattle.general_operator.specs.Csr.{Csr, start, row-sum-norm}
+use Rattle.generator_action.specs.declared.MatrixAnswer.{MatrixAnswer}
+use Rattle.generator_action.specs.Answer.{unless-refused, fixed, LargestRow}
+
+-- what 6 leaves
+abbrev pub Finite : Csr → Type 0
+Finite a = (k : ℕ) → k < length (a .entries) → is-finite (at (a .entries) k) ≡ true
+
+-- what 7 to 9 leave
+pub record Dividing (a : Csr) (mass : List Float) : Type 0 where
+  pub long : length mass ≡ a .n
+  pub above : (i : ℕ) → i < a .n → T (+0 ⋖ at mass i)
+  pub from-0 : start a 0 ≡ 0
+
+-- r answers the matrix q that some checks are left of: the first refusal of these, or the norm and a row that has it
+pub record Answered (q : Csr) (checks : List Check) (r : MatrixAnswer) : Type 0 where
+  pub is : fixed r ≡ unless-refused (first checks) (row-sum-norm q)
+  pub row : LargestRow q r
