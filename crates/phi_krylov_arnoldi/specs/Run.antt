@@ -79,7 +79,7 @@ advance p s applied v rejections t f err =
         matvecs = r .matvecs + applied;
         substeps = suc (r .substeps);
         rejected = r .rejected + rejections;
-        est-error = r .est-error ⊕ maxNum err (p .anorm ⊗ EPSILON ⊗ c .beta);
+        «est_error» = r .«est_error» ⊕ maxNum err (p .anorm ⊗ EPSILON ⊗ c .beta);
       };
       y = y;
     }
@@ -108,7 +108,7 @@ substep p s =
 
 -- 27 for a run that has not ended
 unfoldable pub spent : Turn State End → End
-spent (on s) = refused 27 (s .report .est-error) s
+spent (on s) = refused 27 (s .report .«est_error») s
 spent (out e) = e
 
 -- `substeps`: at most `limit` substeps
@@ -124,7 +124,7 @@ first-length m anorm tol beta =
     round2 (1f ⊘ maxNum anorm MIN-POSITIVE ⊗ root (fact ⊗ tol ⊘ (4f ⊗ beta ⊗ maxNum anorm 1f)) m)
 
 abbrev pub empty-report : KrylovPhiReport
-empty-report = record { matvecs = 0; substeps = 0; rejected = 0; est-error = +0 }
+empty-report = record { matvecs = 0; substeps = 0; rejected = 0; «est_error» = +0 }
 
 -- a run starts at time +0 with all counts 0
 unfoldable pub started : Setting → List Float → State
@@ -136,7 +136,7 @@ started p y =
 unfoldable pub scaled-back : Float → Float → State → State
 scaled-back up beta₀ s =
     let r = s .report in
-    record { control = s .control; report = record { matvecs = r .matvecs; substeps = r .substeps; rejected = r .rejected; est-error = r .est-error ⊘ beta₀ }; y = scale up (s .y) }
+    record { control = s .control; report = record { matvecs = r .matvecs; substeps = r .substeps; rejected = r .rejected; «est_error» = r .«est_error» ⊘ beta₀ }; y = scale up (s .y) }
 
 unfoldable pub back : Float → Float → End → End
 back up beta₀ (finished s) = finished (scaled-back up beta₀ s)
