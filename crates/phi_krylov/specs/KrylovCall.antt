@@ -1,0 +1,91 @@
+-- A whole call of `phi_combination_krylov` (phi_krylov.rs): the checks in number order, the answer, and what the output and the working memory
+-- hold at the end. Definitions only.
+use mathlib.Core.Bool.{Bool, true, false, not, _&&_, _||_}
+use mathlib.Core.List.{List, [], _∷_, _++_}
+use Prim.Native.Nat.{ℕ, _+_, _-_, _*_}
+use lib.Dec.{ltb, eqb}
+use lib.ListN.{length}
+use lib.Ieee.{Float, nan}
+use Rattle.lists.specs.Window.{window}
+use Rattle.doubles.specs.F64.{_⊕_, _⊗_, _⋖_, +0, 1f, 2f, is-finite}
+use Rattle.checks.specs.First.{Check, refuse, first}
+use Rattle.checks.specs.declared.Checked.{Checked}
+use Rattle.checks.specs.declared.Checked.the-variants.{Sound, Refused}
+use Rattle.general_operator.specs.Csr.{Csr, row-sum-norm}
+use Rattle.generator_action.specs.Mass.{Mass, quotients, generator-checks}
+use Rattle.combination.specs.Combination.{eta-of, combination-operator, combination-start}
+use Rattle.combination.specs.Checks.{count-checks, time-checks, length-checks, finite-checks, magnitude-checks, memory-checks, quotient-need}
+use Rattle.phi_action.specs.Calls.{cleared, open-Calls}
+use Rattle.phi_krylov_arnoldi.specs.Run.{State, End, finished, refused, clamp-m, expv, open-Run}
+use Rattle.phi_krylov.specs.declared.KrylovPhiOptions.{KrylovPhiOptions}
+use Rattle.phi_krylov.specs.declared.KrylovAnswer.{KrylovAnswer}
+use Rattle.phi_krylov.specs.declared.KrylovAnswer.the-variants.{Refusal, Soaked}
+
+-- the bound of the augmented operator: tau * norm + 2
+unfoldable pub bound : Float → Float → Float
+bound tau norm = tau ⊗ norm ⊕ 2f
+
+-- M
+unfoldable pub dimension : ℕ → ℕ → ℕ → ℕ
+dimension n d m = clamp-m m (n + d)
+
+-- tol not strictly between 0 and 1; no substep allowed; M above 128 or more than 1,000,000 substeps
+unfoldable pub option-checks : KrylovPhiOptions → ℕ → List Check
+option-checks o M =
+    refuse 18 (not (+0 ⋖ o .tol && o .tol ⋖ 1f)) (o .tol)
+    ∷ refuse 19 (eqb (o .«max_substeps») 0) +0
+    ∷ refuse 20 (ltb 128 M || ltb 1000000 (o .«max_substeps»)) nan
+    ∷ []
+
+unfoldable pub bound-checks : Float → Float → List Check
+bound-checks norm tau = refuse 24 (not (is-finite (bound tau norm))) (bound tau norm) ∷ []
+
+-- n + (M + 3)(n + d) + (M + 2) squared, and the entries with a mass
+unfoldable pub krylov-need : Csr → Mass → ℕ → ℕ → ℕ
+krylov-need a mass d M = a .n + (M + 3) * (a .n + d) + (M + 2) * (M + 2) + quotient-need a mass
+
+unfoldable pub krylov-checks : Csr → Mass → Float → ℕ → List Float → KrylovPhiOptions → ℕ → ℕ → List Check
+krylov-checks a mass tau count w o output memory =
+    let d = count - 1 in
+    let M = dimension (a .n) d (o .m) in
+    generator-checks a mass
+    ++ (count-checks count
+    ++ (time-checks tau
+    ++ (length-checks output (a .n) (length w) (count * a .n)
+    ++ (finite-checks w
+    ++ (option-checks o M
+    ++ (magnitude-checks (a .n) w tau d
+    ++ (bound-checks (row-sum-norm (quotients a mass)) tau
+    ++ memory-checks memory (krylov-need a mass d M))))))))
+
+pub record Call : Type 0 where
+  pub answer : KrylovAnswer
+  pub output : List Float
+  pub memory : List Float
+
+abbrev pub ends : KrylovAnswer → List Float → List Float → Call
+ends a output memory = record { answer = a; output = output; memory = memory }
+
+-- a run leaves its field, the last accepted one where it was refused, and clears what it needed
+unfoldable pub after-run : ℕ → ℕ → List Float → End → Call
+after-run n need memory (finished s) = ends (Soaked (s .report)) (window 0 n (s .y)) (cleared need memory)
+after-run n need memory (refused k x s) = ends (Refusal k x) (window 0 n (s .y)) (cleared need memory)
+
+-- refusals 1 to 26 change no lent memory
+unfoldable pub unless-refused : Checked → List Float → List Float → Call → Call
+unless-refused (Refused k x) output memory c = ends (Refusal k x) output memory
+unless-refused Sound output memory c = c
+
+unfoldable pub phi-combination-krylov : Csr → Mass → Float → ℕ → List Float → KrylovPhiOptions → List Float → List Float → Call
+phi-combination-krylov a mass tau count w o output memory =
+    let d = count - 1 in
+    let q = quotients a mass in
+    let eta = eta-of (a .n) w tau d in
+    unless-refused (first (krylov-checks a mass tau count w o (length output) (length memory))) output memory
+    (after-run (a .n) (krylov-need a mass d (dimension (a .n) d (o .m))) memory
+    (expv (combination-operator q w tau d (eta .eta)) tau (bound tau (row-sum-norm q)) (o .tol) (o .m) (o .«max_substeps») (combination-start (a .n) w d (eta .inv))))
+
+-- to compute: a line `unfolding open-KrylovCall` opens every definition of this file and of those below it
+unfoldable pub open-KrylovCall : Unit {0}
+unfolding bound dimension option-checks bound-checks krylov-need krylov-checks after-run unless-refused phi-combination-krylov open-Run open-Calls
+open-KrylovCall = tt
