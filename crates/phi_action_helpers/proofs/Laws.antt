@@ -1,0 +1,22 @@
+-- General laws on lists. Assumes nothing.
+use mathlib.Core.Path.{_≡_, refl, sym, ap, _∙_}
+use mathlib.Core.Bool.{cond}
+use mathlib.Core.List.{List, _∷_}
+use Prim.Native.Nat.{ℕ, zero, suc, _+_, _≤_, _<_}
+use native.Mathlib.Omega.{arith}
+use lib.Dec.{ltb, leb·suc-zero, leb·suc-suc}
+use lib.ListN.{length, getD, replicate}
+use borrow.Author.Tests.{lt-ltb}
+use Rattle.lists.specs.Loop.{tabulate}
+use Rattle.lists.specs.Window.{window, splice, over}
+use Rattle.lists.proofs.Loop.{fill-start, replicate-tabulate, tabulate-ext}
+
+module _ {A : Type 0} where
+  -- the first i places written, the others as they were filled
+  pub front-filled : (n i : ℕ) (f : ℕ → A) (z : A) → i ≤ n → splice 0 (tabulate i f) (replicate n z) ≡ tabulate n (λ k. cond (ltb k i) (f k) z)
+  unfolding tabulate splice over
+  front-filled n zero f z h = fill-start 0 f (replicate n z) ∙ replicate-tabulate n z ∙ tabulate-ext n (λ k. z) (λ k. cond (ltb k 0) (f k) z) (λ k l. rw (leb·suc-zero k))
+  front-filled zero (suc i) f z h = absurd (omega arith)
+  front-filled (suc n) (suc i) f z h =
+      rw (lt-ltb 0 (suc i) (omega arith))
+      (ap (λ (r : List A). f 0 ∷ r) (front-filled n i (λ k. f (suc k)) z (omega arith) ∙ tabulate-ext n (λ k. cond (ltb k i) (f (suc k)) z) (λ k. cond (ltb (suc k) (suc i)) (f (suc k)) z) (λ k l. rw (leb·suc-suc (suc k) i))))
