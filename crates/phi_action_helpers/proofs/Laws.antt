@@ -9,7 +9,8 @@ use lib.ListN.{length, getD, replicate}
 use borrow.Author.Tests.{lt-ltb}
 use Rattle.lists.specs.Loop.{tabulate}
 use Rattle.lists.specs.Window.{window, splice, over}
-use Rattle.lists.proofs.Loop.{fill-start, replicate-tabulate, tabulate-ext}
+use Rattle.lists.proofs.Loop.{fill-start, replicate-tabulate, tabulate-ext, Filled, read-after}
+use Rattle.lists.proofs.Window.{getD-window}
 
 module _ {A : Type 0} where
   -- the first i places written, the others as they were filled
@@ -20,3 +21,7 @@ module _ {A : Type 0} where
   front-filled (suc n) (suc i) f z h =
       rw (lt-ltb 0 (suc i) (omega arith))
       (ap (λ (r : List A). f 0 ∷ r) (front-filled n i (λ k. f (suc k)) z (omega arith) ∙ tabulate-ext n (λ k. cond (ltb k i) (f (suc k)) z) (λ k. cond (ltb (suc k) (suc i)) (f (suc k)) z) (λ k l. rw (leb·suc-suc (suc k) i))))
+
+  -- past what is written a window is as it was
+  pub read-window : {p i : ℕ} {f : ℕ → A} {w₀ w : List A} → Filled p i f w₀ w → (n k : ℕ) (d : A) → i ≤ k → k < n → getD (window p n w) k d ≡ getD (window p n w₀) k d
+  read-window {p} {i} {f} {w₀} {w} h n k d l m = getD-window p n w k d m ∙ read-after h (p + k) d (omega arith) ∙ sym (getD-window p n w₀ k d m)

@@ -2,7 +2,11 @@
 ghost use mathlib.Core.Path.{_≡_};
 ghost use Prim.Native.Nat.{ℕ, _+_, _*_, _≤_, _<_};
 ghost use lib.ListN.{length, getD};
-ghost use Rattle.phi_action_helpers.specs.Augmented.{scalars, coupled, generator-term};
+ghost use Rattle.lists.specs.Loop.{tabulate};
+ghost use Rattle.lists.specs.Window.{window, splice};
+ghost use Rattle.lists.specs.Bounds.{Apart};
+ghost use Rattle.doubles.specs.F64.{at};
+ghost use Rattle.phi_action_helpers.specs.Augmented.{scalars, coupled, generator-term, chain-term, bottom};
 
 // The schedule: s sweeps of degree m, and the shift mu, 0 for none.
 pub struct SweepPlan {
@@ -77,5 +81,58 @@ fn generator_term(k: Scales, av: f64, u: f64) -> f64
         k.tau * av - k.mu * u
     } else {
         k.tau * av
+    }
+}
+
+// work[w + i] becomes row i of the product: work[av + i] is row i of G w.
+fn top_in(
+    vectors: &[f64],
+    places: [usize; 3],
+    sc: [f64; 3],
+    count: usize,
+    k: Scales,
+    work: &mut [f64],
+    w: usize,
+    av: usize,
+    n: usize,
+)
+    requires { ⌜ (count ≤ 3) × ((j : ℕ) → j < count → getD places j 0 + n ≤ length (now vectors)) ⌝ }
+    requires { ⌜ (w + n ≤ length (now work)) × (av + n ≤ length (now work)) ⌝ }
+    requires { ⌜ Apart w av n ⌝ }
+    ensures { λ _. ⌜ now (work .exit) ≡ splice w (tabulate n (λ i. coupled (now (vectors .entry)) places count sc i (generator-term k (at (now (work .entry)) (av + i)) (at (now (work .entry)) (w + i))))) (now (work .entry)) ⌝ }
+{
+    for i in 0..n {
+        let t = generator_term(k, work[av + i], work[w + i]);
+        work[w + i] = coupled(vectors, places, sc, count, i, t);
+    }
+}
+
+// Value i of the product's chain.
+fn chain_term(k: Scales, c: &[f64], i: usize) -> f64
+    requires { ⌜ i < length (now c) ⌝ }
+    ensures { λ r. ⌜ r ≡ chain-term k (length (now (c .entry))) (now (c .entry)) i ⌝ }
+{
+    if i + 1 < c.len() {
+        if k.shifted {
+            k.one * c[i + 1] - k.mu * c[i]
+        } else {
+            k.one * c[i + 1]
+        }
+    } else if k.shifted {
+        -(k.mu * c[i])
+    } else {
+        0.0
+    }
+}
+
+// The d values of the chain from c, in place: ascending, so that each reads old places only.
+fn chain_in(work: &mut [f64], c: usize, d: usize, k: Scales)
+    requires { ⌜ c + d ≤ length (now work) ⌝ }
+    ensures { λ _. ⌜ now (work .exit) ≡ splice c (bottom k d (window c d (now (work .entry)))) (now (work .entry)) ⌝ }
+{
+    let end = c + d;
+    for i in 0..d {
+        let v = chain_term(k, &work[c..end], i);
+        work[c + i] = v;
     }
 }
