@@ -1,12 +1,16 @@
 -- General laws on lists. Assumes nothing.
 use mathlib.Core.Path.{_≡_, refl, sym, ap, _∙_}
 use mathlib.Core.Bool.{cond}
-use mathlib.Core.List.{List, _∷_}
+use mathlib.Core.List.{List, [], _∷_}
+use mathlib.Core.Logic.{_⊎_, ⊎-elim}
 use Prim.Native.Nat.{ℕ, zero, suc, _+_, _≤_, _<_}
 use native.Mathlib.Omega.{arith}
 use lib.Dec.{ltb, leb·suc-zero, leb·suc-suc}
-use lib.ListN.{length, getD, replicate}
+use lib.ListN.{length, getD, take, drop, replicate}
+use lib.Seq.{take-take, drop-drop}
 use borrow.Author.Tests.{lt-ltb}
+use Rattle.lists.specs.Bounds.{Disjoint}
+use Rattle.lists.proofs.Bounds.{disjoint-cases}
 use Rattle.lists.specs.Loop.{tabulate}
 use Rattle.lists.specs.Window.{window, splice, over}
 use Rattle.lists.proofs.Loop.{fill-start, replicate-tabulate, tabulate-ext, Filled, read-after}
@@ -25,3 +29,19 @@ module _ {A : Type 0} where
   -- past what is written a window is as it was
   pub read-window : {p i : ℕ} {f : ℕ → A} {w₀ w : List A} → Filled p i f w₀ w → (n k : ℕ) (d : A) → i ≤ k → k < n → getD (window p n w) k d ≡ getD (window p n w₀) k d
   read-window {p} {i} {f} {w₀} {w} h n k d l m = getD-window p n w k d m ∙ read-after h (p + k) d (omega arith) ∙ sym (getD-window p n w₀ k d m)
+
+  window-take : (at len n : ℕ) (w : List A) → at + len ≤ n → window at len (take n w) ≡ window at len w
+  unfolding window
+  window-take zero len n w h = take-take len n w (omega arith)
+  window-take (suc a) len zero w h = absurd (omega arith)
+  window-take (suc a) len (suc n) [] h = refl
+  window-take (suc a) len (suc n) (x ∷ w) h = window-take a len n w (omega arith)
+
+  -- a window of a window
+  pub window-window : (p n at len : ℕ) (w : List A) → at + len ≤ n → window at len (window p n w) ≡ window (p + at) len w
+  unfolding window
+  window-window p n at len w h = window-take at len n (drop p w) h ∙ rw (drop-drop at p w)
+
+-- a part of what lies apart, seen from the other side
+pub part-apart : (p n q m r k : ℕ) → Disjoint p n q m → p ≤ r → r + k ≤ p + n → Disjoint q m r k
+part-apart p n q m r k h a b = ⊎-elim (λ (g : p + n ≤ q) (l : r < q + m). omega arith) (λ (g : q + m ≤ p) (l : r < q + m). omega arith) (disjoint-cases p n q m h)

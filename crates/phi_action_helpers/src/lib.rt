@@ -6,7 +6,9 @@ ghost use Rattle.lists.specs.Loop.{tabulate};
 ghost use Rattle.lists.specs.Window.{window, splice};
 ghost use Rattle.lists.specs.Bounds.{Apart};
 ghost use Rattle.doubles.specs.F64.{at};
-ghost use Rattle.phi_action_helpers.specs.Augmented.{scalars, coupled, generator-term, chain-term, bottom};
+ghost use Rattle.phi_action_helpers.specs.Augmented.{scalars, coupled, generator-term, chain-term, bottom, aug-matvec};
+ghost use Rattle.general_operator.specs.Csr.{apply-generator};
+ghost use Rattle.phi_action_helpers.specs.Laid.{matrix-at, operator-at, Laid};
 
 // The schedule: s sweeps of degree m, and the shift mu, 0 for none.
 pub struct SweepPlan {
@@ -30,15 +32,14 @@ pub struct Coupling {
     pub count: usize,
 }
 
-// Where things lie in the working memory: the field y and the term w of n + d values each, G w of n values, and with a mass the quotients.
+// Where a product's operands lie in the working memory: n + d values from w, G w of n values from av, and with a mass the quotients from q.
 pub struct Layout {
     pub n: usize,
     pub d: usize,
-    pub y: usize,
     pub w: usize,
     pub av: usize,
     pub q: usize,
-    pub with_mass: bool,
+    pub mass: bool,
 }
 
 // The factor of each column, from the chain c.
@@ -135,4 +136,33 @@ fn chain_in(work: &mut [f64], c: usize, d: usize, k: Scales)
         let v = chain_term(k, &work[c..end], i);
         work[c + i] = v;
     }
+}
+
+// One product with the operator, in place: `aug_matvec_inplace` of the Rust, and with k.shifted `aug_matvec_shifted`.
+pub fn aug_matvec(
+    starts: &[u32],
+    cols: &[u32],
+    vals: &[f64],
+    vectors: &[f64],
+    work: &mut [f64],
+    l: Layout,
+    b: Coupling,
+    k: Scales,
+)
+    requires { ⌜ Laid l b (matrix-at l (now starts) (now cols) (now vals) (now work)) (length (now vals)) (length (now vectors)) (length (now work)) ⌝ }
+    ensures { λ _. ⌜ now (work .exit) ≡ splice (l .w) (aug-matvec (operator-at l b (matrix-at l (now (starts .entry)) (now (cols .entry)) (now (vals .entry)) (now (work .entry))) (now (vectors .entry))) k (window (l .w) (l .n + l .d) (now (work .entry)))) (splice (l .av) (apply-generator (matrix-at l (now (starts .entry)) (now (cols .entry)) (now (vals .entry)) (now (work .entry))) (window (l .w) (l .n) (now (work .entry)))) (now (work .entry))) ⌝ }
+{
+    let n = l.n;
+    let d = l.d;
+    let w = l.w;
+    let av = l.av;
+    let chain = w + n;
+    let end = chain + d;
+    let places = b.places;
+    let gains = b.gains;
+    let count = b.count;
+    csr_matvec::apply_generator(starts, cols, vals, l.mass, work, l.q, w, av, n);
+    let sc = scalars(gains, count, k.one, &work[chain..end]);
+    top_in(vectors, places, sc, count, k, work, w, av, n);
+    chain_in(work, chain, d, k);
 }
