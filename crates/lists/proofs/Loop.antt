@@ -8,8 +8,11 @@ use native.Mathlib.Numerals.{add-one}
 use native.Mathlib.Nat.{suc-add, zero-add, suc-inj, le-refl, le-antisymm}
 use lib.ListN.{length, getD, set, take, drop, replicate, length-set}
 use mathlib.Core.Logic.{_⊎_, ⊎-elim}
+use mathlib.Core.Bool.{cond}
+use lib.Dec.{ltb, leb·suc-zero, leb·suc-suc}
+use borrow.Author.Tests.{lt-ltb}
 use Rattle.lists.specs.Loop.{iter, tabulate, zipWith}
-use Rattle.lists.specs.Window.{window, splice}
+use Rattle.lists.specs.Window.{window, splice, over}
 use Rattle.lists.specs.Bounds.{Disjoint, Apart}
 use Rattle.lists.proofs.Bounds.{disjoint-cases}
 use Rattle.lists.proofs.Window.{splice-snoc, splice-nil, getD-window, length-window, getD-splice-after, getD-splice-before, splice-whole, window-splice-before, window-splice-after}
@@ -102,6 +105,10 @@ module _ {A : Type 0} where
   read-apart {p} h q n k d apart l m =
       ⊎-elim (λ (g : p + n ≤ q). read-after h (q + k) d (omega arith)) (λ (g : q + n ≤ p). read-before h (q + k) d (omega arith)) (disjoint-cases p n q n apart)
 
+  -- the same by the window's index
+  pub read-window : {p i : ℕ} {f : ℕ → A} {w₀ w : List A} → Filled p i f w₀ w → (n k : ℕ) (d : A) → i ≤ k → k < n → getD (window p n w) k d ≡ getD (window p n w₀) k d
+  read-window {p} {i} {f} {w₀} {w} h n k d l m = getD-window p n w k d m ∙ read-after h (p + k) d (omega arith) ∙ sym (getD-window p n w₀ k d m)
+
   -- a window that shares no place with the n that are written is as it was
   pub window-disjoint : {p i : ℕ} {f : ℕ → A} {w₀ w : List A} → Filled p i f w₀ w → (n q m : ℕ) → Disjoint p n q m → i ≤ n → window q m w ≡ window q m w₀
   window-disjoint {p} {i} {f} {w₀} {w} h n q m apart l =
@@ -152,6 +159,16 @@ module _ {A : Type 0} where
   unfolding tabulate
   replicate-tabulate zero a = refl
   replicate-tabulate (suc n) a = ap (λ (r : List A). a ∷ r) (replicate-tabulate n a)
+
+  -- the first i places written, the others as they were filled
+  pub front-filled : (n i : ℕ) (f : ℕ → A) (z : A) → i ≤ n → splice 0 (tabulate i f) (replicate n z) ≡ tabulate n (λ k. cond (ltb k i) (f k) z)
+  unfolding tabulate splice over
+  front-filled n zero f z h =
+      fill-start 0 f (replicate n z) ∙ replicate-tabulate n z ∙ tabulate-ext n (λ k. z) (λ k. cond (ltb k 0) (f k) z) (λ k l. rw (leb·suc-zero k))
+  front-filled zero (suc i) f z h = absurd (omega arith)
+  front-filled (suc n) (suc i) f z h =
+      rw (lt-ltb 0 (suc i) (omega arith))
+      (ap (λ (r : List A). f 0 ∷ r) (front-filled n i (λ k. f (suc k)) z (omega arith) ∙ tabulate-ext n (λ k. cond (ltb k i) (f (suc k)) z) (λ k. cond (ltb (suc k) (suc i)) (f (suc k)) z) (λ k l. rw (leb·suc-suc (suc k) i))))
 
 -- map g, by the index
 pub map-tabulate : {A B : Type 0} (g : A → B) (xs : List A) (d : A) → map g xs ≡ tabulate (length xs) (λ k. g (getD xs k d))

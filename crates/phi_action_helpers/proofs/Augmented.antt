@@ -11,16 +11,15 @@ use native.Mathlib.Nat.{add-zero}
 use Rattle.lists.specs.Bounds.{Disjoint}
 use Rattle.lists.specs.Loop.{tabulate}
 use Rattle.lists.specs.Window.{window, splice}
-use Rattle.lists.proofs.Bounds.{lt-or-le}
+use Rattle.lists.proofs.Bounds.{lt-or-le, part-apart}
 use Rattle.lists.proofs.Loop.{tabulate-ext, length-tabulate}
-use Rattle.lists.proofs.Window.{getD-window, splice-append, splice-comm}
+use Rattle.lists.proofs.Window.{getD-window, window-window, splice-append, splice-comm}
 use Rattle.lists.proofs.Frame.{wrote, written, untouched}
 use Rattle.doubles.specs.F64.{at}
 use Rattle.general_operator.specs.Csr.{apply-generator}
 use Rattle.general_operator.proofs.Rows.{length-apply}
 use Rattle.phi_action_helpers.specs.declared.Scales.{Scales}
 use Rattle.phi_action_helpers.specs.Augmented.{Augmented, scalars, coupled, generator-term, chain-term, top, bottom, aug-matvec}
-use Rattle.phi_action_helpers.proofs.Laws.{window-window, part-apart}
 
 -- value i of a chain's product reads the places i and i + 1 only
 pub chain-reads : (k : Scales) (d : ℕ) (c c₀ : List Float) (i : ℕ) → at c i ≡ at c₀ i → (i + 1 < d → at c (i + 1) ≡ at c₀ (i + 1)) → chain-term k d c i ≡ chain-term k d c₀ i

@@ -8,7 +8,11 @@ ghost use Rattle.lists.specs.Bounds.{Apart};
 ghost use Rattle.doubles.specs.F64.{at};
 ghost use Rattle.phi_action_helpers.specs.Augmented.{scalars, coupled, generator-term, chain-term, bottom, aug-matvec};
 ghost use Rattle.general_operator.specs.Csr.{apply-generator};
-ghost use Rattle.phi_action_helpers.specs.Laid.{matrix-at, operator-at, Laid};
+ghost use Rattle.phi_action_helpers.specs.Laid.{matrix-at, operator-at, Laid, Lined, horner-at, swept-at};
+ghost use Rattle.lists.specs.Loop.{zipWith};
+ghost use Rattle.lists.specs.Frame.{Kept};
+ghost use Rattle.doubles.specs.F64.{_⊕_, +0};
+ghost use Rattle.phi_action_helpers.specs.Sweeps.{scales, horner-step};
 
 // The schedule: s sweeps of degree m, and the shift mu, 0 for none.
 pub struct SweepPlan {
@@ -165,4 +169,55 @@ pub fn aug_matvec(
     let sc = scalars(gains, count, k.one, &work[chain..end]);
     top_in(vectors, places, sc, count, k, work, w, av, n);
     chain_in(work, chain, d, k);
+}
+
+// The scalars of term j.
+fn scales_of(tau: f64, p: SweepPlan, j: u32) -> Scales
+    ensures { λ r. ⌜ r ≡ scales tau p j ⌝ }
+{
+    let js = (j as f64) * (p.s as f64);
+    Scales {
+        shifted: p.mu != 0.0,
+        tau: tau / js,
+        one: 1.0 / js,
+        mu: p.mu / js,
+    }
+}
+
+// work[y + i] = work[y + i] + work[w + i]
+fn add_in(work: &mut [f64], y: usize, w: usize, len: usize)
+    requires { ⌜ (y + len ≤ length (now work)) × (w + len ≤ length (now work)) ⌝ }
+    requires { ⌜ Apart y w len ⌝ }
+    ensures { λ _. ⌜ now (work .exit) ≡ splice y (zipWith _⊕_ (window y len (now (work .entry))) (window w len (now (work .entry)))) (now (work .entry)) ⌝ }
+{
+    for i in 0..len {
+        work[y + i] = work[y + i] + work[w + i];
+    }
+}
+
+// Term k + 1: it takes the place of the last one and is added to the field. The products with the generator are counted.
+fn horner_step(
+    starts: &[u32],
+    cols: &[u32],
+    vals: &[f64],
+    vectors: &[f64],
+    work: &mut [f64],
+    l: Layout,
+    b: Coupling,
+    tau: f64,
+    p: SweepPlan,
+    k: u32,
+    applied: u64,
+) -> u64
+    requires { ⌜ Laid l b (matrix-at l (now starts) (now cols) (now vals) (now work)) (length (now vals)) (length (now vectors)) (length (now work)) ⌝ }
+    requires { ⌜ Lined l × (k < p .m) × (applied ≤ k) ⌝ }
+    ensures { λ r. ⌜ horner-at l r (now (work .exit)) ≡ horner-step (operator-at l b (matrix-at l (now (starts .entry)) (now (cols .entry)) (now (vals .entry)) (now (work .entry))) (now (vectors .entry))) tau p k (horner-at l applied (now (work .entry))) ⌝ }
+    ensures { λ _. ⌜ Kept 0 (l .q) +0 (now (work .entry)) (now (work .exit)) ⌝ }
+{
+    let s = scales_of(tau, p, k + 1);
+    aug_matvec(starts, cols, vals, vectors, work, l, b, s);
+    let w = l.w;
+    let len = l.n + l.d;
+    add_in(work, 0, w, len);
+    applied + 1
 }

@@ -6,7 +6,7 @@ use borrow.Author.Needs.{needs}
 use lib.ListN.{length-take, length-drop}
 use Rattle.lists.proofs.Window.{part-window}
 use Rattle.phi_action_helpers.specs.Laid.{matrix-at, operator-at}
-use Rattle.phi_action_helpers.proofs.Laws.{part-apart}
+use Rattle.lists.proofs.Bounds.{part-apart}
 use Rattle.phi_action_helpers.proofs.Augmented.{product}
 use Rattle.phi_action_helpers.proofs.aug_matvec.Statement.{statement}
 use Rattle.phi_action_helpers.proofs.aug_matvec.Tie as tie

@@ -7,9 +7,8 @@ use lib.ListN.{length}
 use lib.Ieee.{nan}
 use Rattle.lists.specs.Window.{window}
 use Rattle.lists.proofs.Window.{part-window, length-window}
-use Rattle.lists.proofs.Loop.{Filled, started, turned, finished}
+use Rattle.lists.proofs.Loop.{Filled, started, turned, finished, read-window}
 use Rattle.phi_action_helpers.specs.Augmented.{chain-term, bottom}
-use Rattle.phi_action_helpers.proofs.Laws.{read-window}
 use Rattle.phi_action_helpers.proofs.Augmented.{chain-reads}
 use Rattle.phi_action_helpers.proofs.chain_in.Statement.{statement}
 use Rattle.phi_action_helpers.proofs.chain_in.Tie as tie

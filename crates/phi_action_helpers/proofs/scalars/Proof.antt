@@ -4,10 +4,9 @@ use native.Mathlib.Omega.{arith}
 use Prim.Native.Nat.{_+_, _-_, _≤_}
 use mathlib.Core.Path.{_≡_, refl, sym, ap, _∙_}
 use lib.ListN.{replicate}
-use Rattle.lists.proofs.Loop.{Filled, started, turned₀, finished}
+use Rattle.lists.proofs.Loop.{Filled, started, turned₀, finished, front-filled}
 use Rattle.doubles.specs.F64.{_⊗_, +0, at}
 use Rattle.phi_action_helpers.specs.Augmented.{scalars}
-use Rattle.phi_action_helpers.proofs.Laws.{front-filled}
 use Rattle.phi_action_helpers.proofs.scalars.Statement.{statement}
 use Rattle.phi_action_helpers.proofs.scalars.Tie as tie
 

@@ -1,0 +1,63 @@
+-- Sweeps on lists: what the steps of a term, of a sweep and of a run leave in the memory. Assumes nothing.
+use mathlib.Core.Path.{_≡_, refl, sym, ap, _∙_}
+use mathlib.Core.List.{List}
+use Prim.Native.Nat.{ℕ, suc, _+_, _≤_, _<_}
+use native.Mathlib.Omega.{arith}
+use native.Mathlib.Numerals.{add-one}
+use lib.ListN.{length}
+use lib.Ieee.{Float}
+use Rattle.lists.specs.Loop.{zipWith}
+use Rattle.lists.specs.Window.{window, splice}
+use Rattle.lists.specs.Frame.{Kept}
+use Rattle.lists.proofs.Loop.{length-zipWith}
+use Rattle.lists.proofs.Window.{length-window}
+use Rattle.lists.proofs.Frame.{wrote, written, untouched, wrote-long, kept-all, kept-by}
+use Rattle.doubles.specs.F64.{_⊕_, +0}
+use Rattle.general_operator.specs.Csr.{Csr, csr, apply-generator}
+use Rattle.general_operator.proofs.Rows.{length-apply}
+use Rattle.phi_action_helpers.specs.declared.Layout.{Layout}
+use Rattle.phi_action_helpers.specs.declared.Coupling.{Coupling}
+use Rattle.phi_action_helpers.specs.declared.Scales.{Scales}
+use Rattle.phi_action_helpers.specs.declared.SweepPlan.{SweepPlan}
+use Rattle.phi_action_helpers.specs.Augmented.{Augmented, aug-matvec}
+use Rattle.phi_action_helpers.specs.Sweeps.{scales, horner-step}
+use Rattle.phi_action_helpers.specs.Laid.{operator-at, Laid, Lined, horner-at}
+use Rattle.phi_action_helpers.proofs.Augmented.{length-aug-matvec}
+
+-- a product and the sum: the field and the term, and nothing from the quotients on
+module _
+    (l : Layout)
+    (b : Coupling)
+    (starts cols : List ℕ)
+    (vals vectors : List Float)
+    (tau : Float)
+    (p : SweepPlan)
+    (k a : ℕ)
+    (s : Scales)
+    (w₀ w₁ w₂ : List Float)
+    (o : Lined l)
+    (fits : l .av + l .n ≤ length w₀)
+    (es : s ≡ scales tau p (k + 1))
+    (e₁ : w₁ ≡ splice (l .w) (aug-matvec (operator-at l b (csr (l .n) starts cols vals) vectors) s (window (l .w) (l .n + l .d) w₀)) (splice (l .av) (apply-generator (csr (l .n) starts cols vals) (window (l .w) (l .n) w₀)) w₀))
+    (e₂ : w₂ ≡ splice 0 (zipWith _⊕_ (window 0 (l .n + l .d) w₁) (window (l .w) (l .n + l .d) w₁)) w₁) where
+  pub term-made : (horner-at l (a + 1) w₂ ≡ horner-step (operator-at l b (csr (l .n) starts cols vals) vectors) tau p k (horner-at l a w₀)) × Kept 0 (l .q) +0 w₀ w₂
+  unfolding horner-step
+  term-made =
+      let n = l .n in
+      let m = l .n + l .d in
+      let q = csr n starts cols vals in
+      let B = operator-at l b q vectors in
+      let t₀ = wrote (l .av) n (apply-generator q (window (l .w) n w₀)) w₀ _ (length-apply q _) refl in
+      let l₀ = wrote-long t₀ in
+      let t₁ = wrote (l .w) m (aug-matvec B s (window (l .w) m w₀)) _ w₁ (length-aug-matvec B s _) e₁ in
+      let l₁ = wrote-long t₁ in
+      let ly : length (window 0 m w₁) ≡ m = length-window 0 m w₁ (omega arith) in
+      let lw : length (window (l .w) m w₁) ≡ m = length-window (l .w) m w₁ (omega arith) in
+      let t₂ = wrote 0 m _ w₁ w₂ (length-zipWith _⊕_ _ _ (ly ∙ sym lw) ∙ ly) e₂ in
+      let w-is : window (l .w) m w₁ ≡ aug-matvec B (scales tau p (k + 1)) (window (l .w) m w₀) = written t₁ (omega arith) ∙ rw es in
+      let y-is : window 0 m w₁ ≡ window 0 m w₀ = untouched t₁ 0 m (omega arith) ∙ untouched t₀ 0 m (omega arith) in
+      let y₂ : window 0 m w₂ ≡ zipWith _⊕_ (window 0 m w₀) (aug-matvec B (scales tau p (k + 1)) (window (l .w) m w₀)) = written t₂ (omega arith) ∙ rw (y-is, w-is) in
+      let w₂-is : window (l .w) m w₂ ≡ aug-matvec B (scales tau p (k + 1)) (window (l .w) m w₀) = untouched t₂ (l .w) m (omega arith) ∙ w-is in (
+        (λ i. record { y = y₂ i; w = w₂-is i; applied = add-one a i }),
+        kept-by (kept-by (kept-by (kept-all 0 (l .q) +0 w₀) t₀ (omega arith) (omega arith)) t₁ (omega arith) (omega arith)) t₂ (omega arith) (omega arith),
+      )
