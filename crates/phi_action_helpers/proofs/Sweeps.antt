@@ -1,28 +1,32 @@
 -- Sweeps on lists: what the steps of a term, of a sweep and of a run leave in the memory. Assumes nothing.
 use mathlib.Core.Path.{_≡_, refl, sym, ap, _∙_}
+use mathlib.Core.Bool.{Bool, true, false}
 use mathlib.Core.List.{List}
 use Prim.Native.Nat.{ℕ, suc, _+_, _≤_, _<_}
 use native.Mathlib.Omega.{arith}
 use native.Mathlib.Numerals.{add-one}
+use native.Mathlib.Nat.{zero-add}
 use lib.ListN.{length}
 use lib.Ieee.{Float}
-use Rattle.lists.specs.Loop.{zipWith}
+use Rattle.lists.specs.Loop.{iter, zipWith}
 use Rattle.lists.specs.Window.{window, splice}
 use Rattle.lists.specs.Frame.{Kept}
-use Rattle.lists.proofs.Loop.{length-zipWith}
+use Rattle.lists.proofs.Loop.{iter-none, iter-turn, length-zipWith}
 use Rattle.lists.proofs.Window.{length-window}
-use Rattle.lists.proofs.Frame.{wrote, written, untouched, wrote-long, kept-all, kept-by}
+use Rattle.lists.proofs.Frame.{wrote, written, untouched, wrote-long, kept-all, kept-by, kept-on, kept-window}
 use Rattle.doubles.specs.F64.{_⊕_, +0}
 use Rattle.general_operator.specs.Csr.{Csr, csr, apply-generator}
 use Rattle.general_operator.proofs.Rows.{length-apply}
+use Rattle.csr_matvec.specs.Values.{values}
 use Rattle.phi_action_helpers.specs.declared.Layout.{Layout}
 use Rattle.phi_action_helpers.specs.declared.Coupling.{Coupling}
 use Rattle.phi_action_helpers.specs.declared.Scales.{Scales}
 use Rattle.phi_action_helpers.specs.declared.SweepPlan.{SweepPlan}
 use Rattle.phi_action_helpers.specs.Augmented.{Augmented, aug-matvec}
-use Rattle.phi_action_helpers.specs.Sweeps.{scales, horner-step}
-use Rattle.phi_action_helpers.specs.Laid.{operator-at, Laid, Lined, horner-at}
+use Rattle.phi_action_helpers.specs.Sweeps.{Horner, scales, horner-step}
+use Rattle.phi_action_helpers.specs.Laid.{matrix-at, operator-at, Laid, Lined, horner-at}
 use Rattle.phi_action_helpers.proofs.Augmented.{length-aug-matvec}
+use Rattle.phi_action_helpers.proofs.Counts.{terms-counted}
 
 -- a product and the sum: the field and the term, and nothing from the quotients on
 module _
@@ -61,3 +65,33 @@ module _
         (λ i. record { y = y₂ i; w = w₂-is i; applied = add-one a i }),
         kept-by (kept-by (kept-by (kept-all 0 (l .q) +0 w₀) t₀ (omega arith) (omega arith)) t₁ (omega arith) (omega arith)) t₂ (omega arith) (omega arith),
       )
+
+-- ---- the quotients stay
+pub values-kept : (m : Bool) (q : ℕ) (vals w₀ w : List Float) → Kept 0 q +0 w₀ w → values m q vals w ≡ values m q vals w₀
+unfolding values
+values-kept true q vals w₀ w k = kept-window k q (length vals) (omega arith)
+values-kept false q vals w₀ w k = refl
+
+pub laid-kept : {l : Layout} {b : Coupling} (starts cols : List ℕ) (vals : List Float) {v x : ℕ} {w₀ w : List Float} → Kept 0 (l .q) +0 w₀ w
+    → Laid l b (matrix-at l starts cols vals w₀) v x (length w₀) → Laid l b (matrix-at l starts cols vals w) v x (length w)
+laid-kept {l} starts cols vals {w₀ = w₀} {w = w} k h = rw (values-kept (l .mass) (l .q) vals w₀ w k, k .long) h
+
+-- ---- the terms of a sweep
+module _ (l : Layout) (b : Coupling) (starts cols : List ℕ) (vals vectors : List Float) (tau : Float) (p : SweepPlan) where
+  -- after k terms from w₀ on, a of them counted
+  pub record State (k a : ℕ) (w₀ w : List Float) : Type 0 where
+    pub view : horner-at l a w ≡ iter (horner-step (operator-at l b (matrix-at l starts cols vals w₀) vectors) tau p) k (horner-at l 0 w₀)
+    pub kept : Kept 0 (l .q) +0 w₀ w
+
+module _ {l : Layout} {b : Coupling} {starts cols : List ℕ} {vals vectors : List Float} {tau : Float} {p : SweepPlan} where
+  pub began : (w : List Float) → State l b starts cols vals vectors tau p 0 0 w w
+  began w = record { view = sym (iter-none _ _); kept = kept-all 0 (l .q) +0 w }
+
+  pub turn : {k a a′ : ℕ} {w₀ w w′ : List Float} → State l b starts cols vals vectors tau p k a w₀ w
+      → horner-at l a′ w′ ≡ horner-step (operator-at l b (matrix-at l starts cols vals w) vectors) tau p k (horner-at l a w)
+      → Kept 0 (l .q) +0 w w′
+      → State l b starts cols vals vectors tau p (k + 1) a′ w₀ w′
+  turn {w₀ = w₀} {w = w} s e h = record { view = iter-turn _ _ _ _ _ (s .view) (rw (values-kept (l .mass) (l .q) vals w₀ w (s .kept)) at e); kept = kept-on (s .kept) h }
+
+  pub counted : {k a : ℕ} {w₀ w : List Float} → State l b starts cols vals vectors tau p k a w₀ w → a ≡ k
+  counted {k} s = ap (λ (h : Horner). h .applied) (s .view) ∙ terms-counted _ tau p k _ ∙ zero-add k

@@ -9,10 +9,11 @@ ghost use Rattle.doubles.specs.F64.{at};
 ghost use Rattle.phi_action_helpers.specs.Augmented.{scalars, coupled, generator-term, chain-term, bottom, aug-matvec};
 ghost use Rattle.general_operator.specs.Csr.{apply-generator};
 ghost use Rattle.phi_action_helpers.specs.Laid.{matrix-at, operator-at, Laid, Lined, horner-at, swept-at};
-ghost use Rattle.lists.specs.Loop.{zipWith};
+ghost use Rattle.lists.specs.Loop.{iter, zipWith};
 ghost use Rattle.lists.specs.Frame.{Kept};
-ghost use Rattle.doubles.specs.F64.{_⊕_, +0};
-ghost use Rattle.phi_action_helpers.specs.Sweeps.{scales, horner-step};
+ghost use Rattle.doubles.specs.F64.{if_then_else_, _⊕_, +0};
+ghost use Rattle.vectors.specs.Vectors.{scale};
+ghost use Rattle.phi_action_helpers.specs.Sweeps.{shifted, scales, horner-step, aug-horner-outer, rescale, sweep, run-sweeps};
 
 // The schedule: s sweeps of degree m, and the shift mu, 0 for none.
 pub struct SweepPlan {
@@ -220,4 +221,114 @@ fn horner_step(
     let len = l.n + l.d;
     add_in(work, 0, w, len);
     applied + 1
+}
+
+// All m terms.
+fn terms(
+    starts: &[u32],
+    cols: &[u32],
+    vals: &[f64],
+    vectors: &[f64],
+    work: &mut [f64],
+    l: Layout,
+    b: Coupling,
+    tau: f64,
+    p: SweepPlan,
+) -> u64
+    requires { ⌜ Laid l b (matrix-at l (now starts) (now cols) (now vals) (now work)) (length (now vals)) (length (now vectors)) (length (now work)) ⌝ }
+    requires { ⌜ Lined l ⌝ }
+    ensures { λ r. ⌜ horner-at l r (now (work .exit)) ≡ iter (horner-step (operator-at l b (matrix-at l (now (starts .entry)) (now (cols .entry)) (now (vals .entry)) (now (work .entry))) (now (vectors .entry))) tau p) (p .m) (horner-at l 0 (now (work .entry))) ⌝ }
+    ensures { λ _. ⌜ Kept 0 (l .q) +0 (now (work .entry)) (now (work .exit)) ⌝ }
+{
+    let m = p.m;
+    let mut applied = 0u64;
+    for k in 0..m {
+        applied = horner_step(starts, cols, vals, vectors, work, l, b, tau, p, k, applied);
+    }
+    applied
+}
+
+// One sweep: the field is the first term, and m terms are added to it.
+fn aug_horner_outer(
+    starts: &[u32],
+    cols: &[u32],
+    vals: &[f64],
+    vectors: &[f64],
+    work: &mut [f64],
+    l: Layout,
+    b: Coupling,
+    tau: f64,
+    p: SweepPlan,
+) -> u64
+    requires { ⌜ Laid l b (matrix-at l (now starts) (now cols) (now vals) (now work)) (length (now vals)) (length (now vectors)) (length (now work)) ⌝ }
+    requires { ⌜ Lined l ⌝ }
+    ensures { λ r. ⌜ horner-at l r (now (work .exit)) ≡ aug-horner-outer (operator-at l b (matrix-at l (now (starts .entry)) (now (cols .entry)) (now (vals .entry)) (now (work .entry))) (now (vectors .entry))) tau p (window 0 (l .n + l .d) (now (work .entry))) ⌝ }
+    ensures { λ _. ⌜ Kept 0 (l .q) +0 (now (work .entry)) (now (work .exit)) ⌝ }
+{
+    let w = l.w;
+    let len = l.n + l.d;
+    vectors::copy_in(work, w, 0, len);
+    terms(starts, cols, vals, vectors, work, l, b, tau, p)
+}
+
+// With a shift, work[y + i] = work[y + i] * f.
+fn rescale_in(work: &mut [f64], y: usize, len: usize, p: SweepPlan, f: f64)
+    requires { ⌜ y + len ≤ length (now work) ⌝ }
+    ensures { λ _. ⌜ now (work .exit) ≡ splice y (if shifted p then scale f (window y len (now (work .entry))) else window y len (now (work .entry))) (now (work .entry)) ⌝ }
+{
+    if p.mu != 0.0 {
+        let end = y + len;
+        vectors::scale(&mut work[y..end], f);
+    }
+}
+
+// One sweep and its rescale by f. The products with the generator are added to those made before.
+fn sweep(
+    starts: &[u32],
+    cols: &[u32],
+    vals: &[f64],
+    vectors: &[f64],
+    work: &mut [f64],
+    l: Layout,
+    b: Coupling,
+    tau: f64,
+    p: SweepPlan,
+    f: f64,
+    applied: u64,
+) -> u64
+    requires { ⌜ Laid l b (matrix-at l (now starts) (now cols) (now vals) (now work)) (length (now vals)) (length (now vectors)) (length (now work)) ⌝ }
+    requires { ⌜ Lined l × (f ≡ rescale p) × (applied + p .m ≤ 18446744073709551615) ⌝ }
+    ensures { λ r. ⌜ swept-at l r (now (work .exit)) ≡ sweep (operator-at l b (matrix-at l (now (starts .entry)) (now (cols .entry)) (now (vals .entry)) (now (work .entry))) (now (vectors .entry))) tau p (swept-at l applied (now (work .entry))) ⌝ }
+    ensures { λ _. ⌜ Kept 0 (l .q) +0 (now (work .entry)) (now (work .exit)) ⌝ }
+{
+    let made = aug_horner_outer(starts, cols, vals, vectors, work, l, b, tau, p);
+    let len = l.n + l.d;
+    rescale_in(work, 0, len, p, f);
+    applied + made
+}
+
+// s sweeps.
+pub fn run_sweeps(
+    starts: &[u32],
+    cols: &[u32],
+    vals: &[f64],
+    vectors: &[f64],
+    work: &mut [f64],
+    l: Layout,
+    b: Coupling,
+    tau: f64,
+    p: SweepPlan,
+) -> u64
+    requires { ⌜ Laid l b (matrix-at l (now starts) (now cols) (now vals) (now work)) (length (now vals)) (length (now vectors)) (length (now work)) ⌝ }
+    requires { ⌜ Lined l × (p .m ≤ 30) ⌝ }
+    ensures { λ r. ⌜ swept-at l r (now (work .exit)) ≡ run-sweeps (operator-at l b (matrix-at l (now (starts .entry)) (now (cols .entry)) (now (vals .entry)) (now (work .entry))) (now (vectors .entry))) tau p (window 0 (l .n + l .d) (now (work .entry))) ⌝ }
+    ensures { λ _. ⌜ Kept 0 (l .q) +0 (now (work .entry)) (now (work .exit)) ⌝ }
+{
+    let s = p.s;
+    let f = dense_la::dense_exp(p.mu / (s as f64));
+    let mut applied = 0u64;
+    for i in 0..s {
+        applied = sweep(starts, cols, vals, vectors, work, l, b, tau, p, f, applied);
+    }
+    applied
 }
