@@ -17,6 +17,10 @@ use Rattle.phi_action_helpers.specs.Augmented.{Augmented}
 use Rattle.phi_action_helpers.specs.Sweeps.{shifted, Horner, horner-step, aug-horner-outer, Swept, rescale, sweep, run-sweeps}
 use Rattle.phi_action_helpers.proofs.Augmented.{length-aug-matvec}
 
+pub rescaled-long : (t : Bool) (f : Float) (y : List Float) → length (if t then scale f y else y) ≡ length y
+rescaled-long true f y = length-scale f y
+rescaled-long false f y = refl
+
 module _ (b : Augmented) (tau : Float) (p : SweepPlan) where
   -- ---- counts
   pub terms-counted : (k : ℕ) (h : Horner) → iter (horner-step b tau p) k h .applied ≡ h .applied + k
@@ -47,10 +51,6 @@ module _ (b : Augmented) (tau : Float) (p : SweepPlan) where
   pub sweep-long : (y : List Float) → length y ≡ b .matrix .n + b .d → length (aug-horner-outer b tau p y .y) ≡ b .matrix .n + b .d
   unfolding aug-horner-outer
   sweep-long y e = terms-long (p .m) _ e
-
-  rescaled-long : (t : Bool) (f : Float) (y : List Float) → length (if t then scale f y else y) ≡ length y
-  rescaled-long true f y = length-scale f y
-  rescaled-long false f y = refl
 
   pub sweeps-long : (i : ℕ) (r : Swept) → length (r .y) ≡ b .matrix .n + b .d → length (iter (λ _ r. sweep b tau p r) i r .y) ≡ b .matrix .n + b .d
   unfolding iter sweep

@@ -14,7 +14,8 @@ use Rattle.lists.specs.Frame.{Kept}
 use Rattle.lists.proofs.Loop.{iter-none, iter-turn, length-zipWith}
 use Rattle.lists.proofs.Window.{length-window}
 use Rattle.lists.proofs.Frame.{wrote, written, untouched, wrote-long, kept-all, kept-by, kept-on, kept-window}
-use Rattle.doubles.specs.F64.{_⊕_, +0}
+use Rattle.doubles.specs.F64.{if_then_else_, _⊕_, +0}
+use Rattle.vectors.specs.Vectors.{scale}
 use Rattle.general_operator.specs.Csr.{Csr, csr, apply-generator}
 use Rattle.general_operator.proofs.Rows.{length-apply}
 use Rattle.csr_matvec.specs.Values.{values}
@@ -23,10 +24,10 @@ use Rattle.phi_action_helpers.specs.declared.Coupling.{Coupling}
 use Rattle.phi_action_helpers.specs.declared.Scales.{Scales}
 use Rattle.phi_action_helpers.specs.declared.SweepPlan.{SweepPlan}
 use Rattle.phi_action_helpers.specs.Augmented.{Augmented, aug-matvec}
-use Rattle.phi_action_helpers.specs.Sweeps.{Horner, scales, horner-step}
-use Rattle.phi_action_helpers.specs.Laid.{matrix-at, operator-at, Laid, Lined, horner-at}
+use Rattle.phi_action_helpers.specs.Sweeps.{shifted, Horner, scales, horner-step, aug-horner-outer, rescale, sweep}
+use Rattle.phi_action_helpers.specs.Laid.{matrix-at, operator-at, Laid, Lined, horner-at, swept-at}
 use Rattle.phi_action_helpers.proofs.Augmented.{length-aug-matvec}
-use Rattle.phi_action_helpers.proofs.Counts.{terms-counted}
+use Rattle.phi_action_helpers.proofs.Counts.{terms-counted, sweep-counted, rescaled-long}
 
 -- a product and the sum: the field and the term, and nothing from the quotients on
 module _
@@ -95,3 +96,45 @@ module _ {l : Layout} {b : Coupling} {starts cols : List ℕ} {vals vectors : Li
 
   pub counted : {k a : ℕ} {w₀ w : List Float} → State l b starts cols vals vectors tau p k a w₀ w → a ≡ k
   counted {k} s = ap (λ (h : Horner). h .applied) (s .view) ∙ terms-counted _ tau p k _ ∙ zero-add k
+
+-- ---- one sweep
+-- the field is the first term
+pub copied : (l : Layout) (w₀ w₁ : List Float) → Lined l → l .av + l .n ≤ length w₀ → w₁ ≡ splice (l .w) (window 0 (l .n + l .d) w₀) w₀
+    → (horner-at l 0 w₁ ≡ record { y = window 0 (l .n + l .d) w₀; w = window 0 (l .n + l .d) w₀; applied = 0 }) × Kept 0 (l .q) +0 w₀ w₁
+copied l w₀ w₁ o fits e =
+    let m = l .n + l .d in
+    let t = wrote (l .w) m (window 0 m w₀) w₀ w₁ (length-window 0 m w₀ (omega arith)) e in
+    let y-is = untouched t 0 m (omega arith) in
+    let w-is = written t (omega arith) in
+    ((λ i. record { y = y-is i; w = w-is i; applied = 0 }), kept-by (kept-all 0 (l .q) +0 w₀) t (omega arith) (omega arith))
+
+module _ (l : Layout) (b : Coupling) (starts cols : List ℕ) (vals vectors : List Float) (tau : Float) (p : SweepPlan) where
+  -- all terms, from the copy on
+  pub swept-once : (a : ℕ) (w₀ w₁ w₂ : List Float) → Lined l → l .av + l .n ≤ length w₀ → w₁ ≡ splice (l .w) (window 0 (l .n + l .d) w₀) w₀
+      → horner-at l a w₂ ≡ iter (horner-step (operator-at l b (matrix-at l starts cols vals w₁) vectors) tau p) (p .m) (horner-at l 0 w₁)
+      → Kept 0 (l .q) +0 w₁ w₂
+      → (horner-at l a w₂ ≡ aug-horner-outer (operator-at l b (matrix-at l starts cols vals w₀) vectors) tau p (window 0 (l .n + l .d) w₀)) × Kept 0 (l .q) +0 w₀ w₂
+  unfolding aug-horner-outer
+  swept-once a w₀ w₁ w₂ o fits e₁ e₂ k =
+      let c = copied l w₀ w₁ o fits e₁ in
+      (e₂ ∙ rw (values-kept (l .mass) (l .q) vals w₀ w₁ (c .1), c .0), kept-on (c .1) k)
+
+module _ (l : Layout) (b : Augmented) (tau : Float) (p : SweepPlan) where
+  pub made-is : (a : ℕ) (w y : List Float) → horner-at l a w ≡ aug-horner-outer b tau p y → a ≡ p .m
+  made-is a w y e = ap (λ (h : Horner). h .applied) e ∙ sweep-counted b tau p y
+
+  -- the rescale
+  pub rescaled : (a made : ℕ) (f : Float) (w₀ w₁ w₂ : List Float) → Lined l → l .av + l .n ≤ length w₀ → f ≡ rescale p
+      → horner-at l made w₁ ≡ aug-horner-outer b tau p (window 0 (l .n + l .d) w₀)
+      → Kept 0 (l .q) +0 w₀ w₁
+      → w₂ ≡ splice 0 (if shifted p then scale f (window 0 (l .n + l .d) w₁) else window 0 (l .n + l .d) w₁) w₁
+      → (swept-at l (a + made) w₂ ≡ sweep b tau p (swept-at l a w₀)) × Kept 0 (l .q) +0 w₀ w₂
+  unfolding sweep
+  rescaled a made f w₀ w₁ w₂ o fits ef e₁ k e₂ =
+      let m = l .n + l .d in
+      let long = k .long in
+      let t = wrote 0 m _ w₁ w₂ (rescaled-long (shifted p) f (window 0 m w₁) ∙ length-window 0 m w₁ (omega arith)) e₂ in
+      let y-is : window 0 m w₁ ≡ aug-horner-outer b tau p (window 0 m w₀) .y = ap (λ (h : Horner). h .y) e₁ in
+      let a-is : a + made ≡ a + aug-horner-outer b tau p (window 0 m w₀) .applied = ap (λ (h : Horner). a + h .applied) e₁ in
+      let y₂ : window 0 m w₂ ≡ (if shifted p then scale (rescale p) (aug-horner-outer b tau p (window 0 m w₀) .y) else aug-horner-outer b tau p (window 0 m w₀) .y) = written t (omega arith) ∙ rw (ef, y-is) in
+      ((λ i. record { y = y₂ i; applied = a-is i }), kept-by k t (omega arith) (omega arith))
