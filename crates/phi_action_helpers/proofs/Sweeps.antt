@@ -2,7 +2,7 @@
 use mathlib.Core.Path.{_≡_, refl, sym, ap, _∙_}
 use mathlib.Core.Bool.{Bool, true, false}
 use mathlib.Core.List.{List}
-use Prim.Native.Nat.{ℕ, suc, _+_, _≤_, _<_}
+use Prim.Native.Nat.{ℕ, suc, _+_, _*_, _≤_, _<_}
 use native.Mathlib.Omega.{arith}
 use native.Mathlib.Numerals.{add-one}
 use native.Mathlib.Nat.{zero-add}
@@ -24,10 +24,10 @@ use Rattle.phi_action_helpers.specs.declared.Coupling.{Coupling}
 use Rattle.phi_action_helpers.specs.declared.Scales.{Scales}
 use Rattle.phi_action_helpers.specs.declared.SweepPlan.{SweepPlan}
 use Rattle.phi_action_helpers.specs.Augmented.{Augmented, aug-matvec}
-use Rattle.phi_action_helpers.specs.Sweeps.{shifted, Horner, scales, horner-step, aug-horner-outer, rescale, sweep}
+use Rattle.phi_action_helpers.specs.Sweeps.{shifted, Horner, scales, horner-step, aug-horner-outer, Swept, rescale, sweep}
 use Rattle.phi_action_helpers.specs.Laid.{matrix-at, operator-at, Laid, Lined, horner-at, swept-at}
 use Rattle.phi_action_helpers.proofs.Augmented.{length-aug-matvec}
-use Rattle.phi_action_helpers.proofs.Counts.{terms-counted, sweep-counted, rescaled-long}
+use Rattle.phi_action_helpers.proofs.Counts.{terms-counted, sweep-counted, sweeps-counted, rescaled-long}
 
 -- a product and the sum: the field and the term, and nothing from the quotients on
 module _
@@ -138,3 +138,23 @@ module _ (l : Layout) (b : Augmented) (tau : Float) (p : SweepPlan) where
       let a-is : a + made ≡ a + aug-horner-outer b tau p (window 0 m w₀) .applied = ap (λ (h : Horner). a + h .applied) e₁ in
       let y₂ : window 0 m w₂ ≡ (if shifted p then scale (rescale p) (aug-horner-outer b tau p (window 0 m w₀) .y) else aug-horner-outer b tau p (window 0 m w₀) .y) = written t (omega arith) ∙ rw (ef, y-is) in
       ((λ i. record { y = y₂ i; applied = a-is i }), kept-by k t (omega arith) (omega arith))
+
+-- ---- the sweeps of a run
+module _ (l : Layout) (b : Coupling) (starts cols : List ℕ) (vals vectors : List Float) (tau : Float) (p : SweepPlan) where
+  -- after i sweeps from w₀ on, with a products
+  pub record Running (i a : ℕ) (w₀ w : List Float) : Type 0 where
+    pub view : swept-at l a w ≡ iter (λ _ r. sweep (operator-at l b (matrix-at l starts cols vals w₀) vectors) tau p r) i (swept-at l 0 w₀)
+    pub kept : Kept 0 (l .q) +0 w₀ w
+
+module _ {l : Layout} {b : Coupling} {starts cols : List ℕ} {vals vectors : List Float} {tau : Float} {p : SweepPlan} where
+  pub run-began : (w : List Float) → Running l b starts cols vals vectors tau p 0 0 w w
+  run-began w = record { view = sym (iter-none _ _); kept = kept-all 0 (l .q) +0 w }
+
+  pub run-turn : {i a a′ : ℕ} {w₀ w w′ : List Float} → Running l b starts cols vals vectors tau p i a w₀ w
+      → swept-at l a′ w′ ≡ sweep (operator-at l b (matrix-at l starts cols vals w) vectors) tau p (swept-at l a w)
+      → Kept 0 (l .q) +0 w w′
+      → Running l b starts cols vals vectors tau p (i + 1) a′ w₀ w′
+  run-turn {w₀ = w₀} {w = w} s e h = record { view = iter-turn _ _ _ _ _ (s .view) (rw (values-kept (l .mass) (l .q) vals w₀ w (s .kept)) at e); kept = kept-on (s .kept) h }
+
+  pub run-counted : {i a : ℕ} {w₀ w : List Float} → Running l b starts cols vals vectors tau p i a w₀ w → a ≡ i * p .m
+  run-counted {i} s = ap (λ (r : Swept). r .applied) (s .view) ∙ sweeps-counted _ tau p i _ ∙ zero-add (i * p .m)
