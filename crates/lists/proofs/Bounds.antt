@@ -26,3 +26,8 @@ cell-within i r s j h l = let c = column-within i r s h in omega arith
 
 pub disjoint-cases : (p n q m : ℕ) → Disjoint p n q m → (p + n ≤ q) ⊎ (q + m ≤ p)
 disjoint-cases p n q m h = ⊎-elim (λ (g : q < p + n). inr (h g)) (λ (g : p + n ≤ q). inl g) (lt-or-le q (p + n))
+
+-- a part of the first of two, seen from the second
+pub part-apart : (p n q m r k : ℕ) → Disjoint p n q m → p ≤ r → r + k ≤ p + n → Disjoint q m r k
+part-apart p n q m r k h a b =
+    ⊎-elim (λ (g : p + n ≤ q) (l : r < q + m). omega arith) (λ (g : q + m ≤ p) (l : r < q + m). omega arith) (disjoint-cases p n q m h)

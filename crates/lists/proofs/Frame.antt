@@ -10,6 +10,7 @@ use Rattle.lists.specs.Window.{window, splice}
 use Rattle.lists.specs.Bounds.{Disjoint}
 use Rattle.lists.proofs.Bounds.{disjoint-cases}
 use Rattle.lists.proofs.Window.{length-splice, window-splice-same, window-splice-before, window-splice-after, splice-cover, splice-splice, splice-append}
+pub use Rattle.lists.specs.Frame.{Kept}
 
 module _ {A : Type 0} where
   -- w₁ is w with the n elements vs written from index `at`. As a record it shows its arguments, so laws that take one need no others
@@ -36,11 +37,6 @@ module _ {A : Type 0} where
   pub wrote-long : {at n : ℕ} {vs w w₁ : List A} → Wrote at n vs w w₁ → length w₁ ≡ length w
   wrote-long {at} {n} {vs} {w} t = ap length (t .is) ∙ length-splice at vs w
 
-  -- w is w₀ but for the n elements from p on: with those set to z the two are equal
-  pub record Kept (p n : ℕ) (z : A) (w₀ w : List A) : Type 0 where
-    pub outside : splice p (replicate n z) w ≡ splice p (replicate n z) w₀
-    pub long : length w ≡ length w₀
-
   pub kept-all : (p n : ℕ) (z : A) (w : List A) → Kept p n z w w
   kept-all p n z w = record { outside = refl; long = refl }
 
@@ -51,6 +47,16 @@ module _ {A : Type 0} where
         outside = ap (splice p (replicate q z)) (t .is) ∙ splice-cover p at (replicate q z) vs w a (omega arith) ∙ k .outside;
         long = wrote-long t ∙ k .long;
       }
+
+  -- one after the other
+  pub kept-on : {p n : ℕ} {z : A} {w₀ w w₁ : List A} → Kept p n z w₀ w → Kept p n z w w₁ → Kept p n z w₀ w₁
+  kept-on a b = record { outside = b .outside ∙ a .outside; long = b .long ∙ a .long }
+
+  -- a window outside is as it was
+  pub kept-window : {p n : ℕ} {z : A} {w₀ w : List A} → Kept p n z w₀ w → (q m : ℕ) → Disjoint p n q m → window q m w ≡ window q m w₀
+  kept-window {p} {n} {z} {w₀} {w} k q m apart =
+      let lz = length-replicate n z in
+      sym (untouched (wrote p n (replicate n z) w _ lz refl) q m apart) ∙ ap (window q m) (k .outside) ∙ untouched (wrote p n (replicate n z) w₀ _ lz refl) q m apart
 
   -- all of the part that may differ is written: the same as in w₀
   pub kept-over : {p q : ℕ} {z : A} {w₀ w : List A} → Kept p q z w₀ w → (vs : List A) → length vs ≡ q → splice p vs w ≡ splice p vs w₀

@@ -6,17 +6,16 @@ use Prim.Native.Nat.{ℕ, zero, suc, _+_, _-_, _≤_, _<_, suc-le-suc}
 use native.Mathlib.Omega.{arith}
 use native.Mathlib.Numerals.{add-one}
 use native.Mathlib.Nat.{suc-add, zero-add, suc-inj, le-refl, le-antisymm}
-use mathlib.Core.Bool.{cond}
-use lib.Dec.{ltb}
-use lib.ListN.{length, getD, set, take, drop, replicate, length-set, length-replicate, getD-replicate}
-use lib.Seq.{ext-getD}
-use borrow.Author.Tests.{lt-ltb, le-ltb}
+use lib.ListN.{length, getD, set, take, drop, replicate, length-set}
 use mathlib.Core.Logic.{_⊎_, ⊎-elim}
+use mathlib.Core.Bool.{cond}
+use lib.Dec.{ltb, leb·suc-zero, leb·suc-suc}
+use borrow.Author.Tests.{lt-ltb}
 use Rattle.lists.specs.Loop.{iter, tabulate, zipWith}
-use Rattle.lists.specs.Window.{window, splice}
+use Rattle.lists.specs.Window.{window, splice, over}
 use Rattle.lists.specs.Bounds.{Disjoint, Apart}
-use Rattle.lists.proofs.Bounds.{disjoint-cases, lt-or-le}
-use Rattle.lists.proofs.Window.{splice-more, splice-snoc, splice-nil, getD-window, length-window, length-splice, getD-splice-in, getD-splice-after, getD-splice-before, splice-whole, window-splice-before, window-splice-after}
+use Rattle.lists.proofs.Bounds.{disjoint-cases}
+use Rattle.lists.proofs.Window.{splice-more, splice-snoc, splice-nil, getD-window, length-window, length-splice, getD-splice-after, getD-splice-before, splice-whole, window-splice-before, window-splice-after}
 
 module _ {A : Type 0} where
   pub iter-none : (step : ℕ → A → A) (a : A) → iter step 0 a ≡ a
@@ -120,6 +119,10 @@ module _ {A : Type 0} where
   read-apart {p} h q n k d apart l m =
       ⊎-elim (λ (g : p + n ≤ q). read-after h (q + k) d (omega arith)) (λ (g : q + n ≤ p). read-before h (q + k) d (omega arith)) (disjoint-cases p n q n apart)
 
+  -- the same by the window's index
+  pub read-window : {p i : ℕ} {f : ℕ → A} {w₀ w : List A} → Filled p i f w₀ w → (n k : ℕ) (d : A) → i ≤ k → k < n → getD (window p n w) k d ≡ getD (window p n w₀) k d
+  read-window {p} {i} {f} {w₀} {w} h n k d l m = getD-window p n w k d m ∙ read-after h (p + k) d (omega arith) ∙ sym (getD-window p n w₀ k d m)
+
   -- a window that shares no place with the n that are written is as it was
   pub window-disjoint : {p i : ℕ} {f : ℕ → A} {w₀ w : List A} → Filled p i f w₀ w → (n q m : ℕ) → Disjoint p n q m → i ≤ n → window q m w ≡ window q m w₀
   window-disjoint {p} {i} {f} {w₀} {w} h n q m apart l =
@@ -171,20 +174,15 @@ module _ {A : Type 0} where
   replicate-tabulate zero a = refl
   replicate-tabulate (suc n) a = ap (λ (r : List A). a ∷ r) (replicate-tabulate n a)
 
--- an array of m places that starts at z, with its first d places written
-pub partly-filled : {A : Type 0} (m d : ℕ) (f : ℕ → A) (z : A) → d ≤ m → splice 0 (tabulate d f) (replicate m z) ≡ tabulate m (λ k. cond (ltb k d) (f k) z)
-partly-filled {A} m d f z h =
-    ext-getD z (splice 0 (tabulate d f) (replicate m z)) (tabulate m (λ k. cond (ltb k d) (f k) z))
-    (length-splice 0 (tabulate d f) (replicate m z) ∙ length-replicate m z ∙ sym (length-tabulate m (λ k. cond (ltb k d) (f k) z)))
-    (λ k l.
-    let few : k < m = rw (length-splice 0 (tabulate d f) (replicate m z), length-replicate m z) at l in
-    here k few ∙ sym (getD-tabulate m (λ i. cond (ltb i d) (f i) z) k z few))
-  where
-    here : (k : ℕ) → k < m → getD (splice 0 (tabulate d f) (replicate m z)) k z ≡ cond (ltb k d) (f k) z
-    here k l = ⊎-elim
-        (λ (g : k < d). ap (λ (i : ℕ). getD (splice 0 (tabulate d f) (replicate m z)) i z) (sym (zero-add k)) ∙ getD-splice-in 0 (tabulate d f) (replicate m z) k z (rw length-tabulate g) (rw length-replicate (omega arith)) ∙ getD-tabulate d f k z g ∙ rw (lt-ltb k d g))
-        (λ (g : d ≤ k). getD-splice-after 0 (tabulate d f) (replicate m z) k z (rw length-tabulate (omega arith)) ∙ getD-replicate m k z z l ∙ rw (le-ltb k d g))
-        (lt-or-le k d)
+  -- the first i places written, the others as they were filled
+  pub front-filled : (n i : ℕ) (f : ℕ → A) (z : A) → i ≤ n → splice 0 (tabulate i f) (replicate n z) ≡ tabulate n (λ k. cond (ltb k i) (f k) z)
+  unfolding tabulate splice over
+  front-filled n zero f z h =
+      fill-start 0 f (replicate n z) ∙ replicate-tabulate n z ∙ tabulate-ext n (λ k. z) (λ k. cond (ltb k 0) (f k) z) (λ k l. rw (leb·suc-zero k))
+  front-filled zero (suc i) f z h = absurd (omega arith)
+  front-filled (suc n) (suc i) f z h =
+      rw (lt-ltb 0 (suc i) (omega arith))
+      (ap (λ (r : List A). f 0 ∷ r) (front-filled n i (λ k. f (suc k)) z (omega arith) ∙ tabulate-ext n (λ k. cond (ltb k i) (f (suc k)) z) (λ k. cond (ltb (suc k) (suc i)) (f (suc k)) z) (λ k l. rw (leb·suc-suc (suc k) i))))
 
 -- map g, by the index
 pub map-tabulate : {A B : Type 0} (g : A → B) (xs : List A) (d : A) → map g xs ≡ tabulate (length xs) (λ k. g (getD xs k d))

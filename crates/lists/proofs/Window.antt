@@ -10,7 +10,7 @@ use native.Mathlib.Numerals.{add-one}
 use native.Mathlib.Nat.{suc-add, zero-add, suc-inj, add-sub-cancel-left}
 use lib.ListN.{length, getD, set, take, drop, length-set, length-take, length-drop}
 use Rattle.lists.specs.Window.{window, over, splice}
-use lib.Seq.{length-take-le, getD-take, getD-drop, ext-getD, drop-drop}
+use lib.Seq.{take-take, length-take-le, getD-take, getD-drop, ext-getD, drop-drop}
 
 module _ {A : Type 0} where
   -- what `&w[at..at + len]` lends
@@ -34,6 +34,18 @@ module _ {A : Type 0} where
   pub length-window : (at len : ℕ) (w : List A) → at + len ≤ length w → length (window at len w) ≡ len
   unfolding window
   length-window at len w h = length-take-le len (drop at w) (simp length-drop (omega arith))
+
+  -- ---- a window of a window
+  window-take : (at len n : ℕ) (w : List A) → at + len ≤ n → window at len (take n w) ≡ window at len w
+  unfolding window
+  window-take zero len n w h = take-take len n w (omega arith)
+  window-take (suc a) len zero w h = absurd (omega arith)
+  window-take (suc a) len (suc n) [] h = refl
+  window-take (suc a) len (suc n) (x ∷ w) h = window-take a len n w (omega arith)
+
+  pub window-window : (p n at len : ℕ) (w : List A) → at + len ≤ n → window at len (window p n w) ≡ window (p + at) len w
+  unfolding window
+  window-window p n at len w h = window-take at len n (drop p w) h ∙ rw (drop-drop at p w)
 
   -- ---- a load
   pub getD-window : (at len : ℕ) (w : List A) (k : ℕ) (d : A) → k < len → getD (window at len w) k d ≡ getD w (at + k) d

@@ -1,6 +1,7 @@
 -- Lists by index, windows of a list, and searches.
 pub mod Loop
 pub mod Window
+pub mod Frame
 pub mod Bounds
 pub mod Find
 pub mod Greatest

@@ -1,3 +1,4 @@
 -- The augmented operator, and Taylor sweeps with it.
 pub mod Augmented
 pub mod Sweeps
+pub mod Laid

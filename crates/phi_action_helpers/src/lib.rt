@@ -1,4 +1,19 @@
-// Taylor sweeps with the augmented operator [tau G, W; 0, J].
+// The augmented operator [tau G, W; 0, J], and Taylor sweeps with it.
+ghost use mathlib.Core.Path.{_≡_};
+ghost use Prim.Native.Nat.{ℕ, _+_, _*_, _≤_, _<_};
+ghost use lib.ListN.{length, getD};
+ghost use Rattle.lists.specs.Loop.{tabulate};
+ghost use Rattle.lists.specs.Window.{window, splice};
+ghost use Rattle.lists.specs.Bounds.{Apart};
+ghost use Rattle.doubles.specs.F64.{at};
+ghost use Rattle.phi_action_helpers.specs.Augmented.{scalars, coupled, generator-term, chain-term, bottom, aug-matvec};
+ghost use Rattle.general_operator.specs.Csr.{apply-generator};
+ghost use Rattle.phi_action_helpers.specs.Laid.{matrix-at, operator-at, Laid, Lined, horner-at, swept-at};
+ghost use Rattle.lists.specs.Loop.{iter, zipWith};
+ghost use Rattle.lists.specs.Frame.{Kept};
+ghost use Rattle.doubles.specs.F64.{if_then_else_, _⊕_, +0};
+ghost use Rattle.vectors.specs.Vectors.{scale};
+ghost use Rattle.phi_action_helpers.specs.Sweeps.{shifted, scales, horner-step, aug-horner-outer, rescale, sweep, run-sweeps};
 
 // The schedule: s sweeps of degree m, and the shift mu, 0 for none.
 pub struct SweepPlan {
@@ -22,13 +37,298 @@ pub struct Coupling {
     pub count: usize,
 }
 
-// Where things lie in the working memory: the field y and the term w of n + d values each, G w of n values, and with a mass the quotients.
+// Where a product's operands lie in the working memory: n + d values from w, G w of n values from av, and with a mass the quotients from q.
 pub struct Layout {
     pub n: usize,
     pub d: usize,
-    pub y: usize,
     pub w: usize,
     pub av: usize,
     pub q: usize,
-    pub with_mass: bool,
+    pub mass: bool,
+}
+
+// The factor of each column, from the chain c.
+fn scalars(gains: [f64; 3], count: usize, one: f64, c: &[f64]) -> [f64; 3]
+    requires { ⌜ (count ≤ 3) × (count ≤ length (now c)) ⌝ }
+    ensures { λ r. ⌜ r ≡ scalars gains count one (now (c .entry)) ⌝ }
+{
+    let mut r = [0.0; 3];
+    for j in 0..count {
+        r[j] = gains[j] * c[j] * one;
+    }
+    r
+}
+
+// acc and the columns' share of row i.
+fn coupled(
+    vectors: &[f64],
+    places: [usize; 3],
+    scalars: [f64; 3],
+    count: usize,
+    i: usize,
+    acc: f64,
+) -> f64
+    requires { ⌜ (count ≤ 3) × ((j : ℕ) → j < count → getD places j 0 + i < length (now vectors)) ⌝ }
+    ensures { λ r. ⌜ r ≡ coupled (now (vectors .entry)) places count scalars i acc ⌝ }
+{
+    let mut a = acc;
+    for j in 0..count {
+        let p = places[j];
+        a = a + scalars[j] * vectors[p + i];
+    }
+    a
+}
+
+// The generator's share of a row.
+fn generator_term(k: Scales, av: f64, u: f64) -> f64
+    ensures { λ r. ⌜ r ≡ generator-term k av u ⌝ }
+{
+    if k.shifted {
+        k.tau * av - k.mu * u
+    } else {
+        k.tau * av
+    }
+}
+
+// work[w + i] becomes row i of the product: work[av + i] is row i of G w.
+fn top_in(
+    vectors: &[f64],
+    places: [usize; 3],
+    sc: [f64; 3],
+    count: usize,
+    k: Scales,
+    work: &mut [f64],
+    w: usize,
+    av: usize,
+    n: usize,
+)
+    requires { ⌜ (count ≤ 3) × ((j : ℕ) → j < count → getD places j 0 + n ≤ length (now vectors)) ⌝ }
+    requires { ⌜ (w + n ≤ length (now work)) × (av + n ≤ length (now work)) ⌝ }
+    requires { ⌜ Apart w av n ⌝ }
+    ensures { λ _. ⌜ now (work .exit) ≡ splice w (tabulate n (λ i. coupled (now (vectors .entry)) places count sc i (generator-term k (at (now (work .entry)) (av + i)) (at (now (work .entry)) (w + i))))) (now (work .entry)) ⌝ }
+{
+    for i in 0..n {
+        let t = generator_term(k, work[av + i], work[w + i]);
+        work[w + i] = coupled(vectors, places, sc, count, i, t);
+    }
+}
+
+// Value i of the product's chain.
+fn chain_term(k: Scales, c: &[f64], i: usize) -> f64
+    requires { ⌜ i < length (now c) ⌝ }
+    ensures { λ r. ⌜ r ≡ chain-term k (length (now (c .entry))) (now (c .entry)) i ⌝ }
+{
+    if i + 1 < c.len() {
+        if k.shifted {
+            k.one * c[i + 1] - k.mu * c[i]
+        } else {
+            k.one * c[i + 1]
+        }
+    } else if k.shifted {
+        -(k.mu * c[i])
+    } else {
+        0.0
+    }
+}
+
+// The d values of the chain from c, in place: ascending, so that each reads old places only.
+fn chain_in(work: &mut [f64], c: usize, d: usize, k: Scales)
+    requires { ⌜ c + d ≤ length (now work) ⌝ }
+    ensures { λ _. ⌜ now (work .exit) ≡ splice c (bottom k d (window c d (now (work .entry)))) (now (work .entry)) ⌝ }
+{
+    let end = c + d;
+    for i in 0..d {
+        let v = chain_term(k, &work[c..end], i);
+        work[c + i] = v;
+    }
+}
+
+// One product with the operator, in place: `aug_matvec_inplace` of the Rust, and with k.shifted `aug_matvec_shifted`.
+pub fn aug_matvec(
+    starts: &[u32],
+    cols: &[u32],
+    vals: &[f64],
+    vectors: &[f64],
+    work: &mut [f64],
+    l: Layout,
+    b: Coupling,
+    k: Scales,
+)
+    requires { ⌜ Laid l b (matrix-at l (now starts) (now cols) (now vals) (now work)) (length (now vals)) (length (now vectors)) (length (now work)) ⌝ }
+    ensures { λ _. ⌜ now (work .exit) ≡ splice (l .w) (aug-matvec (operator-at l b (matrix-at l (now (starts .entry)) (now (cols .entry)) (now (vals .entry)) (now (work .entry))) (now (vectors .entry))) k (window (l .w) (l .n + l .d) (now (work .entry)))) (splice (l .av) (apply-generator (matrix-at l (now (starts .entry)) (now (cols .entry)) (now (vals .entry)) (now (work .entry))) (window (l .w) (l .n) (now (work .entry)))) (now (work .entry))) ⌝ }
+{
+    let n = l.n;
+    let d = l.d;
+    let w = l.w;
+    let av = l.av;
+    let chain = w + n;
+    let end = chain + d;
+    let places = b.places;
+    let gains = b.gains;
+    let count = b.count;
+    csr_matvec::apply_generator(starts, cols, vals, l.mass, work, l.q, w, av, n);
+    let sc = scalars(gains, count, k.one, &work[chain..end]);
+    top_in(vectors, places, sc, count, k, work, w, av, n);
+    chain_in(work, chain, d, k);
+}
+
+// The scalars of term j.
+fn scales_of(tau: f64, p: SweepPlan, j: u32) -> Scales
+    ensures { λ r. ⌜ r ≡ scales tau p j ⌝ }
+{
+    let js = (j as f64) * (p.s as f64);
+    Scales {
+        shifted: p.mu != 0.0,
+        tau: tau / js,
+        one: 1.0 / js,
+        mu: p.mu / js,
+    }
+}
+
+// work[y + i] = work[y + i] + work[w + i]
+fn add_in(work: &mut [f64], y: usize, w: usize, len: usize)
+    requires { ⌜ (y + len ≤ length (now work)) × (w + len ≤ length (now work)) ⌝ }
+    requires { ⌜ Apart y w len ⌝ }
+    ensures { λ _. ⌜ now (work .exit) ≡ splice y (zipWith _⊕_ (window y len (now (work .entry))) (window w len (now (work .entry)))) (now (work .entry)) ⌝ }
+{
+    for i in 0..len {
+        work[y + i] = work[y + i] + work[w + i];
+    }
+}
+
+// Term k + 1: it takes the place of the last one and is added to the field. The products with the generator are counted.
+fn horner_step(
+    starts: &[u32],
+    cols: &[u32],
+    vals: &[f64],
+    vectors: &[f64],
+    work: &mut [f64],
+    l: Layout,
+    b: Coupling,
+    tau: f64,
+    p: SweepPlan,
+    k: u32,
+    applied: u64,
+) -> u64
+    requires { ⌜ Laid l b (matrix-at l (now starts) (now cols) (now vals) (now work)) (length (now vals)) (length (now vectors)) (length (now work)) ⌝ }
+    requires { ⌜ Lined l × (k < p .m) × (applied ≤ k) ⌝ }
+    ensures { λ r. ⌜ horner-at l r (now (work .exit)) ≡ horner-step (operator-at l b (matrix-at l (now (starts .entry)) (now (cols .entry)) (now (vals .entry)) (now (work .entry))) (now (vectors .entry))) tau p k (horner-at l applied (now (work .entry))) ⌝ }
+    ensures { λ _. ⌜ Kept 0 (l .q) +0 (now (work .entry)) (now (work .exit)) ⌝ }
+{
+    let s = scales_of(tau, p, k + 1);
+    aug_matvec(starts, cols, vals, vectors, work, l, b, s);
+    let w = l.w;
+    let len = l.n + l.d;
+    add_in(work, 0, w, len);
+    applied + 1
+}
+
+// All m terms.
+fn terms(
+    starts: &[u32],
+    cols: &[u32],
+    vals: &[f64],
+    vectors: &[f64],
+    work: &mut [f64],
+    l: Layout,
+    b: Coupling,
+    tau: f64,
+    p: SweepPlan,
+) -> u64
+    requires { ⌜ Laid l b (matrix-at l (now starts) (now cols) (now vals) (now work)) (length (now vals)) (length (now vectors)) (length (now work)) ⌝ }
+    requires { ⌜ Lined l ⌝ }
+    ensures { λ r. ⌜ horner-at l r (now (work .exit)) ≡ iter (horner-step (operator-at l b (matrix-at l (now (starts .entry)) (now (cols .entry)) (now (vals .entry)) (now (work .entry))) (now (vectors .entry))) tau p) (p .m) (horner-at l 0 (now (work .entry))) ⌝ }
+    ensures { λ _. ⌜ Kept 0 (l .q) +0 (now (work .entry)) (now (work .exit)) ⌝ }
+{
+    let m = p.m;
+    let mut applied = 0u64;
+    for k in 0..m {
+        applied = horner_step(starts, cols, vals, vectors, work, l, b, tau, p, k, applied);
+    }
+    applied
+}
+
+// One sweep: the field is the first term, and m terms are added to it.
+fn aug_horner_outer(
+    starts: &[u32],
+    cols: &[u32],
+    vals: &[f64],
+    vectors: &[f64],
+    work: &mut [f64],
+    l: Layout,
+    b: Coupling,
+    tau: f64,
+    p: SweepPlan,
+) -> u64
+    requires { ⌜ Laid l b (matrix-at l (now starts) (now cols) (now vals) (now work)) (length (now vals)) (length (now vectors)) (length (now work)) ⌝ }
+    requires { ⌜ Lined l ⌝ }
+    ensures { λ r. ⌜ horner-at l r (now (work .exit)) ≡ aug-horner-outer (operator-at l b (matrix-at l (now (starts .entry)) (now (cols .entry)) (now (vals .entry)) (now (work .entry))) (now (vectors .entry))) tau p (window 0 (l .n + l .d) (now (work .entry))) ⌝ }
+    ensures { λ _. ⌜ Kept 0 (l .q) +0 (now (work .entry)) (now (work .exit)) ⌝ }
+{
+    let w = l.w;
+    let len = l.n + l.d;
+    vectors::copy_in(work, w, 0, len);
+    terms(starts, cols, vals, vectors, work, l, b, tau, p)
+}
+
+// With a shift, work[y + i] = work[y + i] * f.
+fn rescale_in(work: &mut [f64], y: usize, len: usize, p: SweepPlan, f: f64)
+    requires { ⌜ y + len ≤ length (now work) ⌝ }
+    ensures { λ _. ⌜ now (work .exit) ≡ splice y (if shifted p then scale f (window y len (now (work .entry))) else window y len (now (work .entry))) (now (work .entry)) ⌝ }
+{
+    if p.mu != 0.0 {
+        let end = y + len;
+        vectors::scale(&mut work[y..end], f);
+    }
+}
+
+// One sweep and its rescale by f. The products with the generator are added to those made before.
+fn sweep(
+    starts: &[u32],
+    cols: &[u32],
+    vals: &[f64],
+    vectors: &[f64],
+    work: &mut [f64],
+    l: Layout,
+    b: Coupling,
+    tau: f64,
+    p: SweepPlan,
+    f: f64,
+    applied: u64,
+) -> u64
+    requires { ⌜ Laid l b (matrix-at l (now starts) (now cols) (now vals) (now work)) (length (now vals)) (length (now vectors)) (length (now work)) ⌝ }
+    requires { ⌜ Lined l × (f ≡ rescale p) × (applied + p .m ≤ 18446744073709551615) ⌝ }
+    ensures { λ r. ⌜ swept-at l r (now (work .exit)) ≡ sweep (operator-at l b (matrix-at l (now (starts .entry)) (now (cols .entry)) (now (vals .entry)) (now (work .entry))) (now (vectors .entry))) tau p (swept-at l applied (now (work .entry))) ⌝ }
+    ensures { λ _. ⌜ Kept 0 (l .q) +0 (now (work .entry)) (now (work .exit)) ⌝ }
+{
+    let made = aug_horner_outer(starts, cols, vals, vectors, work, l, b, tau, p);
+    let len = l.n + l.d;
+    rescale_in(work, 0, len, p, f);
+    applied + made
+}
+
+// s sweeps.
+pub fn run_sweeps(
+    starts: &[u32],
+    cols: &[u32],
+    vals: &[f64],
+    vectors: &[f64],
+    work: &mut [f64],
+    l: Layout,
+    b: Coupling,
+    tau: f64,
+    p: SweepPlan,
+) -> u64
+    requires { ⌜ Laid l b (matrix-at l (now starts) (now cols) (now vals) (now work)) (length (now vals)) (length (now vectors)) (length (now work)) ⌝ }
+    requires { ⌜ Lined l × (p .m ≤ 30) ⌝ }
+    ensures { λ r. ⌜ swept-at l r (now (work .exit)) ≡ run-sweeps (operator-at l b (matrix-at l (now (starts .entry)) (now (cols .entry)) (now (vals .entry)) (now (work .entry))) (now (vectors .entry))) tau p (window 0 (l .n + l .d) (now (work .entry))) ⌝ }
+    ensures { λ _. ⌜ Kept 0 (l .q) +0 (now (work .entry)) (now (work .exit)) ⌝ }
+{
+    let s = p.s;
+    let f = dense_la::dense_exp(p.mu / (s as f64));
+    let mut applied = 0u64;
+    for i in 0..s {
+        applied = sweep(starts, cols, vals, vectors, work, l, b, tau, p, f, applied);
+    }
+    applied
 }

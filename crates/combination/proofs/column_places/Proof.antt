@@ -3,7 +3,7 @@ use native.Mathlib.Omega.{arith}
 use Prim.Native.Nat.{ℕ, _-_, _*_, _≤_}
 use mathlib.Core.Path.{refl, _∙_}
 use lib.ListN.{replicate}
-use Rattle.lists.proofs.Loop.{Filled, started, turned₀, finished, partly-filled}
+use Rattle.lists.proofs.Loop.{Filled, started, turned₀, finished, front-filled}
 use Rattle.lists.proofs.Bounds.{product-within}
 use Rattle.combination.specs.Combination.{column-places}
 use Rattle.combination.proofs.column_places.Statement.{statement}
@@ -28,7 +28,7 @@ returns : tie.Need-returns Inv-loop μ-loop
 unfolding column-places
 returns c =
     let a = c .before .before .args in
-    finished (c .before .loop .inv .1) (a .d) (omega arith) (omega arith) ∙ partly-filled 3 (a .d) (λ (k : ℕ). (a .d - k) * a .n) 0 (omega arith)
+    finished (c .before .loop .inv .1) (a .d) (omega arith) (omega arith) ∙ front-filled 3 (a .d) (λ (k : ℕ). (a .d - k) * a .n) 0 (omega arith)
 
 pub column-places-spec : {M : Type 1} → statement M
 column-places-spec =

@@ -3,7 +3,7 @@ use native.Mathlib.Omega.{arith}
 use Prim.Native.Nat.{ℕ, _+_, _-_, _≤_}
 use mathlib.Core.Path.{_∙_}
 use lib.ListN.{replicate}
-use Rattle.lists.proofs.Loop.{Filled, started, turned₀, finished, partly-filled}
+use Rattle.lists.proofs.Loop.{Filled, started, turned₀, finished, front-filled}
 use Rattle.lists.proofs.Bounds.{column-within}
 use Rattle.doubles.specs.F64.{_⊗_, 1f}
 use Rattle.combination.specs.Combination.{gain, scaled-gains}
@@ -29,7 +29,7 @@ returns : tie.Need-returns Inv-loop μ-loop
 unfolding scaled-gains
 returns c =
     let a = c .before .before .before .args in
-    finished (c .before .loop .inv .1) (a .d) (omega arith) (omega arith) ∙ partly-filled 3 (a .d) (λ (k : ℕ). gain (a .n) (a .w .now) (a .tau) (a .d - k) ⊗ a .eta) 1f (omega arith)
+    finished (c .before .loop .inv .1) (a .d) (omega arith) (omega arith) ∙ front-filled 3 (a .d) (λ (k : ℕ). gain (a .n) (a .w .now) (a .tau) (a .d - k) ⊗ a .eta) 1f (omega arith)
 
 pub scaled-gains-spec : {M : Type 1} → statement M
 scaled-gains-spec =

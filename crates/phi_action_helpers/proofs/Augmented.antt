@@ -1,0 +1,79 @@
+-- What the parts of a product read. Assumes nothing.
+use mathlib.Core.Path.{_≡_, refl, sym, ap, _∙_}
+use mathlib.Core.Logic.{_⊎_, ⊎-elim}
+use mathlib.Core.List.{List, _++_}
+use Prim.Native.Nat.{ℕ, _+_, _≤_, _<_}
+use native.Mathlib.Omega.{arith}
+use borrow.Author.Tests.{lt-ltb, le-ltb}
+use lib.ListN.{length, length-append}
+use lib.Ieee.{Float, nan}
+use native.Mathlib.Nat.{add-zero}
+use Rattle.lists.specs.Bounds.{Disjoint}
+use Rattle.lists.specs.Loop.{tabulate}
+use Rattle.lists.specs.Window.{window, splice}
+use Rattle.lists.proofs.Bounds.{lt-or-le, part-apart}
+use Rattle.lists.proofs.Loop.{tabulate-ext, length-tabulate}
+use Rattle.lists.proofs.Window.{getD-window, window-window, splice-append, splice-comm}
+use Rattle.lists.proofs.Frame.{wrote, written, untouched}
+use Rattle.doubles.specs.F64.{at}
+use Rattle.general_operator.specs.Csr.{apply-generator}
+use Rattle.general_operator.proofs.Rows.{length-apply}
+use Rattle.phi_action_helpers.specs.declared.Scales.{Scales}
+use Rattle.phi_action_helpers.specs.Augmented.{Augmented, scalars, coupled, generator-term, chain-term, top, bottom, aug-matvec}
+
+-- value i of a chain's product reads the places i and i + 1 only
+pub chain-reads : (k : Scales) (d : ℕ) (c c₀ : List Float) (i : ℕ) → at c i ≡ at c₀ i → (i + 1 < d → at c (i + 1) ≡ at c₀ (i + 1)) → chain-term k d c i ≡ chain-term k d c₀ i
+unfolding chain-term
+chain-reads k d c c₀ i e n =
+    ⊎-elim (λ (g : i + 1 < d). rw (lt-ltb (i + 1) d g, e, n g)) (λ (g : d ≤ i + 1). rw (le-ltb (i + 1) d g, e)) (lt-or-le (i + 1) d)
+
+pub length-top : (b : Augmented) (k : Scales) (av u c : List Float) → length (top b k av u c) ≡ b .matrix .n
+unfolding top
+length-top b k av u c = length-tabulate (b .matrix .n) _
+
+pub length-bottom : (k : Scales) (d : ℕ) (c : List Float) → length (bottom k d c) ≡ d
+unfolding bottom
+length-bottom k d c = length-tabulate d (chain-term k d c)
+
+pub length-aug-matvec : (b : Augmented) (k : Scales) (x : List Float) → length (aug-matvec b k x) ≡ b .matrix .n + b .d
+unfolding aug-matvec
+length-aug-matvec b k x = simp (length-append, length-top, length-bottom)
+
+-- the rows as the loop over the memory makes them
+pub top-rows : (b : Augmented) (k : Scales) (w av : ℕ) (work c : List Float)
+    → tabulate (b .matrix .n) (λ i. coupled (b .vectors) (b .places) (b .count) (scalars (b .gains) (b .count) (k .one) c) i (generator-term k (at work (av + i)) (at work (w + i))))
+    ≡ top b k (window av (b .matrix .n) work) (window w (b .matrix .n) work) c
+unfolding top
+top-rows b k w av work c =
+    let n = b .matrix .n in
+    tabulate-ext n _ _ (λ i h. rw (getD-window av n work i nan h, getD-window w n work i nan h))
+
+-- the four steps of a product, in one
+pub product : (b : Augmented) (k : Scales) (w av : ℕ) (sc w₀ w₁ w₂ w₃ : List Float)
+    → w + (b .matrix .n + b .d) ≤ length w₀
+    → av + b .matrix .n ≤ length w₀
+    → Disjoint w (b .matrix .n + b .d) av (b .matrix .n)
+    → w₁ ≡ splice av (apply-generator (b .matrix) (window w (b .matrix .n) w₀)) w₀
+    → sc ≡ scalars (b .gains) (b .count) (k .one) (window (w + b .matrix .n) (b .d) w₁)
+    → w₂ ≡ splice w (tabulate (b .matrix .n) (λ i. coupled (b .vectors) (b .places) (b .count) sc i (generator-term k (at w₁ (av + i)) (at w₁ (w + i))))) w₁
+    → w₃ ≡ splice (w + b .matrix .n) (bottom k (b .d) (window (w + b .matrix .n) (b .d) w₂)) w₂
+    → w₃ ≡ splice w (aug-matvec b k (window w (b .matrix .n + b .d) w₀)) (splice av (apply-generator (b .matrix) (window w (b .matrix .n) w₀)) w₀)
+unfolding aug-matvec
+product b k w av sc w₀ w₁ w₂ w₃ fw fav apart e₁ es e₂ e₃ =
+    let n = b .matrix .n in
+    let d = b .d in
+    let x = window w (n + d) w₀ in
+    let u : window 0 n x ≡ window w n w₀ = window-window w (n + d) 0 n w₀ (omega arith) ∙ rw (add-zero w) in
+    let c : window n d x ≡ window (w + n) d w₀ = window-window w (n + d) n d w₀ (omega arith) in
+    let t₁ = wrote av n _ w₀ w₁ (length-apply (b .matrix) _) e₁ in
+    let u₁ : window w n w₁ ≡ window 0 n x = untouched t₁ w n (part-apart w (n + d) av n w n apart (omega arith) (omega arith)) ∙ sym u in
+    let c₁ : window (w + n) d w₁ ≡ window n d x = untouched t₁ (w + n) d (part-apart w (n + d) av n (w + n) d apart (omega arith) (omega arith)) ∙ sym c in
+    let av₁ : window av n w₁ ≡ apply-generator (b .matrix) (window 0 n x) = written t₁ fav ∙ ap (apply-generator (b .matrix)) (sym u) in
+    let T = top b k (apply-generator (b .matrix) (window 0 n x)) (window 0 n x) (window n d x) in
+    let B = bottom k d (window n d x) in
+    let e₂′ : w₂ ≡ splice w T w₁ = e₂ ∙ rw (es, top-rows b k w av w₁ (window (w + n) d w₁), u₁, c₁, av₁) in
+    let lT : length T ≡ n = length-top b k _ _ _ in
+    let t₂ = wrote w n T w₁ w₂ lT e₂′ in
+    let c₂ : window (w + n) d w₂ ≡ window n d x = untouched t₂ (w + n) d (omega arith) ∙ c₁ in
+    let e₃′ : w₃ ≡ splice (w + n) B (splice w T w₁) = e₃ ∙ rw (c₂, e₂′) in
+    e₃′ ∙ sym (splice-comm w (w + n) T B w₁ (omega arith)) ∙ ap (λ (m : ℕ). splice w T (splice (w + m) B w₁)) (sym lT) ∙ sym (splice-append w T B w₁) ∙ ap (splice w (T ++ B)) e₁

@@ -1,0 +1,14 @@
+-- `phi_action_helpers::scales_of` meets its contract. Assumes nothing.
+use mathlib.Core.Path.{refl}
+use lib.Ieee.{ne}
+use borrow.Author.Needs.{needs}
+use Rattle.phi_action_helpers.specs.Sweeps.{scales}
+use Rattle.phi_action_helpers.proofs.scales_of.Statement.{statement}
+use Rattle.phi_action_helpers.proofs.scales_of.Tie as tie
+
+returns : tie.Need-returns
+unfolding scales ne
+returns c = refl
+
+pub scales-of-spec : {M : Type 1} → statement M
+scales-of-spec = tie.close (tie.spec (λ c. search needs) (λ c. search needs) returns)

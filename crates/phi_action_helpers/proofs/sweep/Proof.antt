@@ -1,0 +1,23 @@
+-- `phi_action_helpers::sweep` meets its contract. Assumes nothing.
+use native.Mathlib.Omega.{arith}
+use borrow.Author.Needs.{needs}
+use Rattle.phi_action_helpers.proofs.Sweeps.{made-is, rescaled}
+use Rattle.phi_action_helpers.proofs.sweep.Statement.{statement}
+use Rattle.phi_action_helpers.proofs.sweep.Tie as tie
+
+add-result : tie.Need-add-result
+add-result c =
+    let start = c .before .before .before .before .before .before .before .before .before .before .before .before .before .before in
+    omega (arith, made-is (start .args .l) _ _ _ _ _ _ (c .before .before .before .before .before .before .before .aug-horner-outer .ensures .0), start .pre)
+
+returns : tie.Need-returns
+returns c =
+    let start = c .before .before .before .before .before .before .before .before .before .before .before .before .before .before in
+    let pre = start .pre in
+    let made = c .before .before .before .before .before .before .before .aug-horner-outer in
+    rescaled _ _ _ _ _ (made .result) _ (start .args .work .now) _ _ (pre .1 .0) (pre .0 .av-in) (pre .1 .1) (made .ensures .0) (made .ensures .1) (c .before .before .rescale-in .ensures)
+
+pub sweep-spec : {M : Type 1} → statement M
+sweep-spec =
+    tie.close
+    (tie.spec (λ c κs. search needs) (λ c. search needs) (λ c κs. search needs) add-result (λ c. search needs) returns)
