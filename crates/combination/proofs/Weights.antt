@@ -2,17 +2,20 @@
 use mathlib.Core.Bool.{Bool, true, false, not}
 use mathlib.Core.List.{List}
 use mathlib.Core.Path.{_≡_, refl, sym, ap, _∙_}
-use Prim.Native.Nat.{ℕ, _≤_, _<_}
+use Prim.Native.Nat.{ℕ, _*_, _≤_, _<_}
 use lib.Ieee.{Float, nan}
-use borrow.Author.Tests.{lt-ltb, le-ltb}
+use lib.Dec.{eqb, ltb}
+use borrow.Author.Tests.{lt-ltb, le-ltb, ltb-false}
 use Rattle.lists.specs.Find.{find, exists}
 use Rattle.doubles.specs.F64.{is-finite}
 use Rattle.checks.specs.First.{first}
-use Rattle.checks.proofs.First.{passes, stops, ends-sound}
+use Rattle.lists.proofs.Bounds.{product-within}
+use Rattle.checks.proofs.First.{passes, stops, ends-sound, sound-cons}
+use Rattle.general_operator.proofs.Sound.{or-false}
 use Rattle.checks.specs.declared.Checked.{Checked}
 use Rattle.checks.specs.declared.Checked.the-variants.{Sound, Refused}
 use Rattle.combination.specs.Combination.{magnitude}
-use Rattle.combination.specs.Checks.{bad-gain, magnitude-checks, bad-norm, no-row, schedule-checks}
+use Rattle.combination.specs.Checks.{count-checks, bad-gain, magnitude-checks, bad-norm, no-row, schedule-checks}
 use Rattle.phi_shift.specs.Plan.{argument}
 use Rattle.expmv.specs.Select.{select-s-m}
 use Rattle.expmv.specs.declared.Selected.{Selected}
@@ -58,3 +61,12 @@ module _ (m-max : ℕ) (norm tau : Float) {b : Bool} (e : b ≡ bad-norm norm) w
     pub ends-planned : {row : Selected} {s m : ℕ} → not t ≡ false → row ≡ select-s-m m-max arg → row ≡ Row s m → Sound ≡ first (schedule-checks m-max norm tau)
     unfolding schedule-checks
     ends-planned k l p = passes 23 _ _ (sym e ∙ g) (passes 24 _ _ (within k) (passes 25 _ _ (ap no-row (chosen l ∙ p)) ends-sound))
+
+-- ---- 12
+pub few-vectors : (count : ℕ) {r : Checked} → r ≡ Sound → r ≡ first (count-checks count) → count ≤ 4
+unfolding count-checks
+few-vectors count e f = ltb-false 4 count (or-false (eqb count 0) (ltb 4 count) (sound-cons _ _ _ _ (sym e ∙ f) .0) .1)
+
+-- the vectors lie in one slice
+pub vectors-fit : (count n : ℕ) {r : Checked} → r ≡ Sound → r ≡ first (count-checks count) → n ≤ 1000000 → count * n ≤ 4000000
+vectors-fit count n e f few = product-within 4 1000000 (few-vectors count e f) few

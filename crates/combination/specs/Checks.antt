@@ -12,7 +12,7 @@ use Rattle.doubles.specs.F64.{_⊗_, _⋖_, +0, nat, at, is-finite}
 use Rattle.checks.specs.First.{Check, refuse}
 use Rattle.general_operator.specs.Csr.{Csr}
 use Rattle.generator_action.specs.Mass.{Mass}
-use Rattle.expmv.specs.Select.{select-s-m}
+use Rattle.expmv.specs.Select.{select-s-m, M-MAX}
 use Rattle.expmv.specs.declared.Selected.{Selected}
 use Rattle.expmv.specs.declared.Selected.the-variants.{NoRow, Row}
 use Rattle.phi_shift.specs.Plan.{argument, open-Plan}
@@ -80,7 +80,23 @@ quotient-need a (some mass) = length (a .entries)
 unfoldable pub taylor-need : Csr → Mass → ℕ → ℕ
 taylor-need a mass d = 3 * a .n + 2 * d + quotient-need a mass
 
+-- ---- groups of these
+-- 12 to 17 of a combination of `count` vectors
+unfoldable pub vector-checks : ℕ → Float → ℕ → List Float → ℕ → List Check
+vector-checks n tau count w output =
+    count-checks count ++ (time-checks tau ++ (length-checks output n (length w) (count * n) ++ finite-checks w))
+
+-- 21 to 26 of a Taylor combination
+unfoldable pub sweep-checks : ℕ → Float → ℕ → List Float → Float → ℕ → ℕ → List Check
+sweep-checks n tau d w norm memory need =
+    magnitude-checks n w tau d ++ (schedule-checks M-MAX norm tau ++ memory-checks memory need)
+
+-- 13 to 26 of an action of n values
+unfoldable pub job-checks : ℕ → Float → ℕ → ℕ → ℕ → ℕ → Float → ℕ → ℕ → List Check
+job-checks k tau output wanted v n norm memory need =
+    index-checks k ++ (time-checks tau ++ (length-checks output wanted v n ++ (schedule-checks M-MAX norm tau ++ memory-checks memory need)))
+
 -- to compute: a line `unfolding open-Checks` opens every definition of this file and of those below it
 unfoldable pub open-Checks : Unit {0}
-unfolding count-checks index-checks bad-time time-checks length-checks not-finite-at finite-checks bad-gain magnitude-checks bad-norm schedule-checks memory-checks quotient-need taylor-need open-Find open-Combination open-Plan
+unfolding count-checks index-checks bad-time time-checks length-checks not-finite-at finite-checks bad-gain magnitude-checks bad-norm schedule-checks memory-checks quotient-need taylor-need vector-checks sweep-checks job-checks open-Find open-Combination open-Plan
 open-Checks = tt

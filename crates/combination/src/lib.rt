@@ -11,7 +11,7 @@ ghost use Rattle.lists.specs.Find.{find};
 ghost use Rattle.checks.specs.First.{first};
 ghost use Rattle.pow2.specs.Pow2.{sup};
 ghost use Rattle.combination.specs.Combination.{vector, gain, weighed, magnitude, eta-of, column-places, scaled-gains};
-ghost use Rattle.combination.specs.Checks.{count-checks, index-checks, bad-time, time-checks, length-checks, not-finite-at, finite-checks, bad-gain, magnitude-checks, bad-norm, schedule-checks, memory-checks};
+ghost use Rattle.combination.specs.Checks.{count-checks, index-checks, bad-time, time-checks, length-checks, not-finite-at, finite-checks, bad-gain, magnitude-checks, bad-norm, schedule-checks, memory-checks, vector-checks, sweep-checks, job-checks};
 
 // sup |w_k|
 fn sup_of(n: usize, w: &[f64], k: usize) -> f64
@@ -229,4 +229,81 @@ pub fn check_memory(memory: usize, need: usize) -> Checked
         return Checked::Refused(26, float::not_a_number());
     }
     Checked::Sound
+}
+
+// 12 to 17 of a combination.
+pub fn validate_combination(n: usize, tau: f64, count: usize, w: &[f64], output: usize) -> Checked
+    requires { ⌜ n ≤ 1000000 ⌝ }
+    ensures { λ r. ⌜ r ≡ first (vector-checks n tau count (now (w .entry)) output) ⌝ }
+{
+    let vectors = check_count(count);
+    let Checked::Sound = vectors else {
+        return vectors;
+    };
+    let time = check_time(tau);
+    let Checked::Sound = time else {
+        return time;
+    };
+    let lengths = check_lengths(output, n, w.len(), count * n);
+    let Checked::Sound = lengths else {
+        return lengths;
+    };
+    check_finite(w)
+}
+
+// 21 to 26 of a Taylor combination.
+pub fn check_sweeps(
+    n: usize,
+    tau: f64,
+    d: usize,
+    w: &[f64],
+    norm: f64,
+    memory: usize,
+    need: usize,
+) -> Checked
+    requires { ⌜ (d + 1) * n ≤ length (now w) ⌝ }
+    ensures { λ r. ⌜ r ≡ first (sweep-checks n tau d (now (w .entry)) norm memory need) ⌝ }
+{
+    let weights = check_magnitude(n, w, tau, d);
+    let Checked::Sound = weights else {
+        return weights;
+    };
+    let schedule = check_schedule(30, norm, tau);
+    let Checked::Sound = schedule else {
+        return schedule;
+    };
+    check_memory(memory, need)
+}
+
+// 13 to 26 of an action of n values.
+pub fn check_action(
+    k: usize,
+    tau: f64,
+    output: usize,
+    wanted: usize,
+    v: usize,
+    n: usize,
+    norm: f64,
+    memory: usize,
+    need: usize,
+) -> Checked
+    ensures { λ r. ⌜ r ≡ first (job-checks k tau output wanted v n norm memory need) ⌝ }
+{
+    let index = check_index(k);
+    let Checked::Sound = index else {
+        return index;
+    };
+    let time = check_time(tau);
+    let Checked::Sound = time else {
+        return time;
+    };
+    let lengths = check_lengths(output, wanted, v, n);
+    let Checked::Sound = lengths else {
+        return lengths;
+    };
+    let schedule = check_schedule(30, norm, tau);
+    let Checked::Sound = schedule else {
+        return schedule;
+    };
+    check_memory(memory, need)
 }

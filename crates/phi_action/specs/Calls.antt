@@ -25,7 +25,7 @@ use Rattle.phi_action.specs.declared.TaylorReport.{TaylorReport}
 use Rattle.phi_action.specs.declared.TaylorAnswer.{TaylorAnswer}
 use Rattle.phi_action.specs.declared.TaylorAnswer.the-variants.{Refusal, Soaked}
 use Rattle.combination.specs.Combination.{vector, eta-of, combination-operator, combination-start, action-operator, action-start}
-use Rattle.combination.specs.Checks.{count-checks, index-checks, time-checks, length-checks, finite-checks, magnitude-checks, schedule-checks, memory-checks, taylor-need, open-Checks}
+use Rattle.combination.specs.Checks.{vector-checks, sweep-checks, job-checks, taylor-need, open-Checks}
 
 -- the answer, the output and the working memory at the end
 pub record Call : Type 0 where
@@ -61,15 +61,9 @@ soaked b tau y p = let r = run-sweeps b tau p y in record { fields = window 0 (b
 -- ---- `phi_combination` of `count` vectors in one slice
 unfoldable pub combination-checks : Csr → Mass → Float → ℕ → List Float → ℕ → ℕ → List Check
 combination-checks a mass tau count w output memory =
-    let d = count - 1 in
     generator-checks a mass
-    ++ (count-checks count
-    ++ (time-checks tau
-    ++ (length-checks output (a .n) (length w) (count * a .n)
-    ++ (finite-checks w
-    ++ (magnitude-checks (a .n) w tau d
-    ++ (schedule-checks M-MAX (row-sum-norm (quotients a mass)) tau
-    ++ memory-checks memory (taylor-need a mass d)))))))
+    ++ (vector-checks (a .n) tau count w output
+    ++ sweep-checks (a .n) tau (count - 1) w (row-sum-norm (quotients a mass)) memory (taylor-need a mass (count - 1)))
 
 unfoldable pub phi-combination : Csr → Mass → Float → ℕ → List Float → List Float → List Float → Call
 phi-combination a mass tau count w output memory =
@@ -83,12 +77,7 @@ phi-combination a mass tau count w output memory =
 -- ---- `phi_action` of index k, `phi_action_batched` of the indices 0 to p
 unfoldable pub action-checks : Csr → Mass → Float → ℕ → List Float → ℕ → ℕ → ℕ → List Check
 action-checks a mass tau k v output wanted memory =
-    generator-checks a mass
-    ++ (index-checks k
-    ++ (time-checks tau
-    ++ (length-checks output wanted (length v) (a .n)
-    ++ (schedule-checks M-MAX (row-sum-norm (quotients a mass)) tau
-    ++ memory-checks memory (taylor-need a mass 3)))))
+    generator-checks a mass ++ job-checks k tau output wanted (length v) (a .n) (row-sum-norm (quotients a mass)) memory (taylor-need a mass 3)
 
 unfoldable pub phi-action : Csr → Mass → Float → ℕ → List Float → List Float → List Float → Call
 phi-action a mass tau k v output memory =

@@ -14,7 +14,7 @@ use Rattle.checks.specs.declared.Checked.the-variants.{Sound, Refused}
 use Rattle.general_operator.specs.Csr.{Csr, row-sum-norm}
 use Rattle.generator_action.specs.Mass.{Mass, quotients, generator-checks}
 use Rattle.combination.specs.Combination.{eta-of, combination-operator, combination-start}
-use Rattle.combination.specs.Checks.{count-checks, time-checks, length-checks, finite-checks, magnitude-checks, memory-checks, quotient-need}
+use Rattle.combination.specs.Checks.{vector-checks, magnitude-checks, memory-checks, quotient-need}
 use Rattle.phi_action.specs.Calls.{cleared, open-Calls}
 use Rattle.phi_krylov_arnoldi.specs.Run.{State, End, finished, refused, clamp-m, expv, open-Run}
 use Rattle.phi_krylov.specs.declared.KrylovPhiOptions.{KrylovPhiOptions}
@@ -49,14 +49,11 @@ krylov-checks a mass tau count w o output memory =
     let d = count - 1 in
     let M = dimension (a .n) d (o .m) in
     generator-checks a mass
-    ++ (count-checks count
-    ++ (time-checks tau
-    ++ (length-checks output (a .n) (length w) (count * a .n)
-    ++ (finite-checks w
+    ++ (vector-checks (a .n) tau count w output
     ++ (option-checks o M
     ++ (magnitude-checks (a .n) w tau d
     ++ (bound-checks (row-sum-norm (quotients a mass)) tau
-    ++ memory-checks memory (krylov-need a mass d M))))))))
+    ++ memory-checks memory (krylov-need a mass d M)))))
 
 pub record Call : Type 0 where
   pub answer : KrylovAnswer

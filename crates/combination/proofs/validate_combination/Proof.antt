@@ -1,0 +1,52 @@
+-- `combination::validate_combination` meets its contract. Assumes nothing.
+use borrow.Author.Needs.{needs}
+use native.Mathlib.Omega.{arith}
+use Prim.Native.Nat.{_*_, _≤_}
+use native.Mathlib.Omega.{arith}
+use Rattle.checks.proofs.First.{refused-up, sound-on}
+use Rattle.combination.proofs.Weights.{vectors-fit}
+use Rattle.combination.specs.Checks.{vector-checks}
+use Rattle.combination.proofs.validate_combination.Statement.{statement}
+use Rattle.combination.proofs.validate_combination.Tie as tie
+
+returns : tie.Need-returns
+unfolding vector-checks
+returns c = search refused-up
+
+returns-2 : tie.Need-returns-2
+unfolding vector-checks
+returns-2 c = search (sound-on, refused-up)
+
+mul-check-lengths : tie.Need-mul-check-lengths
+mul-check-lengths c =
+    let s = c .before .before .before .before .before .before .before in
+    let h : s .args .count * s .args .n ≤ 4000000 = search vectors-fit in
+    omega (arith, h)
+
+returns-3 : tie.Need-returns-3
+unfolding vector-checks
+returns-3 c = search (sound-on, refused-up)
+
+returns-4 : tie.Need-returns-4
+unfolding vector-checks
+returns-4 c = search sound-on
+
+pub validate-combination-spec : {M : Type 1} → statement M
+validate-combination-spec =
+    tie.close
+    (tie.spec
+    (λ c κs. search needs)
+    (λ c. search needs)
+    (λ c. search needs)
+    returns
+    (λ c κs. search needs)
+    (λ c. search needs)
+    (λ c. search needs)
+    returns-2
+    mul-check-lengths
+    (λ c κs. search needs)
+    (λ c. search needs)
+    (λ c. search needs)
+    returns-3
+    (λ c κs. search needs)
+    returns-4)
