@@ -94,8 +94,8 @@ module _ {l : Layout} {b : Coupling} {starts cols : List ℕ} {vals vectors : Li
       → State l b starts cols vals vectors tau p (k + 1) a′ w₀ w′
   turn {w₀ = w₀} {w = w} s e h = record { view = iter-turn _ _ _ _ _ (s .view) (rw (values-kept (l .mass) (l .q) vals w₀ w (s .kept)) at e); kept = kept-on (s .kept) h }
 
-  pub counted : {k a : ℕ} {w₀ w : List Float} → State l b starts cols vals vectors tau p k a w₀ w → a ≡ k
-  counted {k} s = ap (λ (h : Horner). h .applied) (s .view) ∙ terms-counted _ tau p k _ ∙ zero-add k
+  pub state-counted : {k a : ℕ} {w₀ w : List Float} → State l b starts cols vals vectors tau p k a w₀ w → a ≡ k
+  state-counted {k} s = ap (λ (h : Horner). h .applied) (s .view) ∙ terms-counted _ tau p k _ ∙ zero-add k
 
 -- ---- one sweep
 -- the field is the first term
@@ -156,5 +156,5 @@ module _ {l : Layout} {b : Coupling} {starts cols : List ℕ} {vals vectors : Li
       → Running l b starts cols vals vectors tau p (i + 1) a′ w₀ w′
   run-turn {w₀ = w₀} {w = w} s e h = record { view = iter-turn _ _ _ _ _ (s .view) (rw (values-kept (l .mass) (l .q) vals w₀ w (s .kept)) at e); kept = kept-on (s .kept) h }
 
-  pub run-counted : {i a : ℕ} {w₀ w : List Float} → Running l b starts cols vals vectors tau p i a w₀ w → a ≡ i * p .m
-  run-counted {i} s = ap (λ (r : Swept). r .applied) (s .view) ∙ sweeps-counted _ tau p i _ ∙ zero-add (i * p .m)
+  pub running-counted : {i a : ℕ} {w₀ w : List Float} → Running l b starts cols vals vectors tau p i a w₀ w → a ≡ i * p .m
+  running-counted {i} s = ap (λ (r : Swept). r .applied) (s .view) ∙ sweeps-counted _ tau p i _ ∙ zero-add (i * p .m)

@@ -192,7 +192,9 @@ fn add_in(work: &mut [f64], y: usize, w: usize, len: usize)
     ensures { λ _. ⌜ now (work .exit) ≡ splice y (zipWith _⊕_ (window y len (now (work .entry))) (window w len (now (work .entry)))) (now (work .entry)) ⌝ }
 {
     for i in 0..len {
-        work[y + i] = work[y + i] + work[w + i];
+        let a = work[y + i];
+        let b = work[w + i];
+        work[y + i] = a + b;
     }
 }
 
