@@ -5,7 +5,7 @@ use Prim.Native.Nat.{_+_, _-_, _≤_}
 use mathlib.Core.Path.{_≡_}
 use Rattle.lists.proofs.Bounds.{product-within}
 use Rattle.phi_action_helpers.specs.Sweeps.{rescale, run-sweeps}
-use Rattle.phi_action_helpers.proofs.Sweeps.{Running, run-began, run-turn, running-counted, laid-kept}
+use Rattle.phi_action_helpers.proofs.Sweeps.{Running, run-began, run-turn, running-counted, ready-kept}
 use Rattle.phi_action_helpers.proofs.run_sweeps.Statement.{statement}
 use Rattle.phi_action_helpers.proofs.run_sweeps.Tie as tie
 
@@ -31,7 +31,7 @@ unfolding rescale
 sweep-requires c κs =
     let t = c .before .before in
     let start = c .before .before .before .before .before .before .before .before .before .before .before in
-    (laid-kept _ _ _ (t .loop .inv .1 .kept) (start .pre .0), (start .pre .1 .0, t .before .dense-exp .ensures, fit (c .before)))
+    (ready-kept _ _ _ (start .args .vectors .now) (t .loop .inv .1 .kept) (start .pre .0), (start .pre .1 .0, t .before .dense-exp .ensures, fit (c .before)))
 
 loop-again : tie.Need-loop-again Inv-loop μ-loop
 loop-again c =
