@@ -223,7 +223,7 @@ fn horner_step(
     applied + 1
 }
 
-// All m terms.
+// The m terms.
 fn terms(
     starts: &[u32],
     cols: &[u32],
