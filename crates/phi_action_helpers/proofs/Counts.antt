@@ -4,10 +4,10 @@ use mathlib.Core.Bool.{Bool, true, false}
 use mathlib.Core.List.{List}
 use Prim.Native.Nat.{ℕ, zero, suc, _+_, _*_}
 use native.Mathlib.Omega.{arith}
-use native.Mathlib.Nat.{add-suc, add-zero, zero-add, add-comm, suc-mul}
+use native.Mathlib.Nat.{add-suc, add-zero, zero-add, suc-mul}
 use lib.ListN.{length}
 use lib.Ieee.{Float}
-use Rattle.lists.specs.Loop.{iter, zipWith}
+use Rattle.lists.specs.Loop.{iter}
 use Rattle.lists.proofs.Loop.{length-zipWith}
 use Rattle.doubles.specs.F64.{if_then_else_, _⊕_}
 use Rattle.vectors.specs.Vectors.{scale}

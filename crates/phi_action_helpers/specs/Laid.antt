@@ -1,7 +1,7 @@
 -- Where the operands of a product and of a sweep lie, and what the memory holds of a sweep. Definitions only.
 use mathlib.Core.List.{List}
 use Prim.Native.Nat.{ℕ, _+_, _≤_, _<_}
-use lib.ListN.{getD}
+use lib.ListN.{length, getD}
 use lib.Ieee.{Float}
 use Rattle.lists.specs.Bounds.{Disjoint}
 use Rattle.lists.specs.Window.{window}
@@ -16,10 +16,10 @@ use Rattle.phi_action_helpers.specs.Sweeps.{Horner, Swept}
 abbrev pub matrix-at : Layout → List ℕ → List ℕ → List Float → List Float → Csr
 matrix-at l starts cols vals work = csr (l .n) starts cols (values (l .mass) (l .q) vals work)
 
-abbrev pub operator-at : Layout → Coupling → Csr → List Float → Augmented
-operator-at l b q vectors = augmented q (l .d) vectors (b .places) (b .gains) (b .count)
+abbrev pub operator-at : Layout → Coupling → List ℕ → List ℕ → List Float → List Float → List Float → Augmented
+operator-at l b starts cols vals vectors work = augmented (matrix-at l starts cols vals work) (l .d) vectors (b .places) (b .gains) (b .count)
 
--- what a product needs: of vals, vectors and work the lengths
+-- what a product needs: the operands lie within the work, w and av apart, av apart from the quotients; of vals, vectors and work the lengths
 pub record Laid (l : Layout) (b : Coupling) (q : Csr) (vals vectors work : ℕ) : Type 0 where
   pub valid : Valid q
   pub few : b .count ≤ 3
@@ -29,6 +29,9 @@ pub record Laid (l : Layout) (b : Coupling) (q : Csr) (vals vectors work : ℕ) 
   pub av-in : l .av + l .n ≤ work
   pub apart : Disjoint (l .w) (l .n + l .d) (l .av) (l .n)
   pub stored : Stored (l .mass) (l .q) vals (l .av) (l .n) work
+
+abbrev pub Ready : Layout → Coupling → List ℕ → List ℕ → List Float → List Float → List Float → Type 0
+Ready l b starts cols vals vectors work = Laid l b (matrix-at l starts cols vals work) (length vals) (length vectors) (length work)
 
 -- a sweep's memory: the field of n + d values from 0, then the term, then G w, then the quotients
 pub record Lined (l : Layout) : Type 0 where

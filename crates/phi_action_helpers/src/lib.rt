@@ -1,19 +1,17 @@
 // The augmented operator [tau G, W; 0, J], and Taylor sweeps with it.
 ghost use mathlib.Core.Path.{_≡_};
-ghost use Prim.Native.Nat.{ℕ, _+_, _*_, _≤_, _<_};
+ghost use Prim.Native.Nat.{ℕ, _+_, _≤_, _<_};
 ghost use lib.ListN.{length, getD};
-ghost use Rattle.lists.specs.Loop.{tabulate};
+ghost use Rattle.lists.specs.Loop.{iter, tabulate, zipWith};
 ghost use Rattle.lists.specs.Window.{window, splice};
-ghost use Rattle.lists.specs.Bounds.{Apart};
-ghost use Rattle.doubles.specs.F64.{at};
-ghost use Rattle.phi_action_helpers.specs.Augmented.{scalars, coupled, generator-term, chain-term, bottom, aug-matvec};
-ghost use Rattle.general_operator.specs.Csr.{apply-generator};
-ghost use Rattle.phi_action_helpers.specs.Laid.{matrix-at, operator-at, Laid, Lined, horner-at, swept-at};
-ghost use Rattle.lists.specs.Loop.{iter, zipWith};
 ghost use Rattle.lists.specs.Frame.{Kept};
-ghost use Rattle.doubles.specs.F64.{if_then_else_, _⊕_, +0};
+ghost use Rattle.lists.specs.Bounds.{Apart};
+ghost use Rattle.doubles.specs.F64.{if_then_else_, _⊕_, +0, at};
 ghost use Rattle.vectors.specs.Vectors.{scale};
+ghost use Rattle.general_operator.specs.Csr.{apply-generator};
+ghost use Rattle.phi_action_helpers.specs.Augmented.{scalars, coupled, generator-term, chain-term, bottom, aug-matvec};
 ghost use Rattle.phi_action_helpers.specs.Sweeps.{shifted, scales, horner-step, aug-horner-outer, rescale, sweep, run-sweeps};
+ghost use Rattle.phi_action_helpers.specs.Laid.{matrix-at, operator-at, Ready, Lined, horner-at, swept-at};
 
 // The schedule: s sweeps of degree m, and the shift mu, 0 for none.
 pub struct SweepPlan {
@@ -154,8 +152,8 @@ pub fn aug_matvec(
     b: Coupling,
     k: Scales,
 )
-    requires { ⌜ Laid l b (matrix-at l (now starts) (now cols) (now vals) (now work)) (length (now vals)) (length (now vectors)) (length (now work)) ⌝ }
-    ensures { λ _. ⌜ now (work .exit) ≡ splice (l .w) (aug-matvec (operator-at l b (matrix-at l (now (starts .entry)) (now (cols .entry)) (now (vals .entry)) (now (work .entry))) (now (vectors .entry))) k (window (l .w) (l .n + l .d) (now (work .entry)))) (splice (l .av) (apply-generator (matrix-at l (now (starts .entry)) (now (cols .entry)) (now (vals .entry)) (now (work .entry))) (window (l .w) (l .n) (now (work .entry)))) (now (work .entry))) ⌝ }
+    requires { ⌜ Ready l b (now starts) (now cols) (now vals) (now vectors) (now work) ⌝ }
+    ensures { λ _. ⌜ now (work .exit) ≡ splice (l .w) (aug-matvec (operator-at l b (now (starts .entry)) (now (cols .entry)) (now (vals .entry)) (now (vectors .entry)) (now (work .entry))) k (window (l .w) (l .n + l .d) (now (work .entry)))) (splice (l .av) (apply-generator (matrix-at l (now (starts .entry)) (now (cols .entry)) (now (vals .entry)) (now (work .entry))) (window (l .w) (l .n) (now (work .entry)))) (now (work .entry))) ⌝ }
 {
     let n = l.n;
     let d = l.d;
@@ -192,7 +190,9 @@ fn add_in(work: &mut [f64], y: usize, w: usize, len: usize)
     ensures { λ _. ⌜ now (work .exit) ≡ splice y (zipWith _⊕_ (window y len (now (work .entry))) (window w len (now (work .entry)))) (now (work .entry)) ⌝ }
 {
     for i in 0..len {
-        work[y + i] = work[y + i] + work[w + i];
+        let a = work[y + i];
+        let b = work[w + i];
+        work[y + i] = a + b;
     }
 }
 
@@ -210,9 +210,9 @@ fn horner_step(
     k: u32,
     applied: u64,
 ) -> u64
-    requires { ⌜ Laid l b (matrix-at l (now starts) (now cols) (now vals) (now work)) (length (now vals)) (length (now vectors)) (length (now work)) ⌝ }
+    requires { ⌜ Ready l b (now starts) (now cols) (now vals) (now vectors) (now work) ⌝ }
     requires { ⌜ Lined l × (k < p .m) × (applied ≤ k) ⌝ }
-    ensures { λ r. ⌜ horner-at l r (now (work .exit)) ≡ horner-step (operator-at l b (matrix-at l (now (starts .entry)) (now (cols .entry)) (now (vals .entry)) (now (work .entry))) (now (vectors .entry))) tau p k (horner-at l applied (now (work .entry))) ⌝ }
+    ensures { λ r. ⌜ horner-at l r (now (work .exit)) ≡ horner-step (operator-at l b (now (starts .entry)) (now (cols .entry)) (now (vals .entry)) (now (vectors .entry)) (now (work .entry))) tau p k (horner-at l applied (now (work .entry))) ⌝ }
     ensures { λ _. ⌜ Kept 0 (l .q) +0 (now (work .entry)) (now (work .exit)) ⌝ }
 {
     let s = scales_of(tau, p, k + 1);
@@ -223,7 +223,7 @@ fn horner_step(
     applied + 1
 }
 
-// All m terms.
+// The m terms.
 fn terms(
     starts: &[u32],
     cols: &[u32],
@@ -235,9 +235,9 @@ fn terms(
     tau: f64,
     p: SweepPlan,
 ) -> u64
-    requires { ⌜ Laid l b (matrix-at l (now starts) (now cols) (now vals) (now work)) (length (now vals)) (length (now vectors)) (length (now work)) ⌝ }
+    requires { ⌜ Ready l b (now starts) (now cols) (now vals) (now vectors) (now work) ⌝ }
     requires { ⌜ Lined l ⌝ }
-    ensures { λ r. ⌜ horner-at l r (now (work .exit)) ≡ iter (horner-step (operator-at l b (matrix-at l (now (starts .entry)) (now (cols .entry)) (now (vals .entry)) (now (work .entry))) (now (vectors .entry))) tau p) (p .m) (horner-at l 0 (now (work .entry))) ⌝ }
+    ensures { λ r. ⌜ horner-at l r (now (work .exit)) ≡ iter (horner-step (operator-at l b (now (starts .entry)) (now (cols .entry)) (now (vals .entry)) (now (vectors .entry)) (now (work .entry))) tau p) (p .m) (horner-at l 0 (now (work .entry))) ⌝ }
     ensures { λ _. ⌜ Kept 0 (l .q) +0 (now (work .entry)) (now (work .exit)) ⌝ }
 {
     let m = p.m;
@@ -260,9 +260,9 @@ fn aug_horner_outer(
     tau: f64,
     p: SweepPlan,
 ) -> u64
-    requires { ⌜ Laid l b (matrix-at l (now starts) (now cols) (now vals) (now work)) (length (now vals)) (length (now vectors)) (length (now work)) ⌝ }
+    requires { ⌜ Ready l b (now starts) (now cols) (now vals) (now vectors) (now work) ⌝ }
     requires { ⌜ Lined l ⌝ }
-    ensures { λ r. ⌜ horner-at l r (now (work .exit)) ≡ aug-horner-outer (operator-at l b (matrix-at l (now (starts .entry)) (now (cols .entry)) (now (vals .entry)) (now (work .entry))) (now (vectors .entry))) tau p (window 0 (l .n + l .d) (now (work .entry))) ⌝ }
+    ensures { λ r. ⌜ horner-at l r (now (work .exit)) ≡ aug-horner-outer (operator-at l b (now (starts .entry)) (now (cols .entry)) (now (vals .entry)) (now (vectors .entry)) (now (work .entry))) tau p (window 0 (l .n + l .d) (now (work .entry))) ⌝ }
     ensures { λ _. ⌜ Kept 0 (l .q) +0 (now (work .entry)) (now (work .exit)) ⌝ }
 {
     let w = l.w;
@@ -296,9 +296,9 @@ fn sweep(
     f: f64,
     applied: u64,
 ) -> u64
-    requires { ⌜ Laid l b (matrix-at l (now starts) (now cols) (now vals) (now work)) (length (now vals)) (length (now vectors)) (length (now work)) ⌝ }
+    requires { ⌜ Ready l b (now starts) (now cols) (now vals) (now vectors) (now work) ⌝ }
     requires { ⌜ Lined l × (f ≡ rescale p) × (applied + p .m ≤ 18446744073709551615) ⌝ }
-    ensures { λ r. ⌜ swept-at l r (now (work .exit)) ≡ sweep (operator-at l b (matrix-at l (now (starts .entry)) (now (cols .entry)) (now (vals .entry)) (now (work .entry))) (now (vectors .entry))) tau p (swept-at l applied (now (work .entry))) ⌝ }
+    ensures { λ r. ⌜ swept-at l r (now (work .exit)) ≡ sweep (operator-at l b (now (starts .entry)) (now (cols .entry)) (now (vals .entry)) (now (vectors .entry)) (now (work .entry))) tau p (swept-at l applied (now (work .entry))) ⌝ }
     ensures { λ _. ⌜ Kept 0 (l .q) +0 (now (work .entry)) (now (work .exit)) ⌝ }
 {
     let made = aug_horner_outer(starts, cols, vals, vectors, work, l, b, tau, p);
@@ -319,9 +319,9 @@ pub fn run_sweeps(
     tau: f64,
     p: SweepPlan,
 ) -> u64
-    requires { ⌜ Laid l b (matrix-at l (now starts) (now cols) (now vals) (now work)) (length (now vals)) (length (now vectors)) (length (now work)) ⌝ }
+    requires { ⌜ Ready l b (now starts) (now cols) (now vals) (now vectors) (now work) ⌝ }
     requires { ⌜ Lined l × (p .m ≤ 30) ⌝ }
-    ensures { λ r. ⌜ swept-at l r (now (work .exit)) ≡ run-sweeps (operator-at l b (matrix-at l (now (starts .entry)) (now (cols .entry)) (now (vals .entry)) (now (work .entry))) (now (vectors .entry))) tau p (window 0 (l .n + l .d) (now (work .entry))) ⌝ }
+    ensures { λ r. ⌜ swept-at l r (now (work .exit)) ≡ run-sweeps (operator-at l b (now (starts .entry)) (now (cols .entry)) (now (vals .entry)) (now (vectors .entry)) (now (work .entry))) tau p (window 0 (l .n + l .d) (now (work .entry))) ⌝ }
     ensures { λ _. ⌜ Kept 0 (l .q) +0 (now (work .entry)) (now (work .exit)) ⌝ }
 {
     let s = p.s;

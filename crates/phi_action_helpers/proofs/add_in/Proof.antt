@@ -1,7 +1,7 @@
 -- `phi_action_helpers::add_in` meets its contract. Assumes nothing.
 use native.Mathlib.Omega.{arith}
 use Prim.Native.Nat.{_+_, _-_, _≤_}
-use mathlib.Core.Path.{_≡_, refl, sym, ap, _∙_}
+use mathlib.Core.Path.{_∙_}
 use lib.Ieee.{nan}
 use Rattle.lists.proofs.Loop.{Filled, started, turned, finished, read-here, read-apart, zipWith-windows}
 use Rattle.doubles.specs.F64.{_⊕_, at}
@@ -23,7 +23,7 @@ loop-again c =
     let start = s .before in
     let inv = s .loop .inv in
     let there = read-apart (inv .1) (start .args .w) (start .args .len) (s .loop .i) nan (start .pre .1) (inv .0) (omega arith) in
-    (omega arith, turned (inv .1) (cc (read-here (inv .1) nan, there)))
+    (omega arith, turned (inv .1) (λ j. read-here (inv .1) nan j ⊕ there j))
 
 returns : tie.Need-returns Inv-loop μ-loop
 returns c =

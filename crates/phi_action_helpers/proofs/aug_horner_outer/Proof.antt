@@ -1,13 +1,13 @@
 -- `phi_action_helpers::aug_horner_outer` meets its contract. Assumes nothing.
 use borrow.Author.Needs.{needs}
-use Rattle.phi_action_helpers.proofs.Sweeps.{laid-kept, copied, swept-once}
+use Rattle.phi_action_helpers.proofs.Sweeps.{ready-kept, copied, swept-once}
 use Rattle.phi_action_helpers.proofs.aug_horner_outer.Statement.{statement}
 use Rattle.phi_action_helpers.proofs.aug_horner_outer.Tie as tie
 
 terms-requires : tie.Need-terms-requires
 terms-requires c κs =
     let start = c .before .before .before .before .before .before .before .before .before .before .before in
-    (laid-kept _ _ _ (copied _ _ _ (start .pre .1) (start .pre .0 .av-in) (c .before .before .before .copy-in .ensures) .1) (start .pre .0), start .pre .1)
+    (ready-kept _ _ _ (start .args .vectors .now) (copied _ _ _ (start .pre .1) (start .pre .0 .av-in) (c .before .before .before .copy-in .ensures) .1) (start .pre .0), start .pre .1)
 
 returns : tie.Need-returns
 returns c =

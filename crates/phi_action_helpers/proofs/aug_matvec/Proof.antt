@@ -1,11 +1,9 @@
 -- `phi_action_helpers::aug_matvec` meets its contract. Assumes nothing.
 use native.Mathlib.Omega.{arith}
-use Prim.Native.Nat.{_+_, _≤_}
-use mathlib.Core.Path.{_≡_, refl, sym, ap, _∙_}
 use borrow.Author.Needs.{needs}
 use lib.ListN.{length-take, length-drop}
 use Rattle.lists.proofs.Window.{part-window}
-use Rattle.phi_action_helpers.specs.Laid.{matrix-at, operator-at}
+use Rattle.phi_action_helpers.specs.Laid.{operator-at}
 use Rattle.lists.proofs.Bounds.{part-apart}
 use Rattle.phi_action_helpers.proofs.Augmented.{product}
 use Rattle.phi_action_helpers.proofs.aug_matvec.Statement.{statement}
@@ -28,8 +26,7 @@ returns : tie.Need-returns
 returns c =
     let start = c .before .before .before .before .before .before .before .before .before .before .before .before .before .before .before .before .before .before .before .before .before .before in
     let a = start .args in
-    let q = matrix-at (a .l) (a .starts .now) (a .cols .now) (a .vals .now) (a .work .now) in
-    product (operator-at (a .l) (a .b) q (a .vectors .now)) (a .k) _ _ _ (a .work .now) _ _ _ (start .pre .w-in) (start .pre .av-in) (start .pre .apart)
+    product (operator-at (a .l) (a .b) (a .starts .now) (a .cols .now) (a .vals .now) (a .vectors .now) (a .work .now)) (a .k) _ _ _ (a .work .now) _ _ _ (start .pre .w-in) (start .pre .av-in) (start .pre .apart)
     (c .before .before .before .before .before .before .before .before .before .before .before .before .before .apply-generator .ensures)
     (rw part-window at (c .before .before .before .before .before .before .before .before .scalars .ensures))
     (c .before .before .before .before .before .before .top-in .ensures)

@@ -1,8 +1,5 @@
 -- `phi_action_helpers::generator_term` meets its contract. Assumes nothing.
 use borrow.Author.Needs.{needs}
-use native.Mathlib.Omega.{arith}
-use Prim.Native.Nat.{_+_, _-_, _≤_}
-use mathlib.Core.Path.{_≡_, refl, sym, ap, _∙_}
 use Rattle.phi_action_helpers.specs.Augmented.{generator-term}
 use Rattle.phi_action_helpers.proofs.generator_term.Statement.{statement}
 use Rattle.phi_action_helpers.proofs.generator_term.Tie as tie

@@ -5,7 +5,7 @@ use Prim.Native.Nat.{_+_, _-_, _≤_}
 use mathlib.Core.Path.{_≡_}
 use Rattle.lists.proofs.Bounds.{product-within}
 use Rattle.phi_action_helpers.specs.Sweeps.{rescale, run-sweeps}
-use Rattle.phi_action_helpers.proofs.Sweeps.{Running, run-began, run-turn, run-counted, laid-kept}
+use Rattle.phi_action_helpers.proofs.Sweeps.{Running, run-began, run-turn, running-counted, ready-kept}
 use Rattle.phi_action_helpers.proofs.run_sweeps.Statement.{statement}
 use Rattle.phi_action_helpers.proofs.run_sweeps.Tie as tie
 
@@ -24,14 +24,14 @@ fit c =
     let t = c .before in
     let start = c .before .before .before .before .before .before .before .before .before .before in
     let many = product-within {a = t .loop .i} 4294967295 30 (omega (arith, t .before .before .before .row-known .given)) (start .pre .1 .1) in
-    omega (arith, run-counted (t .loop .inv .1), many, start .pre)
+    omega (arith, running-counted (t .loop .inv .1), many, start .pre)
 
 sweep-requires : tie.Need-sweep-requires Inv-loop μ-loop
 unfolding rescale
 sweep-requires c κs =
     let t = c .before .before in
     let start = c .before .before .before .before .before .before .before .before .before .before .before in
-    (laid-kept _ _ _ (t .loop .inv .1 .kept) (start .pre .0), (start .pre .1 .0, t .before .dense-exp .ensures, fit (c .before)))
+    (ready-kept _ _ _ (start .args .vectors .now) (t .loop .inv .1 .kept) (start .pre .0), (start .pre .1 .0, t .before .dense-exp .ensures, fit (c .before)))
 
 loop-again : tie.Need-loop-again Inv-loop μ-loop
 loop-again c =

@@ -2,7 +2,7 @@
 use native.Mathlib.Omega.{arith}
 use Prim.Native.Nat.{_-_, _≤_}
 use mathlib.Core.Path.{_≡_}
-use Rattle.phi_action_helpers.proofs.Sweeps.{State, began, turn, counted, laid-kept}
+use Rattle.phi_action_helpers.proofs.Sweeps.{State, began, turn, state-counted, ready-kept}
 use Rattle.phi_action_helpers.proofs.terms.Statement.{statement}
 use Rattle.phi_action_helpers.proofs.terms.Tie as tie
 
@@ -19,7 +19,7 @@ horner-step-requires : tie.Need-horner-step-requires Inv-loop μ-loop
 horner-step-requires c κs =
     let s = c .before .before in
     let start = s .before .before .before .before .before .before in
-    (laid-kept _ _ _ (s .loop .inv .1 .kept) (start .pre .0), (start .pre .1, c .before .loop-test .taken, omega (arith, counted (s .loop .inv .1))))
+    (ready-kept _ _ _ (start .args .vectors .now) (s .loop .inv .1 .kept) (start .pre .0), (start .pre .1, c .before .loop-test .taken, omega (arith, state-counted (s .loop .inv .1))))
 
 loop-again : tie.Need-loop-again Inv-loop μ-loop
 loop-again c =

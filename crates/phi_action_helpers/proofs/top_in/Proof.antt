@@ -2,7 +2,7 @@
 use borrow.Author.Needs.{needs}
 use native.Mathlib.Omega.{arith}
 use Prim.Native.Nat.{_+_, _-_, _≤_}
-use mathlib.Core.Path.{_≡_, refl, sym, ap, _∙_}
+use mathlib.Core.Path.{_∙_}
 use lib.Ieee.{nan}
 use Rattle.lists.proofs.Loop.{Filled, started, turned, finished, read-here, read-apart}
 use Rattle.doubles.specs.F64.{at}
