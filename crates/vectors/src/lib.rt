@@ -99,3 +99,24 @@ pub fn copy_in(work: &mut [f64], to: usize, from: usize, len: usize)
         work[to + i] = work[from + i];
     }
 }
+
+// work[at + i] = +0
+pub fn clear_in(work: &mut [f64], at: usize, len: usize)
+    requires { ⌜ at + len ≤ length (now work) ⌝ }
+    ensures { λ _. ⌜ now (work .exit) ≡ splice at (replicate len +0) (now (work .entry)) ⌝ }
+{
+    for i in 0..len {
+        work[at + i] = 0.0;
+    }
+}
+
+// dst[to + i] = src[from + i]
+pub fn copy_from(dst: &mut [f64], to: usize, src: &[f64], from: usize, len: usize)
+    requires { ⌜ to + len ≤ length (now dst) ⌝ }
+    requires { ⌜ from + len ≤ length (now src) ⌝ }
+    ensures { λ _. ⌜ now (dst .exit) ≡ splice to (window from len (now (src .entry))) (now (dst .entry)) ⌝ }
+{
+    for i in 0..len {
+        dst[to + i] = src[from + i];
+    }
+}
