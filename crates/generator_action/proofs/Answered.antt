@@ -22,7 +22,7 @@ use Rattle.generator_action.specs.declared.MatrixAnswer.{MatrixAnswer}
 use Rattle.generator_action.specs.declared.MatrixAnswer.the-variants.{Refusal, Norm}
 use Rattle.generator_action.specs.Mass.{Mass, given, normalise, quotients, mass-checks, bad-sum, sum-checks, norm-checks, bound-checks, generator-checks}
 use Rattle.generator_action.specs.Answer.{unless-refused, matrix-answer, fixed}
-use Rattle.generator_action.specs.Known.{Dividing}
+use Rattle.generator_action.specs.Known.{Dividing, Divided, Accepted}
 use Rattle.generator_action.proofs.Quotients.{quotients-valid}
 use Rattle.generator_action.proofs.Ways.{mass-sound}
 
@@ -57,11 +57,6 @@ norm-finite : (a : Csr) → Sound ≡ first (norm-checks a) → is-finite (row-s
 unfolding norm-checks
 norm-finite a e = not-false _ (sound-cons _ _ _ _ e .0)
 
--- with a mass that is given
-abbrev pub Divided : Csr → Mass → Type 0
-Divided a none = Unit
-Divided a (some mass) = Dividing a mass
-
 pub given-divides : (a : Csr) (b : Bool) (mass : List Float) → b ≡ true → Divided a (given b mass) → Dividing a mass
 given-divides a true mass e d = d
 given-divides a false mass e d = absurd (true≢false (sym e))
@@ -70,15 +65,6 @@ bound-sound : (a : Csr) (mass : Mass) → Sound ≡ first (bound-checks a mass) 
 unfolding bound-checks quotients
 bound-sound a none e = (norm-finite a e, tt)
 bound-sound a (some mass) e = let s = sound-append (mass-checks a mass) (sum-checks (normalise a mass)) e in (sums-finite (normalise a mass) (s .1), mass-sound a mass (s .0))
-
--- what is known where a norm x is answered
-pub record Accepted (a : Csr) (mass : Mass) (x : Float) : Type 0 where
-  pub sound : Sound ≡ first (generator-checks a mass)
-  pub norm : x ≡ row-sum-norm (quotients a mass)
-  pub finite : is-finite x ≡ true
-  pub valid : Valid a
-  pub quotients-are : Valid (quotients a mass)
-  pub divided : Divided a mass
 
 module _ (a : Csr) (mass : Mass) {r : MatrixAnswer} (e : fixed r ≡ matrix-answer a mass) where
   pub refusal-told : {k : ℕ} {x : Float} → r ≡ Refusal k x → Refused k x ≡ first (generator-checks a mass)

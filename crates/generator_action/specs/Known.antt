@@ -1,5 +1,6 @@
 -- What the parts of `check_generator` know and answer. Definitions only.
 use mathlib.Core.Bool.{true}
+use mathlib.Core.Option.{none, some}
 use mathlib.Core.List.{List}
 use mathlib.Core.Path.{_≡_}
 use Prim.Native.Nat.{ℕ, _<_}
@@ -8,8 +9,10 @@ use lib.ListN.{length}
 use lib.Ieee.{Float}
 use Rattle.doubles.specs.F64.{_⋖_, +0, at, is-finite}
 use Rattle.checks.specs.First.{Check, first}
-use Rattle.general_operator.specs.Csr.{Csr, start, row-sum-norm}
+use Rattle.checks.specs.declared.Checked.the-variants.{Sound}
+use Rattle.general_operator.specs.Csr.{Csr, Valid, start, row-sum-norm}
 use Rattle.generator_action.specs.declared.MatrixAnswer.{MatrixAnswer}
+use Rattle.generator_action.specs.Mass.{Mass, quotients, generator-checks}
 use Rattle.generator_action.specs.Answer.{unless-refused, fixed, LargestRow}
 
 -- what 6 leaves
@@ -26,3 +29,17 @@ pub record Dividing (a : Csr) (mass : List Float) : Type 0 where
 pub record Answered (q : Csr) (checks : List Check) (r : MatrixAnswer) : Type 0 where
   pub is : fixed r ≡ unless-refused (first checks) (row-sum-norm q)
   pub row : LargestRow q r
+
+-- with a mass that is given
+abbrev pub Divided : Csr → Mass → Type 0
+Divided a none = Unit
+Divided a (some mass) = Dividing a mass
+
+-- what is known where a norm x is answered
+pub record Accepted (a : Csr) (mass : Mass) (x : Float) : Type 0 where
+  pub sound : Sound ≡ first (generator-checks a mass)
+  pub norm : x ≡ row-sum-norm (quotients a mass)
+  pub finite : is-finite x ≡ true
+  pub valid : Valid a
+  pub quotients-are : Valid (quotients a mass)
+  pub divided : Divided a mass

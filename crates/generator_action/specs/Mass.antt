@@ -35,6 +35,11 @@ unfoldable pub quotients : Csr → Mass → Csr
 quotients a none = a
 quotients a (some mass) = normalise a mass
 
+-- what the lent memory holds of them: without a mass nothing
+unfoldable pub stored : Csr → Mass → List Float
+stored a none = []
+stored a (some mass) = normalise a mass .entries
+
 -- not finite, or not above 0
 unfoldable pub bad-mass : Float → Bool
 bad-mass x = not (is-finite x) || x ⩽ +0
@@ -68,5 +73,5 @@ generator-checks a mass = matrix-checks a ++ bound-checks a mass
 
 -- to compute: a line `unfolding open-Mass` opens every definition of this file and of those below it
 unfoldable pub open-Mass : Unit {0}
-unfolding row-of normalise quotients bad-mass mass-checks bad-sum sum-checks norm-checks bound-checks generator-checks open-Checks
+unfolding row-of normalise quotients stored bad-mass mass-checks bad-sum sum-checks norm-checks bound-checks generator-checks open-Checks
 open-Mass = tt

@@ -1,7 +1,7 @@
 // The mass, the quotients and the answer to a matrix.
 use checks::Checked;
 ghost use mathlib.Core.Path.{_≡_};
-ghost use mathlib.Core.Bool.{cond};
+ghost use mathlib.Core.Bool.{true, cond};
 ghost use mathlib.Core.List.{List};
 ghost use Prim.Native.Nat.{ℕ, _+_, _-_, _≤_, _<_};
 ghost use lib.ListN.{length, getD};
@@ -13,9 +13,9 @@ ghost use Rattle.doubles.specs.F64.{_⊘_, _⋖_, at, abs};
 ghost use Rattle.doubles.specs.Sum.{sum};
 ghost use Rattle.checks.specs.First.{first};
 ghost use Rattle.general_operator.specs.Csr.{csr, Valid, size-sum};
-ghost use Rattle.generator_action.specs.Mass.{given, normalise, quotients, bad-mass, mass-checks, sum-checks, norm-checks};
+ghost use Rattle.generator_action.specs.Mass.{given, normalise, quotients, stored, bad-mass, mass-checks, sum-checks, norm-checks};
 ghost use Rattle.generator_action.specs.Answer.{matrix-answer, fixed, LargestRow};
-ghost use Rattle.generator_action.specs.Known.{Finite, Dividing, Answered};
+ghost use Rattle.generator_action.specs.Known.{Finite, Dividing, Divided, Answered};
 
 // A refusal's number and double, or the norm and a row whose sum equals it.
 pub enum MatrixAnswer {
@@ -198,5 +198,26 @@ pub fn normalise_rows(
         let from = starts[i] as usize;
         let to = starts[i + 1] as usize;
         divide_row(vals, work, q_at + from, from, to, mass[i]);
+    }
+}
+
+// With a mass, the quotients are written from q_at.
+pub fn store_quotients(
+    n: usize,
+    starts: &[u32],
+    cols: &[u32],
+    vals: &[f64],
+    with_mass: bool,
+    mass: &[f64],
+    work: &mut [f64],
+    q_at: usize,
+)
+    requires { ⌜ Valid (csr n (now starts) (now cols) (now vals)) ⌝ }
+    requires { ⌜ Divided (csr n (now starts) (now cols) (now vals)) (given «with_mass» (now mass)) ⌝ }
+    requires { ⌜ («with_mass» ≡ true → «q_at» + length (now vals) ≤ length (now work)) ⌝ }
+    ensures { λ _. ⌜ now (work .exit) ≡ splice «q_at» (stored (csr n (now (starts .entry)) (now (cols .entry)) (now (vals .entry))) (given «with_mass» (now (mass .entry)))) (now (work .entry)) ⌝ }
+{
+    if with_mass {
+        normalise_rows(starts, cols, vals, mass, work, q_at, n);
     }
 }
