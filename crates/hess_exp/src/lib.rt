@@ -118,7 +118,7 @@ fn hess_term(
 )
     requires { ⌜ Leading (now h) dim mx ⌝ }
     requires { ⌜ (length (now y) ≡ mx) × (length (now w) ≡ mx) × (length (now hw) ≡ mx) ⌝ }
-    requires { ⌜ k < 4294967295 ⌝ }
+    requires { ⌜ k < 18446744073709551615 ⌝ }
     ensures { λ _. ⌜ terms (now (y .exit)) (now (w .exit)) ≡ term-step (now (h .entry)) dim mx ts k (terms (now (y .entry)) (now (w .entry))) ⌝ }
 {
     hess_product_in(h, dim, mx, w, hw);
@@ -139,7 +139,6 @@ fn hess_sweep(
 )
     requires { ⌜ Leading (now h) dim mx ⌝ }
     requires { ⌜ (length (now y) ≡ mx) × (length (now w) ≡ mx) × (length (now hw) ≡ mx) ⌝ }
-    requires { ⌜ deg ≤ 4294967295 ⌝ }
     ensures { λ _. ⌜ now (y .exit) ≡ hess-sweep (now (h .entry)) dim mx ts deg (now (y .entry)) ⌝ }
 {
     copied_in(y, w);
@@ -162,7 +161,6 @@ fn hess_sweeps(
 )
     requires { ⌜ Leading (now h) dim mx ⌝ }
     requires { ⌜ (length (now y) ≡ mx) × (length (now w) ≡ mx) × (length (now hw) ≡ mx) ⌝ }
-    requires { ⌜ deg ≤ 4294967295 ⌝ }
     ensures { λ _. ⌜ now (y .exit) ≡ iter (λ _ v. hess-sweep (now (h .entry)) dim mx ts deg v) s (now (y .entry)) ⌝ }
 {
     for i in 0..s {
@@ -184,10 +182,19 @@ fn hess_sweeps_in(
 )
     requires { ⌜ Leading (now h) dim mx ⌝ }
     requires { ⌜ (mx ≤ length (now y)) × (mx ≤ length (now w)) × (mx ≤ length (now hw)) ⌝ }
-    requires { ⌜ deg ≤ 4294967295 ⌝ }
     ensures { λ _. ⌜ window 0 mx (now (y .exit)) ≡ iter (λ _ v. hess-sweep (now (h .entry)) dim mx ts deg v) s (window 0 mx (now (y .entry))) ⌝ }
 {
-    hess_sweeps(h, dim, mx, ts, deg, s, &mut y[..mx], &mut w[..mx], &mut hw[..mx]);
+    hess_sweeps(
+        h,
+        dim,
+        mx,
+        ts,
+        deg,
+        s,
+        &mut y[..mx],
+        &mut w[..mx],
+        &mut hw[..mx],
+    );
 }
 
 // e ^ (t H) e_1 for the leading mx rows and columns of h, which is stored in rows of dim.
@@ -202,12 +209,30 @@ pub fn hess_exp_e1(h: &[f64], dim: usize, mx: usize, t: f64) -> SmallExp
     let arg = t * column_sum_norm(h, dim, mx);
     let plan = expmv::select_s_m(30, arg);
     match plan {
-        expmv::Selected::NoRow => SmallExp { planned: false, argument: arg, column: y },
+        expmv::Selected::NoRow => SmallExp {
+            planned: false,
+            argument: arg,
+            column: y,
+        },
         expmv::Selected::Row(s, deg) => {
             y[0] = 1.0;
             let ts = t / float::count(s as usize);
-            hess_sweeps_in(h, dim, mx, ts, deg as usize, s as usize, &mut y, &mut w, &mut hw);
-            SmallExp { planned: true, argument: arg, column: y }
+            hess_sweeps_in(
+                h,
+                dim,
+                mx,
+                ts,
+                deg as usize,
+                s as usize,
+                &mut y,
+                &mut w,
+                &mut hw,
+            );
+            SmallExp {
+                planned: true,
+                argument: arg,
+                column: y,
+            }
         }
     }
 }

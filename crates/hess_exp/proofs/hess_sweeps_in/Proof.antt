@@ -18,7 +18,7 @@ slice-aggregate-hess-sweeps-3 c = sym (length-take-le _ _ (omega arith))
 
 hess-sweeps-requires : tie.Need-hess-sweeps-requires
 hess-sweeps-requires c κs = let s = c .before .before .before .before .before .before .before in
-    (s .pre .0, ((length-take-le _ _ (omega arith), length-take-le _ _ (omega arith), length-take-le _ _ (omega arith)), s .pre .1 .1))
+    (s .pre .0, (length-take-le _ _ (omega arith), length-take-le _ _ (omega arith), length-take-le _ _ (omega arith)))
 
 returns : tie.Need-returns
 unfolding window
