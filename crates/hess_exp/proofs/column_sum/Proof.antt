@@ -18,6 +18,7 @@ abbrev μ-loop : tie.MeasureT-loop
 loop-holds : tie.Need-loop-holds Inv-loop μ-loop
 loop-holds c = (omega arith, sym (sum-none _))
 
+-- the place lies within the leading rows
 inside : (c : tie.In-loop Inv-loop μ-loop) → (let a = c .before .before .before .args in c .before .loop .r * a .dim + a .c < a .mx * a .dim)
 inside c = let s = c .before .before .before in
     cell-within _ _ _ _ (c .loop-test .taken) (s .pre .1)
