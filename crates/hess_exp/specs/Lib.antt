@@ -1,1 +1,2 @@
 pub mod HessExp
+pub mod Parts

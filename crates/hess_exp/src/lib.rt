@@ -1,8 +1,238 @@
-// The first column of the exponential of a small Hessenberg matrix.
+// The first column of the exponential of a small Hessenberg matrix, by Taylor sweeps.
+ghost use mathlib.Core.Path.{_≡_};
+ghost use mathlib.Core.List.{map};
+ghost use Prim.Native.Nat.{_+_, _-_, _*_, _<_, _≤_};
+ghost use lib.ListN.{length};
+ghost use Rattle.lists.specs.Loop.{iter, zipWith};
+ghost use Rattle.lists.specs.Window.{window};
+ghost use Rattle.doubles.specs.F64.{_⊕_, _⊗_};
+ghost use Rattle.hess_exp.specs.HessExp.{column-sum-norm, hess-product, term-step, hess-sweep, hess-exp-e1};
+ghost use Rattle.hess_exp.specs.Parts.{column-sum, hess-row, terms, Leading, small-of};
 
 // Whether there was a plan; its argument; and where there was one, the column in the first places.
 pub struct SmallExp {
     pub planned: bool,
     pub argument: f64,
     pub column: [f64; 130],
+}
+
+fn column_sum(h: &[f64], dim: usize, mx: usize, c: usize) -> f64
+    requires { ⌜ Leading (now h) dim mx ⌝ }
+    requires { ⌜ c < dim ⌝ }
+    ensures { λ r. ⌜ r ≡ column-sum (now (h .entry)) dim mx c ⌝ }
+{
+    let mut s = 0.0;
+    for r in 0..mx {
+        s = s + float::abs(h[r * dim + c]);
+    }
+    s
+}
+
+fn column_sum_norm(h: &[f64], dim: usize, mx: usize) -> f64
+    requires { ⌜ Leading (now h) dim mx ⌝ }
+    ensures { λ r. ⌜ r ≡ column-sum-norm (now (h .entry)) dim mx ⌝ }
+{
+    let mut m = 0.0;
+    for c in 0..mx {
+        m = float::max(m, column_sum(h, dim, mx, c));
+    }
+    m
+}
+
+// The first column of row r.
+fn first_column(r: usize) -> usize
+    ensures { λ c. ⌜ c ≡ r - 1 ⌝ }
+{
+    if r == 0 {
+        return 0;
+    }
+    r - 1
+}
+
+fn hess_row(h: &[f64], dim: usize, mx: usize, w: &[f64], r: usize) -> f64
+    requires { ⌜ Leading (now h) dim mx ⌝ }
+    requires { ⌜ (mx ≤ length (now w)) × (r < mx) ⌝ }
+    ensures { λ s. ⌜ s ≡ hess-row (now (h .entry)) dim mx (now (w .entry)) r ⌝ }
+{
+    let from = first_column(r);
+    let base = r * dim;
+    let count = mx - from;
+    let mut s = 0.0;
+    for i in 0..count {
+        s = s + h[base + (from + i)] * w[from + i];
+    }
+    s
+}
+
+// hw = H w
+fn hess_product_in(h: &[f64], dim: usize, mx: usize, w: &[f64], hw: &mut [f64])
+    requires { ⌜ Leading (now h) dim mx ⌝ }
+    requires { ⌜ (length (now w) ≡ mx) × (length (now hw) ≡ mx) ⌝ }
+    ensures { λ _. ⌜ now (hw .exit) ≡ hess-product (now (h .entry)) dim mx (now (w .entry)) ⌝ }
+{
+    for r in 0..mx {
+        hw[r] = hess_row(h, dim, mx, w, r);
+    }
+}
+
+// w = f x
+fn scaled_in(f: f64, x: &[f64], w: &mut [f64])
+    requires { ⌜ length (now x) ≡ length (now w) ⌝ }
+    ensures { λ _. ⌜ now (w .exit) ≡ map (λ e. f ⊗ e) (now (x .entry)) ⌝ }
+{
+    for i in 0..w.len() {
+        w[i] = f * x[i];
+    }
+}
+
+// y = y + w
+fn added_in(w: &[f64], y: &mut [f64])
+    requires { ⌜ length (now w) ≡ length (now y) ⌝ }
+    ensures { λ _. ⌜ now (y .exit) ≡ zipWith _⊕_ (now (y .entry)) (now (w .entry)) ⌝ }
+{
+    for i in 0..y.len() {
+        y[i] = y[i] + w[i];
+    }
+}
+
+// w = y
+fn copied_in(y: &[f64], w: &mut [f64])
+    requires { ⌜ length (now y) ≡ length (now w) ⌝ }
+    ensures { λ _. ⌜ now (w .exit) ≡ now (y .entry) ⌝ }
+{
+    for i in 0..w.len() {
+        w[i] = y[i];
+    }
+}
+
+// Term k + 1 of a sweep; hw is room for H w.
+fn hess_term(
+    h: &[f64],
+    dim: usize,
+    mx: usize,
+    ts: f64,
+    k: usize,
+    y: &mut [f64],
+    w: &mut [f64],
+    hw: &mut [f64],
+)
+    requires { ⌜ Leading (now h) dim mx ⌝ }
+    requires { ⌜ (length (now y) ≡ mx) × (length (now w) ≡ mx) × (length (now hw) ≡ mx) ⌝ }
+    requires { ⌜ k < 18446744073709551615 ⌝ }
+    ensures { λ _. ⌜ terms (now (y .exit)) (now (w .exit)) ≡ term-step (now (h .entry)) dim mx ts k (terms (now (y .entry)) (now (w .entry))) ⌝ }
+{
+    hess_product_in(h, dim, mx, w, hw);
+    scaled_in(ts / float::count(k + 1), hw, w);
+    added_in(w, y);
+}
+
+// One sweep of degree deg.
+fn hess_sweep(
+    h: &[f64],
+    dim: usize,
+    mx: usize,
+    ts: f64,
+    deg: usize,
+    y: &mut [f64],
+    w: &mut [f64],
+    hw: &mut [f64],
+)
+    requires { ⌜ Leading (now h) dim mx ⌝ }
+    requires { ⌜ (length (now y) ≡ mx) × (length (now w) ≡ mx) × (length (now hw) ≡ mx) ⌝ }
+    ensures { λ _. ⌜ now (y .exit) ≡ hess-sweep (now (h .entry)) dim mx ts deg (now (y .entry)) ⌝ }
+{
+    copied_in(y, w);
+    for k in 0..deg {
+        hess_term(h, dim, mx, ts, k, y, w, hw);
+    }
+}
+
+// s sweeps.
+fn hess_sweeps(
+    h: &[f64],
+    dim: usize,
+    mx: usize,
+    ts: f64,
+    deg: usize,
+    s: usize,
+    y: &mut [f64],
+    w: &mut [f64],
+    hw: &mut [f64],
+)
+    requires { ⌜ Leading (now h) dim mx ⌝ }
+    requires { ⌜ (length (now y) ≡ mx) × (length (now w) ≡ mx) × (length (now hw) ≡ mx) ⌝ }
+    ensures { λ _. ⌜ now (y .exit) ≡ iter (λ _ v. hess-sweep (now (h .entry)) dim mx ts deg v) s (now (y .entry)) ⌝ }
+{
+    for i in 0..s {
+        hess_sweep(h, dim, mx, ts, deg, y, w, hw);
+    }
+}
+
+// The same on the first mx places.
+fn hess_sweeps_in(
+    h: &[f64],
+    dim: usize,
+    mx: usize,
+    ts: f64,
+    deg: usize,
+    s: usize,
+    y: &mut [f64],
+    w: &mut [f64],
+    hw: &mut [f64],
+)
+    requires { ⌜ Leading (now h) dim mx ⌝ }
+    requires { ⌜ (mx ≤ length (now y)) × (mx ≤ length (now w)) × (mx ≤ length (now hw)) ⌝ }
+    ensures { λ _. ⌜ window 0 mx (now (y .exit)) ≡ iter (λ _ v. hess-sweep (now (h .entry)) dim mx ts deg v) s (window 0 mx (now (y .entry))) ⌝ }
+{
+    hess_sweeps(
+        h,
+        dim,
+        mx,
+        ts,
+        deg,
+        s,
+        &mut y[..mx],
+        &mut w[..mx],
+        &mut hw[..mx],
+    );
+}
+
+// e ^ (t H) e_1 for the leading mx rows and columns of h, which is stored in rows of dim.
+pub fn hess_exp_e1(h: &[f64], dim: usize, mx: usize, t: f64) -> SmallExp
+    requires { ⌜ (1 ≤ mx) × (mx ≤ 130) ⌝ }
+    requires { ⌜ Leading (now h) dim mx ⌝ }
+    ensures { λ r. ⌜ small-of mx r ≡ hess-exp-e1 (now (h .entry)) dim mx t ⌝ }
+{
+    let mut y = [0.0; 130];
+    let mut w = [0.0; 130];
+    let mut hw = [0.0; 130];
+    let arg = t * column_sum_norm(h, dim, mx);
+    let plan = expmv::select_s_m(30, arg);
+    match plan {
+        expmv::Selected::NoRow => SmallExp {
+            planned: false,
+            argument: arg,
+            column: y,
+        },
+        expmv::Selected::Row(s, deg) => {
+            y[0] = 1.0;
+            let ts = t / float::count(s as usize);
+            hess_sweeps_in(
+                h,
+                dim,
+                mx,
+                ts,
+                deg as usize,
+                s as usize,
+                &mut y,
+                &mut w,
+                &mut hw,
+            );
+            SmallExp {
+                planned: true,
+                argument: arg,
+                column: y,
+            }
+        }
+    }
 }

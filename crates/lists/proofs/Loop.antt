@@ -142,6 +142,10 @@ module _ {A : Type 0} where
   pub finished₀ : {i : ℕ} {f : ℕ → A} {w₀ w : List A} → Filled 0 i f w₀ w → i ≤ length w₀ → length w₀ ≤ i → w ≡ tabulate (length w₀) f
   finished₀ {i} {f} {w₀} {w} h l m = finished h (length w₀) l m ∙ splice-whole (tabulate (length w₀) f) w₀ (length-tabulate (length w₀) f)
 
+  -- the same where the code has the length by another name
+  pub finished-all : {i : ℕ} {f : ℕ → A} {w₀ w : List A} → Filled 0 i f w₀ w → (n : ℕ) → i ≤ n → n ≤ i → length w₀ ≡ n → w ≡ tabulate n f
+  finished-all {i} {f} {w₀} {w} h n l m e = finished h n l m ∙ splice-whole (tabulate n f) w₀ (length-tabulate n f ∙ sym e)
+
   -- ---- vector operations, element by element
   pub zipWith-tabulate : (g : A → A → A) (xs ys : List A) (n : ℕ) (d : A) → length xs ≡ n → length ys ≡ n → zipWith g xs ys ≡ tabulate n (λ k. g (getD xs k d) (getD ys k d))
   unfolding zipWith tabulate

@@ -8,7 +8,7 @@ use Prim.Native.Nat.{ℕ, zero, suc, _+_, _-_, _≤_, _<_, suc-le-suc, zero-le}
 use native.Mathlib.Omega.{arith}
 use native.Mathlib.Numerals.{add-one}
 use native.Mathlib.Nat.{suc-add, zero-add, suc-inj, add-sub-cancel-left}
-use lib.ListN.{length, getD, set, take, drop, length-set, length-take, length-drop}
+use lib.ListN.{length, getD, set, take, drop, replicate, length-set, length-take, length-drop}
 use Rattle.lists.specs.Window.{window, over, splice}
 use lib.Seq.{take-take, length-take-le, getD-take, getD-drop, ext-getD, drop-drop}
 
@@ -46,6 +46,13 @@ module _ {A : Type 0} where
   pub window-window : (p n at len : ℕ) (w : List A) → at + len ≤ n → window at len (window p n w) ≡ window (p + at) len w
   unfolding window
   window-window p n at len w h = window-take at len n (drop p w) h ∙ rw (drop-drop at p w)
+
+  -- the first places of an array that holds one value
+  pub window-replicate : (n m : ℕ) (a : A) → n ≤ m → window 0 n (replicate m a) ≡ replicate n a
+  unfolding window
+  window-replicate zero m a h = refl
+  window-replicate (suc n) zero a h = absurd (omega arith)
+  window-replicate (suc n) (suc m) a h = ap (λ (r : List A). a ∷ r) (window-replicate n m a (omega arith))
 
   -- ---- a load
   pub getD-window : (at len : ℕ) (w : List A) (k : ℕ) (d : A) → k < len → getD (window at len w) k d ≡ getD w (at + k) d

@@ -1,0 +1,30 @@
+-- The parts of `hess-exp-e1` that functions of their own give, and what a SmallExp stands for. Definitions only.
+use mathlib.Core.Bool.{true, false}
+use mathlib.Core.List.{List}
+use Prim.Native.Nat.{ℕ, _+_, _-_, _*_, _≤_}
+use lib.ListN.{length}
+use lib.Ieee.{Float}
+use Rattle.lists.specs.Window.{window}
+use Rattle.doubles.specs.F64.{if_then_else_, _⊗_, at, abs}
+use Rattle.doubles.specs.Sum.{sum}
+use Rattle.hess_exp.specs.declared.SmallExp.{SmallExp}
+use Rattle.hess_exp.specs.HessExp.{Terms, Small, unplanned, column}
+
+-- the sum of the sizes in column c
+abbrev pub column-sum : List Float → ℕ → ℕ → ℕ → Float
+column-sum h dim mx c = sum mx (λ r. abs (at h (r * dim + c)))
+
+-- row r of H w, from column r - 1 on
+abbrev pub hess-row : List Float → ℕ → ℕ → List Float → ℕ → Float
+hess-row h dim mx w r = sum (mx - (r - 1)) (λ i. at h (r * dim + (r - 1 + i)) ⊗ at w (r - 1 + i))
+
+abbrev pub terms : List Float → List Float → Terms
+terms y w = record { y = y; w = w }
+
+-- the leading mx rows and columns lie within h
+pub record Leading (h : List Float) (dim mx : ℕ) : Type 0 where
+  pub across : mx ≤ dim
+  pub down : mx * dim ≤ length h
+
+unfoldable pub small-of : ℕ → SmallExp → Small
+small-of mx r = if r .planned then column (window 0 mx (r .column)) else unplanned (r .argument)
