@@ -258,6 +258,26 @@ module _ {A : Type 0} where
   splice-cover (suc a) (suc b) vs us [] l h = refl
   splice-cover (suc a) (suc b) vs us (x ∷ w) l h = ap (λ (r : List A). x ∷ r) (splice-cover a b vs us w (omega arith) (omega arith))
 
+  -- a store within what was written
+  set-over-in : (vs w : List A) (j : ℕ) (v : A) → j < length vs → set (over vs w) j v ≡ over (set vs j v) w
+  unfolding over
+  set-over-in [] w j v h = absurd (omega arith)
+  set-over-in (u ∷ vs) [] zero v h = refl
+  set-over-in (u ∷ vs) [] (suc j) v h = refl
+  set-over-in (u ∷ vs) (x ∷ w) zero v h = refl
+  set-over-in (u ∷ vs) (x ∷ w) (suc j) v h = ap (λ (r : List A). u ∷ r) (set-over-in vs w j v (omega arith))
+
+  pub set-splice-in : (at : ℕ) (vs w : List A) (j : ℕ) (v : A) → j < length vs → set (splice at vs w) (at + j) v ≡ splice at (set vs j v) w
+  unfolding splice
+  set-splice-in zero vs w j v h = rw (zero-add j) (set-over-in vs w j v h)
+  set-splice-in (suc n) vs [] j v h = refl
+  set-splice-in (suc n) vs (x ∷ w) j v h = rw (suc-add n j) (ap (λ (r : List A). x ∷ r) (set-splice-in n vs w j v h))
+
+  -- a store behind n places that hold one value
+  pub set-behind : (n m j : ℕ) (z v : A) → set (replicate (n + m) z) (n + j) v ≡ replicate n z ++ set (replicate m z) j v
+  set-behind zero m j z v = rw (zero-add m, zero-add j) refl
+  set-behind (suc n) m j z v = rw (suc-add n m, suc-add n j) (ap (λ (r : List A). z ∷ r) (set-behind n m j z v))
+
   -- a store beside what was written
   pub set-splice-after : (at : ℕ) (vs w : List A) (k : ℕ) (v : A) → at + length vs ≤ k → set (splice at vs w) k v ≡ splice at vs (set w k v)
   set-splice-after at vs w k v h = set-splice k v (splice at vs w) ∙ sym (splice-comm at k vs (v ∷ []) w h) ∙ ap (splice at vs) (sym (set-splice k v w))

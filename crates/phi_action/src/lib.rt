@@ -1,4 +1,28 @@
 // Taylor: the combination, the single action and the batch of actions.
+use checks::Checked;
+use generator_action::MatrixAnswer;
+use phi_action_helpers::Coupling;
+use phi_action_helpers::Layout;
+use phi_action_helpers::SweepPlan;
+use phi_shift::PlanAnswer;
+ghost use mathlib.Core.Path.{_≡_};
+ghost use mathlib.Core.Bool.{true, false};
+ghost use mathlib.Core.List.{List};
+ghost use Prim.Native.Nat.{ℕ, _+_, _-_, _*_, _≤_, _<_};
+ghost use lib.ListN.{length, getD};
+ghost use lib.Ieee.{Float};
+ghost use Rattle.lists.specs.Window.{window, splice};
+ghost use Rattle.lists.specs.Frame.{Kept};
+ghost use Rattle.doubles.specs.F64.{+0};
+ghost use Rattle.general_operator.specs.Csr.{csr, Valid};
+ghost use Rattle.generator_action.specs.Mass.{given};
+ghost use Rattle.expmv.specs.Select.{M-MAX};
+ghost use Rattle.phi_action_helpers.specs.Laid.{matrix-at, operator-at, Ready, Lined};
+ghost use Rattle.phi_shift.specs.Plan.{sweep-plan};
+ghost use Rattle.combination.specs.Combination.{combination-start, action-start};
+ghost use Rattle.combination.specs.Checks.{taylor-need};
+ghost use Rattle.phi_action.specs.Memory.{layout};
+ghost use Rattle.phi_action.specs.Calls.{soaked};
 
 // Of an accepted job: the plan, and the products with the generator made, over all sweeps of a batch.
 pub struct TaylorReport {
@@ -12,4 +36,104 @@ pub struct TaylorReport {
 pub enum TaylorAnswer {
     Refusal(u32, f64),
     Soaked(TaylorReport),
+}
+
+fn layout(n: usize, d: usize, mass: bool) -> Layout
+    requires { ⌜ (n ≤ 1000000) × (d ≤ 3) ⌝ }
+    ensures { λ r. ⌜ r ≡ layout n d mass ⌝ }
+{
+    Layout {
+        n: n,
+        d: d,
+        w: n + d,
+        av: 2 * (n + d),
+        q: 3 * n + 2 * d,
+        mass: mass,
+    }
+}
+
+// What a job needs of the lent memory.
+fn taylor_need(n: usize, d: usize, with_mass: bool, entries: usize) -> usize
+    requires { ⌜ (n ≤ 1000000) × (d ≤ 3) × (entries ≤ 16777216) ⌝ }
+    ensures { λ r. ⌜ ((starts cols : List ℕ) (vals mass : List Float) → length vals ≡ entries → r ≡ taylor-need (csr n starts cols vals) (given «with_mass» mass) d) ⌝ }
+{
+    if with_mass {
+        return 3 * n + 2 * d + entries;
+    }
+    3 * n + 2 * d
+}
+
+// w_0, then the chain: zeros, and 1 / eta at its end.
+fn init_aug_vector(n: usize, w: &[f64], d: usize, inv: f64, work: &mut [f64])
+    requires { ⌜ (n ≤ length (now w)) × (n + d ≤ length (now work)) ⌝ }
+    ensures { λ _. ⌜ now (work .exit) ≡ splice 0 (combination-start n (now (w .entry)) d inv) (now (work .entry)) ⌝ }
+{
+    vectors::copy_from(work, 0, w, 0, n);
+    vectors::clear_in(work, n, d);
+    if d > 0 {
+        work[n + d - 1] = inv;
+    }
+}
+
+// For phi_0 v and an empty chain, for phi_k zeros and 1 / eta at place k - 1 of the chain.
+fn init_action(n: usize, v: &[f64], k: usize, inv: f64, work: &mut [f64])
+    requires { ⌜ (length (now v) ≡ n) × (n + 3 ≤ length (now work)) × (k ≤ 3) ⌝ }
+    ensures { λ _. ⌜ now (work .exit) ≡ splice 0 (action-start n (now (v .entry)) inv k) (now (work .entry)) ⌝ }
+{
+    if k == 0 {
+        vectors::copy_from(work, 0, v, 0, n);
+        vectors::clear_in(work, n, 3);
+        return;
+    }
+    vectors::clear_in(work, 0, n + 3);
+    work[n + k - 1] = inv;
+}
+
+// The plan, of the quotients in the lent memory where there is a mass.
+fn plan_at(
+    starts: &[u32],
+    cols: &[u32],
+    vals: &[f64],
+    work: &[f64],
+    l: Layout,
+    tau: f64,
+    norm: f64,
+) -> PlanAnswer
+    requires { ⌜ Valid (matrix-at l (now starts) (now cols) (now vals) (now work)) ⌝ }
+    requires { ⌜ (l .mass ≡ true → l .q + length (now vals) ≤ length (now work)) ⌝ }
+    ensures { λ r. ⌜ r ≡ sweep-plan M-MAX tau (matrix-at l (now (starts .entry)) (now (cols .entry)) (now (vals .entry)) (now (work .entry))) norm ⌝ }
+{
+    let n = l.n;
+    if l.mass {
+        let from = l.q;
+        let to = from + vals.len();
+        return phi_shift::sweep_plan(30, tau, n, starts, cols, &work[from..to], norm);
+    }
+    phi_shift::sweep_plan(30, tau, n, starts, cols, vals, norm)
+}
+
+// The sweeps, and their n values from `place` of the output on.
+fn swept_out(
+    starts: &[u32],
+    cols: &[u32],
+    vals: &[f64],
+    vectors: &[f64],
+    out: &mut [f64],
+    place: usize,
+    work: &mut [f64],
+    l: Layout,
+    b: Coupling,
+    tau: f64,
+    p: SweepPlan,
+) -> u64
+    requires { ⌜ Ready l b (now starts) (now cols) (now vals) (now vectors) (now work) ⌝ }
+    requires { ⌜ Lined l × (p .m ≤ 30) × (place + l .n ≤ length (now out)) ⌝ }
+    ensures { λ r. ⌜ r ≡ soaked (operator-at l b (now (starts .entry)) (now (cols .entry)) (now (vals .entry)) (now (vectors .entry)) (now (work .entry))) tau (window 0 (l .n + l .d) (now (work .entry))) p .applied ⌝ }
+    ensures { λ _. ⌜ now (out .exit) ≡ splice place (soaked (operator-at l b (now (starts .entry)) (now (cols .entry)) (now (vals .entry)) (now (vectors .entry)) (now (work .entry))) tau (window 0 (l .n + l .d) (now (work .entry))) p .fields) (now (out .entry)) ⌝ }
+    ensures { λ _. ⌜ Kept 0 (l .q) +0 (now (work .entry)) (now (work .exit)) ⌝ }
+{
+    let n = l.n;
+    let applied = phi_action_helpers::run_sweeps(starts, cols, vals, vectors, work, l, b, tau, p);
+    vectors::copy_from(out, place, work, 0, n);
+    applied
 }
