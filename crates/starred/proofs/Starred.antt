@@ -1,30 +1,69 @@
 -- The boundary jobs that document 01 marks with a star: one table, and the theorem that the definitions give what it says. Assumes nothing.
 use mathlib.Core.Bool.{false}
 use mathlib.Core.List.{List, [], _∷_, map}
+use mathlib.Core.Option.{none, some}
 use mathlib.Core.Path.{_≡_, refl}
 use Prim.Native.Nat.{ℕ}
-use lib.Ieee.{Float, nan, binary64, round}
-use Rattle.doubles.specs.F64.{nat, 1f}
+use lib.Ieee.{Float, nan, neg, binary64, round}
+use Rattle.doubles.specs.F64.{_⊗_, nat, 1f, 2f, +0}
 use Rattle.pow2.specs.Pow2.{eta-scaling, open-Pow2}
 use Rattle.power.specs.Power.{root, open-Power}
 use Rattle.round2.specs.Rounded.{round2, open-Rounded}
 use Rattle.vectors.specs.Vectors.{dot, open-Vectors}
+use Rattle.general_operator.specs.Csr.{Csr, csr, row-sum-norm, apply-generator}
+use Rattle.generator_action.specs.Mass.{Mass, quotients, open-Mass}
+use Rattle.csr_shift.specs.Shift.{negated-csr-shift}
+use Rattle.csr_shift.specs.declared.Shift.{Shift}
+use Rattle.csr_shift.specs.declared.Shift.the-variants.{Unshifted, By}
+use Rattle.phi_shift.specs.Plan.{argument, shifted-bound, open-Plan}
 
 -- a / b as a double
 unfoldable ratio : ℕ → ℕ → Float
 ratio a b = round binary64 false a b
+
+-- the shift and the shifted norm; nothing without a shift
+abbrev shift-and-norm : Shift → List Float
+shift-and-norm Unshifted = []
+shift-and-norm (By g norm) = g ∷ norm ∷ []
+
+-- the argument of the shifted plan; nothing without a shift
+abbrev shifted-argument : Float → Shift → List Float
+shifted-argument tau Unshifted = []
+shifted-argument tau (By g norm) = shifted-bound tau (tau ⊗ g) norm ⊗ 2f ∷ []
+
+-- (a b; b a)
+abbrev two-rows : Float → Float → Csr
+two-rows a b = csr 2 (0 ∷ 2 ∷ 4 ∷ []) (0 ∷ 1 ∷ 0 ∷ 1 ∷ []) (a ∷ b ∷ b ∷ a ∷ [])
+
+-- (2 -1; -1 2)
+abbrev laplace : Csr
+laplace = two-rows 2f (neg 1f)
+
+-- (0 1; 1 0)
+abbrev exchange : Csr
+exchange = two-rows +0 1f
+
+-- one row with the entry 2
+abbrev two : Csr
+two = csr 1 (0 ∷ 1 ∷ []) (0 ∷ []) (2f ∷ [])
 
 data Job : Type 0 where
   Eta : Float → Job
   Round2 : Float → Job
   Root : Float → ℕ → Job
   Dot : List Float → List Float → Job
+  Product : Csr → Mass → List Float → Job
+  Shifts : Csr → Job
+  Arguments : Float → Csr → Job
 
 unfoldable answer : Job → List Float
 answer (Eta x) = eta-scaling x .eta ∷ eta-scaling x .inv ∷ []
 answer (Round2 x) = round2 x ∷ []
 answer (Root t q) = root t q ∷ []
 answer (Dot x y) = dot x y ∷ []
+answer (Product a mass x) = apply-generator (quotients a mass) x
+answer (Shifts q) = shift-and-norm (negated-csr-shift q (row-sum-norm q))
+answer (Arguments tau q) = argument tau (row-sum-norm q) ∷ shifted-argument tau (negated-csr-shift q (row-sum-norm q))
 
 record Case : Type 0 where
   job : Job
@@ -43,8 +82,13 @@ table =
     ∷ record { job = Root (nat 1) 128; is = nat 1 ∷ [] }
     ∷ record { job = Root (nat 0) 5; is = nat 0 ∷ [] }
     ∷ record { job = Dot (nat 1 ∷ nat 2 ∷ nat 3 ∷ nat 4 ∷ nat 5 ∷ []) (1f ∷ 1f ∷ 1f ∷ 1f ∷ 1f ∷ []); is = nat 15 ∷ [] }
+    ∷ record { job = Product two none (nat 3 ∷ []); is = neg (nat 6) ∷ [] }
+    ∷ record { job = Product two (some (nat 4 ∷ [])) (nat 3 ∷ []); is = neg (ratio 3 2) ∷ [] }
+    ∷ record { job = Shifts laplace; is = neg (nat 2) ∷ nat 1 ∷ [] }
+    ∷ record { job = Arguments (nat 1) laplace; is = nat 10 ∷ nat 8 ∷ [] }
+    ∷ record { job = Shifts exchange; is = [] }
     ∷ []
 
 starred : map (λ (c : Case). answer (c .job)) table ≡ map (λ (c : Case). c .is) table
-unfolding table answer ratio open-Pow2 open-Power open-Rounded open-Vectors
+unfolding table answer ratio open-Pow2 open-Power open-Rounded open-Vectors open-Mass open-Plan
 starred = refl
