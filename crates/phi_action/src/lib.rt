@@ -1,6 +1,4 @@
 // Taylor: the combination, the single action and the batch of actions.
-use checks::Checked;
-use generator_action::MatrixAnswer;
 use phi_action_helpers::Coupling;
 use phi_action_helpers::Layout;
 use phi_action_helpers::SweepPlan;
@@ -15,14 +13,17 @@ ghost use Rattle.lists.specs.Window.{window, splice};
 ghost use Rattle.lists.specs.Frame.{Kept};
 ghost use Rattle.doubles.specs.F64.{+0};
 ghost use Rattle.general_operator.specs.Csr.{csr, Valid};
-ghost use Rattle.generator_action.specs.Mass.{given};
-ghost use Rattle.expmv.specs.Select.{M-MAX};
+ghost use Rattle.generator_action.specs.Mass.{given, quotients};
+ghost use Rattle.generator_action.specs.Known.{Accepted};
+ghost use Rattle.checks.specs.declared.Checked.the-variants.{Sound};
+ghost use Rattle.expmv.specs.Select.{select-s-m, M-MAX};
+ghost use Rattle.phi_action_helpers.specs.Augmented.{augmented};
 ghost use Rattle.phi_action_helpers.specs.Laid.{matrix-at, operator-at, Ready, Lined};
-ghost use Rattle.phi_shift.specs.Plan.{sweep-plan};
+ghost use Rattle.phi_shift.specs.Plan.{argument, sweep-plan};
 ghost use Rattle.combination.specs.Combination.{combination-start, action-start};
-ghost use Rattle.combination.specs.Checks.{taylor-need};
-ghost use Rattle.phi_action.specs.Memory.{layout};
-ghost use Rattle.phi_action.specs.Calls.{soaked};
+ghost use Rattle.combination.specs.Checks.{no-row, taylor-need};
+ghost use Rattle.phi_action.specs.Memory.{layout, Coupled};
+ghost use Rattle.phi_action.specs.Calls.{ends, unless-refused, soaked};
 
 // Of an accepted job: the plan, and the products with the generator made, over all sweeps of a batch.
 pub struct TaylorReport {
@@ -136,4 +137,44 @@ fn swept_out(
     let applied = phi_action_helpers::run_sweeps(starts, cols, vals, vectors, work, l, b, tau, p);
     vectors::copy_from(out, place, work, 0, n);
     applied
+}
+
+// A job whose first field stands at the front of the lent memory: quotients, plan, sweeps; what was needed is cleared.
+fn soak(
+    n: usize,
+    starts: &[u32],
+    cols: &[u32],
+    vals: &[f64],
+    with_mass: bool,
+    mass: &[f64],
+    vectors: &[f64],
+    out: &mut [f64],
+    work: &mut [f64],
+    d: usize,
+    b: Coupling,
+    tau: f64,
+    norm: f64,
+    need: usize,
+) -> TaylorAnswer
+    requires { ⌜ Accepted (csr n (now starts) (now cols) (now vals)) (given «with_mass» (now mass)) norm ⌝ }
+    requires { ⌜ Coupled b n d (length (now vectors)) ⌝ }
+    requires { ⌜ (need ≡ taylor-need (csr n (now starts) (now cols) (now vals)) (given «with_mass» (now mass)) d) × (need ≤ length (now work)) × (length (now out) ≡ n) ⌝ }
+    requires { ⌜ no-row (select-s-m M-MAX (argument tau norm)) ≡ false ⌝ }
+    ensures { λ r. ⌜ ends r (now (out .exit)) (now (work .exit)) ≡ unless-refused Sound need (now (out .entry)) (now (work .entry)) (sweep-plan M-MAX tau (quotients (csr n (now (starts .entry)) (now (cols .entry)) (now (vals .entry))) (given «with_mass» (now (mass .entry)))) norm) (soaked (augmented (quotients (csr n (now (starts .entry)) (now (cols .entry)) (now (vals .entry))) (given «with_mass» (now (mass .entry)))) d (now (vectors .entry)) (b .places) (b .gains) (b .count)) tau (window 0 (n + d) (now (work .entry)))) ⌝ }
+{
+    let l = layout(n, d, with_mass);
+    let q = l.q;
+    generator_action::store_quotients(n, starts, cols, vals, with_mass, mass, work, q);
+    let plan = plan_at(starts, cols, vals, work, l, tau, norm);
+    let PlanAnswer::Plan(p) = plan else {
+        return TaylorAnswer::Refusal(25, float::not_a_number());
+    };
+    let applied = swept_out(starts, cols, vals, vectors, out, 0, work, l, b, tau, p);
+    vectors::clear_in(work, 0, need);
+    TaylorAnswer::Soaked(TaylorReport {
+        s: p.s,
+        m: p.m,
+        mu: p.mu,
+        applications: applied,
+    })
 }

@@ -1,0 +1,198 @@
+-- A job in the lent memory, from its first field to its end. Assumes nothing.
+use mathlib.Core.Path.{_≡_, refl, sym, ap, _∙_, subst}
+use mathlib.Core.Bool.{Bool, true, false}
+use mathlib.Core.List.{List, []}
+use mathlib.Core.Option.{none, some}
+use Prim.Native.Nat.{ℕ, zero, _+_, _*_, _≤_, _<_}
+use native.Mathlib.Omega.{arith}
+use lib.ListN.{length, getD, replicate, length-replicate}
+use lib.Ieee.{Float}
+use Rattle.lists.specs.Window.{window, splice}
+use Rattle.lists.specs.Frame.{Kept}
+use Rattle.lists.proofs.Window.{length-splice, length-window, window-splice-same, splice-nil, splice-cover, splice-whole}
+use Rattle.lists.proofs.Frame.{Wrote, wrote, untouched, kept-all, kept-by, kept-on}
+use Rattle.doubles.specs.F64.{+0}
+use Rattle.general_operator.specs.Csr.{Csr, csr, Valid}
+use Rattle.csr_matvec.specs.Values.{values}
+use Rattle.generator_action.specs.Mass.{Mass, given, normalise, quotients, stored}
+use Rattle.generator_action.specs.Known.{Accepted}
+use Rattle.generator_action.proofs.Quotients.{length-normalise}
+use Rattle.checks.specs.declared.Checked.the-variants.{Sound}
+use Rattle.expmv.specs.Select.{select-s-m, M-MAX}
+use Rattle.expmv.specs.declared.Selected.{Selected}
+use Rattle.expmv.specs.declared.Selected.the-variants.{NoRow, Row}
+use Rattle.phi_action_helpers.specs.declared.SweepPlan.{SweepPlan}
+use Rattle.phi_action_helpers.specs.declared.Coupling.{Coupling}
+use Rattle.phi_action_helpers.specs.declared.Layout.{Layout}
+use Rattle.phi_action_helpers.specs.Augmented.{Augmented, augmented}
+use Rattle.phi_action_helpers.specs.Laid.{Ready, Lined, matrix-at, operator-at}
+use Rattle.phi_action_helpers.proofs.Sweeps.{laid}
+use Rattle.phi_action_helpers.proofs.Counts.{run-long}
+use Rattle.phi_shift.specs.Plan.{argument, plan-of, sweep-plan}
+use Rattle.phi_shift.specs.declared.PlanAnswer.{PlanAnswer}
+use Rattle.phi_shift.specs.declared.PlanAnswer.the-variants.{NoPlan, Plan}
+use Rattle.combination.specs.Checks.{no-row, quotient-need, taylor-need}
+use Rattle.phi_action.specs.Memory.{layout, Coupled}
+use Rattle.phi_action.specs.Calls.{ends, cleared, unless-refused, soaked}
+use Rattle.phi_action.specs.declared.TaylorAnswer.the-variants.{Soaked}
+
+-- what differs within a part differs within a longer one
+pub kept-wider : {A : Type 0} {p n : ℕ} {z : A} {w₀ w : List A} → Kept p n z w₀ w → (m : ℕ) → n ≤ m → Kept p m z w₀ w
+kept-wider {p = p} {n = n} {z = z} {w₀ = w₀} {w = w} k m h =
+    let ln = length-replicate n z in
+    let lm = length-replicate m z in
+    record {
+      outside = sym (splice-cover p p (replicate m z) (replicate n z) w (omega arith) (omega arith))
+          ∙ ap (splice p (replicate m z)) (k .outside)
+          ∙ splice-cover p p (replicate m z) (replicate n z) w₀ (omega arith) (omega arith);
+      long = k .long;
+    }
+
+-- ---- the quotients
+pub length-stored : (a : Csr) (b : Bool) (mass : List Float) → length (stored a (given b mass)) ≡ quotient-need a (given b mass)
+unfolding stored quotient-need
+length-stored a true mass = length-normalise a mass
+length-stored a false mass = refl
+
+pub quotients-rows : (a : Csr) (mass : Mass) → quotients a mass .n ≡ a .n
+unfolding quotients normalise
+quotients-rows a none = refl
+quotients-rows a (some mass) = refl
+
+-- with a mass they need what is left
+pub room : (a : Csr) (b : Bool) (mass : List Float) (d long : ℕ) → taylor-need a (given b mass) d ≤ long → b ≡ true → 3 * a .n + 2 * d + length (a .entries) ≤ long
+unfolding taylor-need quotient-need
+room a true mass d long h e = h
+room a false mass d long h e = let z : zero ≡ 1 = cc in absurd (omega (arith, z))
+
+pub before-quotients : (a : Csr) (mass : Mass) (d : ℕ) → 3 * a .n + 2 * d + quotient-need a mass ≡ taylor-need a mass d
+unfolding taylor-need
+before-quotients a mass d = refl
+
+module _ (n : ℕ) (starts cols : List ℕ) (vals : List Float) (b : Bool) (mass : List Float) (q : ℕ) (w₀ : List Float) (fits : b ≡ true → q + length vals ≤ length w₀) where
+  pub quotients-stored : csr n starts cols (values b q vals (splice q (stored (csr n starts cols vals) (given b mass)) w₀)) ≡ quotients (csr n starts cols vals) (given b mass)
+  unfolding values stored quotients normalise
+  quotients-stored = go b fits
+    where
+      go : (t : Bool) → (t ≡ true → q + length vals ≤ length w₀)
+          → csr n starts cols (values t q vals (splice q (stored (csr n starts cols vals) (given t mass)) w₀)) ≡ quotients (csr n starts cols vals) (given t mass)
+      go true h = ap (csr n starts cols) (window-splice-same q (length vals) _ w₀ (length-normalise (csr n starts cols vals) mass) (h refl))
+      go false h = refl
+
+-- ---- the plan
+pub has-plan : (tau : Float) (q : Csr) (norm : Float) → no-row (select-s-m M-MAX (argument tau norm)) ≡ false → sweep-plan M-MAX tau q norm ≡ NoPlan → zero ≡ 1
+unfolding sweep-plan plan-of
+has-plan tau q norm h e = go (select-s-m M-MAX (argument tau norm)) h e
+  where
+    go : (r : Selected) → no-row r ≡ false → plan-of M-MAX tau q norm r ≡ NoPlan → zero ≡ 1
+    go NoRow h e = cc
+    go (Row s m) h e = cc
+
+-- ---- the layout
+pub lined : (n d : ℕ) (b : Bool) → Lined (layout n d b)
+lined n d b = record { field-first = omega arith; then-term = omega arith; then-product = omega arith }
+
+-- ---- the output
+pub field-whole : (b : Augmented) (tau : Float) (p : SweepPlan) (y out : List Float) → length y ≡ b .matrix .n + b .d → length out ≡ b .matrix .n
+    → splice 0 (soaked b tau y p .fields) out ≡ soaked b tau y p .fields
+unfolding soaked
+field-whole b tau p y out h l = splice-whole _ out (length-window 0 (b .matrix .n) _ (omega (arith, run-long b tau p y h)) ∙ sym l)
+
+pub front : (a : Csr) (mass : Mass) (d long : ℕ) → taylor-need a mass d ≤ long → 3 * a .n + 2 * d ≤ long
+unfolding taylor-need
+front a mass d long h = omega arith
+
+-- ---- a job: the places of its operands are those of `layout`
+module _
+    (n d : ℕ)
+    (starts cols : List ℕ)
+    (vals : List Float)
+    (b : Bool)
+    (mass vectors : List Float)
+    (c : Coupling)
+    (tau norm : Float)
+    (need : ℕ)
+    (w₀ : List Float)
+    (acc : Accepted (csr n starts cols vals) (given b mass) norm)
+    (cp : Coupled c n d (length vectors))
+    (nd : need ≡ taylor-need (csr n starts cols vals) (given b mass) d)
+    (rm : need ≤ length w₀)
+    {l : Layout}
+    (el : l ≡ layout n d b) where
+  abbrev a : Csr
+  a = csr n starts cols vals
+
+  enough : taylor-need a (given b mass) d ≤ length w₀
+  enough = rw (← nd) rm
+
+  pub store-fits : b ≡ true → l .q + length vals ≤ length w₀
+  store-fits t = rw el (room a b mass d (length w₀) enough t)
+
+  module _ {w₁ : List Float} (e₁ : w₁ ≡ splice (l .q) (stored a (given b mass)) w₀) where
+    at-q : w₁ ≡ splice (3 * n + 2 * d) (stored a (given b mass)) w₀
+    at-q = rw el at e₁
+
+    pub long₁ : length w₁ ≡ length w₀
+    long₁ = ap length at-q ∙ length-splice _ _ w₀
+
+    pub matrix-is : matrix-at l starts cols vals w₁ ≡ quotients a (given b mass)
+    matrix-is = rw (at-q, el) (quotients-stored n starts cols vals b mass (3 * n + 2 * d) w₀ (room a b mass d (length w₀) enough))
+
+    pub matrix-valid : Valid (matrix-at l starts cols vals w₁)
+    matrix-valid = rw matrix-is (acc .quotients-are)
+
+    pub stored-in : l .mass ≡ true → l .q + length vals ≤ length w₁
+    stored-in t = rw long₁ (store-fits (sym (ap (λ (x : Layout). x .mass) el) ∙ t))
+
+    pub lined-up : Lined l
+    lined-up = rw el (lined n d b)
+
+    pub ready : Ready l c starts cols vals vectors w₁
+    ready =
+        let f = front a (given b mass) d (length w₀) enough in
+        let av-in : l .av + l .n ≤ length w₁ = rw (long₁, el) (omega (arith, f)) in
+        let deep : c .count ≤ l .d = rw el (cp .chained) in
+        let columns : (j : ℕ) → j < c .count → getD (c .places) j 0 + l .n ≤ length vectors = rw el (cp .columns) in
+        laid lined-up matrix-valid (cp .few) deep columns av-in stored-in
+
+    operator-is : operator-at l c starts cols vals vectors w₁ ≡ augmented (quotients a (given b mass)) d vectors (c .places) (c .gains) (c .count)
+    operator-is = ap (λ (q : Csr). augmented q (l .d) vectors (c .places) (c .gains) (c .count)) matrix-is ∙ rw el refl
+
+    t₁ : Wrote (3 * n + 2 * d) (quotient-need a (given b mass)) (stored a (given b mass)) w₀ w₁
+    t₁ = wrote _ _ _ w₀ w₁ (length-stored a b mass) at-q
+
+    field-is : window 0 (l .n + l .d) w₁ ≡ window 0 (n + d) w₀
+    field-is = rw el (untouched t₁ 0 (n + d) (omega arith))
+
+    pub plan-is : {x : PlanAnswer} → x ≡ sweep-plan M-MAX tau (matrix-at l starts cols vals w₁) norm → sweep-plan M-MAX tau (quotients a (given b mass)) norm ≡ x
+    plan-is e = sym (e ∙ ap (λ (q : Csr). sweep-plan M-MAX tau q norm) matrix-is)
+
+    pub done : (out : List Float) {p : SweepPlan} {applied : ℕ} {out₁ w₂ w₃ : List Float} → length out ≡ n
+        → sweep-plan M-MAX tau (quotients a (given b mass)) norm ≡ Plan p
+        → applied ≡ soaked (operator-at l c starts cols vals vectors w₁) tau (window 0 (l .n + l .d) w₁) p .applied
+        → out₁ ≡ splice 0 (soaked (operator-at l c starts cols vals vectors w₁) tau (window 0 (l .n + l .d) w₁) p .fields) out
+        → Kept 0 (l .q) +0 w₁ w₂
+        → w₃ ≡ splice 0 (replicate need +0) w₂
+        → ends (Soaked (record { s = p .s; m = p .m; mu = p .mu; applications = applied })) out₁ w₃
+        ≡ unless-refused Sound need out w₀ (sweep-plan M-MAX tau (quotients a (given b mass)) norm) (soaked (augmented (quotients a (given b mass)) d vectors (c .places) (c .gains) (c .count)) tau (window 0 (n + d) w₀))
+    unfolding unless-refused cleared
+    done out {p} {applied} {out₁} {w₂} {w₃} lo pl ea eo k e₃ =
+        let B = augmented (quotients a (given b mass)) d vectors (c .places) (c .gains) (c .count) in
+        let y = window 0 (n + d) w₀ in
+        let f = front a (given b mass) d (length w₀) enough in
+        let ly : length y ≡ n + d = length-window 0 (n + d) w₀ (omega arith) in
+        let ea′ : applied ≡ soaked B tau y p .applied = rw (operator-is, field-is) at ea in
+        let eo′ : out₁ ≡ soaked B tau y p .fields = (rw (operator-is, field-is) at eo) ∙ whole p out lo ly in
+        let past : 3 * n + 2 * d + quotient-need a (given b mass) ≡ need = before-quotients a (given b mass) d ∙ sym nd in
+        let k₁ : Kept 0 need +0 w₀ w₁ = kept-by (kept-all 0 need +0 w₀) t₁ (omega arith) (omega arith) in
+        let kq : Kept 0 (3 * n + 2 * d) +0 w₁ w₂ = rw el at k in
+        let k₂ : Kept 0 need +0 w₀ w₂ = kept-on k₁ (kept-wider kq need (omega arith)) in
+        let e₃′ = e₃ ∙ k₂ .outside in
+        rw pl (λ i. ends (Soaked (record { s = p .s; m = p .m; mu = p .mu; applications = ea′ i })) (eo′ i) (e₃′ i))
+      where
+        whole : (p : SweepPlan) (out : List Float) → length out ≡ n → length (window 0 (n + d) w₀) ≡ n + d
+            → splice 0 (soaked (augmented (quotients a (given b mass)) d vectors (c .places) (c .gains) (c .count)) tau (window 0 (n + d) w₀) p .fields) out
+            ≡ soaked (augmented (quotients a (given b mass)) d vectors (c .places) (c .gains) (c .count)) tau (window 0 (n + d) w₀) p .fields
+        whole p out lo ly =
+            let rows : quotients a (given b mass) .n ≡ n = quotients-rows a (given b mass) in
+            field-whole (augmented (quotients a (given b mass)) d vectors (c .places) (c .gains) (c .count)) tau p _ out (ly ∙ rw rows refl) (lo ∙ sym rows)
