@@ -53,12 +53,12 @@ products-of-one p y beta =
     (walk-keeps _ _ (arnoldi-step p beta) (λ j b h. extend-built p j b _ _ _ h) (λ i j e l h. le-trans h l) (p .m) 0 (on (first-column p y beta)) refl))
 
 -- ---- trials: at most ten rejections before a length is accepted
-abbrev few : ℕ → Tried → Type 0
+abbrev pub few : ℕ → Tried → Type 0
 few k (accepted r t f err) = r < k
 few k (stuck arg) = Unit {0}
 
-abbrev Few : ℕ → Turn Trying Tried → Type 0
-Few k = Kept (λ (i : ℕ) (s : Trying). s .rejections ≡ i) few k
+abbrev pub Few : ℕ → Turn Trying Tried → Type 0
+Few k o = Kept (λ (i : ℕ) (s : Trying). s .rejections ≡ i) few k o
 
 verdict-few : (p : Setting) (s : Trying) (f : List Float) (e : Estimate) (b : Bool) (k : ℕ) → s .rejections ≡ k → Few (k + 1) (verdict p s f e b)
 unfolding verdict
@@ -74,27 +74,16 @@ few-later : (i j : ℕ) (e : Tried) → i ≤ j → few i e → few j e
 few-later i j (accepted r t f err) l h = le-trans h l
 few-later i j (stuck arg) l h = tt
 
--- an accepted length: fewer than eleven rejections
-abbrev FewAccepted : Turn Trying Tried → Type 0
-FewAccepted (on s) = Unit {0}
-FewAccepted (out e) = few 11 e
-
-few-accepted : (o : Turn Trying Tried) → Few 11 o → FewAccepted o
-few-accepted (on s) h = tt
-few-accepted (out e) h = h
-
-exact-few : (beta hn remaining : Float) (f : Small) → FewAccepted (exact-step beta hn remaining f)
+exact-few : (beta hn remaining : Float) (f : Small) → Few 11 (exact-step beta hn remaining f)
 unfolding exact-step
 exact-few beta hn remaining (unplanned arg) = tt
 exact-few beta hn remaining (column f) = suc-le-suc zero-le
 
-trials-few : (p : Setting) (beta next remaining : Float) (b : Basis) → FewAccepted (trials p beta next remaining b)
+pub trials-few : (p : Setting) (beta next remaining : Float) (b : Basis) → Few 11 (trials p beta next remaining b)
 unfolding trials try-step
 trials-few p beta next remaining (breakdown b) = exact-few beta (b .hn) remaining (hess-exp-e1 (b .columns .h) (dim p) (b .mb) remaining)
 trials-few p beta next remaining (full b avnorm) =
-    let first : Trying = record { rejections = 0; t = minNum next remaining } in
-    few-accepted (walk (try-step p beta (b .h) avnorm) 11 0 (on first))
-    (walk-keeps _ _ (try-step p beta (b .h) avnorm) (λ k s h. judge-few p beta avnorm s (hess-exp-e1 (b .h) (dim p) (dim p) (s .t)) k h) few-later 11 0 (on first) refl)
+    walk-keeps _ _ (try-step p beta (b .h) avnorm) (λ k s h. judge-few p beta avnorm s (hess-exp-e1 (b .h) (dim p) (dim p) (s .t)) k h) few-later 11 0 (on (record { rejections = 0; t = minNum next remaining })) refl
 
 -- ---- what a substep adds
 -- the basis of the substep from s, and its trials
@@ -186,7 +175,7 @@ each-append P (a ∷ l) l' h i = (h .0, each-append P l l' (h .1) i)
 abbrev pub Modest : ℕ → Accepted → Type 0
 Modest M a = (a .products ≤ suc M) × (a .rejections ≤ 10)
 
-accepted-modest : (M : ℕ) (b : Basis) (o : Turn Trying Tried) → applied-of b ≤ suc M → FewAccepted o → Each (Modest M) (accepted-in b o)
+accepted-modest : (M : ℕ) (b : Basis) (o : Turn Trying Tried) → applied-of b ≤ suc M → Few 11 o → Each (Modest M) (accepted-in b o)
 unfolding accepted-in
 accepted-modest M b (on s) h f = tt
 accepted-modest M b (out (stuck arg)) h f = tt

@@ -156,9 +156,13 @@ advance-timely p s n v r t f err h w =
     clear-by false x h = inr h
 
 -- a state that a substep starts from has its time below 1
+abbrev pub TimedEnd : End → Type 0
+TimedEnd (finished s) = Timely s
+TimedEnd (refused r x s) = Timely s × T (s .control .time ⋖ 1f)
+
 abbrev pub Timed : Turn State End → Type 0
 Timed (on s) = Timely s × T (s .control .time ⋖ 1f)
-Timed (out e) = Timely (last e)
+Timed (out e) = TimedEnd e
 
 standing-timed : (s : State) (b : Bool) → Timely s → unfinished s ≡ b → Timed (standing s b)
 unfolding unfinished
@@ -166,11 +170,11 @@ standing-timed s true h e = (h, and-r (not (eq (s .control .beta) +0)) (s .contr
 standing-timed s false h e = h
 
 settle-timed : (p : Setting) (s : State) (b : Basis) (i : ℕ) (own : Within (1f ⊖ s .control .time) (1f ⊖ s .control .time)) (u : T (1f ⊖ s .control .time ⩽ 1f)) (o : Turn Trying Tried)
-    → Timely s → Trials (1f ⊖ s .control .time) own u i o → Timed (settle p s b o)
+    → Timely s → T (s .control .time ⋖ 1f) → Trials (1f ⊖ s .control .time) own u i o → Timed (settle p s b o)
 unfolding settle
-settle-timed p s b i own u (on t) h k = h
-settle-timed p s b i own u (out (stuck arg)) h k = h
-settle-timed p s b i own u (out (accepted r t f err)) h k =
+settle-timed p s b i own u (on t) h l k = (h, l)
+settle-timed p s b i own u (out (stuck arg)) h l k = (h, l)
+settle-timed p s b i own u (out (accepted r t f err)) h l k =
     let n = advance p s (applied-of b) (columns-of b) r t f err in
     standing-timed n (unfinished n) (advance-timely p s (applied-of b) (columns-of b) r t f err h k) refl
 
@@ -178,9 +182,9 @@ settle-timed p s b i own u (out (accepted r t f err)) h k =
 own-trials : (p : Setting) (s : State) (h : Timely s) → Trials (1f ⊖ s .control .time) (rest-within (h .time) .0) (rest-within (h .time) .1) 11 (trials-of p s)
 own-trials p s h = trials-trial (1f ⊖ s .control .time) (rest-within (h .time) .0) (rest-within (h .time) .1) p (s .control .beta) (s .control .next) (basis-of p s) (h .next-fits) (h .next-clear)
 
-pub substep-timed : (p : Setting) (s : State) → Timely s → Timed (substep p s)
+pub substep-timed : (p : Setting) (s : State) → Timely s → T (s .control .time ⋖ 1f) → Timed (substep p s)
 unfolding substep
-substep-timed p s h = settle-timed p s (basis-of p s) 11 (rest-within (h .time) .0) (rest-within (h .time) .1) (trials-of p s) h (own-trials p s h)
+substep-timed p s h l = settle-timed p s (basis-of p s) 11 (rest-within (h .time) .0) (rest-within (h .time) .1) (trials-of p s) h l (own-trials p s h)
 
 pub started-timed : (p : Setting) (y : List Float) → Timed (on (started p y))
 unfolding started first-length
@@ -192,17 +196,21 @@ started-timed p y = (
 walk-timed : (p : Setting) (k i : ℕ) (o : Turn State End) → Timed o → Timed (walk (λ _ t. substep p t) k i o)
 unfolding walk
 walk-timed p zero i o h = h
-walk-timed p (suc k) i (on s) h = walk-timed p k (i + 1) (substep p s) (substep-timed p s (h .0))
+walk-timed p (suc k) i (on s) h = walk-timed p k (i + 1) (substep p s) (substep-timed p s (h .0) (h .1))
 walk-timed p (suc k) i (out e) h = h
 
-spent-timely : (o : Turn State End) → Timed o → Timely (last (spent o))
+spent-timed : (o : Turn State End) → Timed o → TimedEnd (spent o)
 unfolding spent
-spent-timely (on s) h = h .0
-spent-timely (out e) h = h
+spent-timed (on s) h = h
+spent-timed (out e) h = h
 
-pub run-timely : (p : Setting) (limit : ℕ) (y : List Float) → Timely (last (run p limit (started p y)))
+pub run-timed : (p : Setting) (limit : ℕ) (y : List Float) → TimedEnd (run p limit (started p y))
 unfolding run
-run-timely p limit y = spent-timely (walk (λ _ t. substep p t) limit 0 (on (started p y))) (walk-timed p limit 0 (on (started p y)) (started-timed p y))
+run-timed p limit y = spent-timed (walk (λ _ t. substep p t) limit 0 (on (started p y))) (walk-timed p limit 0 (on (started p y)) (started-timed p y))
+
+pub timed-last : (e : End) → TimedEnd e → Timely (last e)
+timed-last (finished s) h = h
+timed-last (refused r x s) h = h .0
 
 -- a state that is not unfinished has norm 0 or its time is exactly 1
 pub finished-time : (s : State) → Timely s → unfinished s ≡ false → (eq (s .control .beta) +0 ≡ true) ⊎ (s .control .time ≡ 1f)
@@ -231,8 +239,8 @@ settle-steps : (p : Setting) (s : State) (b : Basis) (later : Turn State End →
     → (h : Timely s) → T (s .control .time ⋖ 1f) → (o : Turn Trying Tried) → Trials (1f ⊖ s .control .time) (rest-within (h .time) .0) (rest-within (h .time) .1) 11 o
     → Steps (s .control .time) (accepted-in b o ++ later (settle p s b o))
 unfolding settle accepted-in
-settle-steps p s b later rest h l (on t) k = rest (out (refused 28 (p .tol) s)) h
-settle-steps p s b later rest h l (out (stuck arg)) k = rest (out (refused 29 arg s)) h
+settle-steps p s b later rest h l (on t) k = rest (out (refused 28 (p .tol) s)) (h, l)
+settle-steps p s b later rest h l (out (stuck arg)) k = rest (out (refused 29 arg s)) (h, l)
 settle-steps p s b later rest h l (out (accepted r t f err)) k =
     let n = advance p s (applied-of b) (columns-of b) r t f err in
     (h .time, l, k, unfold advance in go n (unfinished n) (standing-timed n (unfinished n) (advance-timely p s (applied-of b) (columns-of b) r t f err h k) refl))
@@ -279,5 +287,5 @@ unfolding attempts
 attempts-short p zero o h = tt
 attempts-short p (suc k) (on s) h =
     each-append Short (tried-on p s (basis-of p s)) (attempts p k (substep p s)) (tried-short p s (basis-of p s) (h .0))
-    (attempts-short p k (substep p s) (substep-timed p s (h .0)))
+    (attempts-short p k (substep p s) (substep-timed p s (h .0) (h .1)))
 attempts-short p (suc k) (out e) h = tt
