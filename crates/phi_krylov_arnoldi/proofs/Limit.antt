@@ -79,7 +79,7 @@ abbrev double : Float → End → Float
 double d (finished s) = d
 double d (refused r x s) = x
 
-not-27 : (r : ℕ) → (r ≡ 28) ⊎ (r ≡ 29) → r ≡ 27 → ⊥
+pub not-27 : (r : ℕ) → (r ≡ 28) ⊎ (r ≡ 29) → r ≡ 27 → ⊥
 not-27 r (inl e) h = omega (arith, e, h)
 not-27 r (inr e) h = omega (arith, e, h)
 

@@ -1,12 +1,19 @@
 -- What a run did: its accepted substeps one by one, and every length tried. Definitions only.
 use mathlib.Core.List.{List, [], _∷_, _++_}
 use Prim.Native.Nat.{ℕ, zero, suc, _+_}
+use lib.ListN.{length}
 use lib.Ieee.{Float}
 use Rattle.lists.specs.Walk.{Turn, on, out}
-use Rattle.doubles.specs.F64.{_⊕_, _⊖_, 1f, minNum}
-use Rattle.arnoldi.specs.Basis.{Setting, Basis, breakdown, full, arnoldi}
+use Rattle.doubles.specs.F64.{_⊕_, _⊖_, _⊗_, 1f, minNum}
+use Rattle.vectors.specs.Vectors.{scale}
+use Rattle.pow2.specs.Pow2.{pow2-scale}
+use Rattle.pow2.specs.declared.Scale.{Scale}
+use Rattle.pow2.specs.declared.Prescale.{Prescale}
+use Rattle.pow2.specs.declared.Prescale.the-variants.{By, None}
+use Rattle.phi_action_helpers.specs.Augmented.{Augmented}
+use Rattle.arnoldi.specs.Basis.{Setting, Basis, breakdown, full, norm2, arnoldi}
 use Rattle.phi_krylov_arnoldi.specs.Trials.{Trying, Tried, accepted, stuck, try-step, trials}
-use Rattle.phi_krylov_arnoldi.specs.Run.{State, End, applied-of, substep}
+use Rattle.phi_krylov_arnoldi.specs.Run.{State, End, applied-of, substep, started, setting, clamp-m}
 
 -- an accepted substep: products with the generator made, lengths rejected, the length accepted and its error
 pub record Accepted : Type 0 where
@@ -61,3 +68,17 @@ unfoldable pub attempts : Setting → ℕ → Turn State End → List Attempt
 attempts p zero o = []
 attempts p (suc k) (on s) = tried-on p s (arnoldi p (s .y) (s .control .beta)) ++ attempts p k (substep p s)
 attempts p (suc k) (out e) = []
+
+-- ---- `expv`
+-- g of its run's setting and start, and `none` where all values are zeros
+unfoldable pub in-expv : {A : Type 0} → A → (Setting → List Float → A) → Augmented → Float → Float → Float → ℕ → List Float → Prescale → A
+in-expv none g b tau anorm tol m y None = none
+in-expv none g b tau anorm tol m y (By f) =
+    let y₀ = scale (f .down) y in
+    g (setting b tau anorm (tol ⊗ norm2 y₀) (clamp-m m (length y))) y₀
+
+unfoldable pub expv-trace : Augmented → Float → Float → Float → ℕ → ℕ → List Float → List Accepted
+expv-trace b tau anorm tol m limit y = in-expv [] (λ p y₀. trace p limit (on (started p y₀))) b tau anorm tol m y (pow2-scale y)
+
+unfoldable pub expv-attempts : Augmented → Float → Float → Float → ℕ → ℕ → List Float → List Attempt
+expv-attempts b tau anorm tol m limit y = in-expv [] (λ p y₀. attempts p limit (on (started p y₀))) b tau anorm tol m y (pow2-scale y)
