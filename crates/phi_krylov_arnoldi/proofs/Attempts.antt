@@ -1,7 +1,7 @@
 -- Each length tried was accepted or rejected: the substeps and the rejections together are the lengths tried, and before 28 eleven more. Assumes nothing.
 use mathlib.Core.Path.{_≡_, refl, sym, ap, _∙_, subst}
 use mathlib.Core.Bool.{Bool, true, false}
-use mathlib.Core.List.{List, [], _∷_, _++_}
+use mathlib.Core.List.{List, []}
 use Prim.Native.Nat.{ℕ, zero, suc, _+_, _≤_}
 use native.Mathlib.Nat.{le-of-eq, add-zero, add-assoc, zero-add}
 use native.Mathlib.Omega.{arith}

@@ -3,7 +3,7 @@ use mathlib.Core.Path.{_≡_, refl, sym, ap, _∙_, subst}
 use mathlib.Core.Bool.{Bool, true, false}
 use mathlib.Core.List.{List, [], _∷_, _++_}
 use Prim.Native.Nat.{ℕ, zero, suc, _+_, _*_, _≤_, _<_, zero-le, suc-le-suc}
-use native.Mathlib.Nat.{le-refl, le-trans, le-of-eq, add-zero, add-suc, add-assoc, zero-add, mul-suc, add-le-add}
+use native.Mathlib.Nat.{le-refl, le-trans, le-of-eq, add-zero, add-assoc, zero-add, mul-suc, add-le-add}
 use native.Mathlib.Omega.{arith}
 use lib.ListN.{length, length-append}
 use lib.Ieee.{Float}
@@ -31,26 +31,34 @@ module _ {S E : Type 0} (P : ℕ → S → Type 0) (Q : ℕ → E → Type 0) wh
       next i k = omega arith
   walk-keeps step one later (suc k) i (out e) h = later i (i + suc k) e (omega arith) h
 
--- ---- a basis: one product for each column, and one more
+-- ---- a basis: one product for each column, and one more where there is no breakdown
 abbrev Built : ℕ → Turn Columns Breakdown → Type 0
-Built j = Kept (λ (i : ℕ) (b : Columns). b .applied ≡ i) (λ (i : ℕ) (b : Breakdown). b .columns .applied ≤ i) j
+Built j o = Kept (λ (i : ℕ) (b : Columns). b .applied ≡ i) (λ (i : ℕ) (b : Breakdown). (b .columns .applied ≡ b .mb) × (b .mb ≤ i)) j o
 
 extend-built : (p : Setting) (j : ℕ) (b : Columns) (r : Rest) (hn : Float) (t : Bool) → b .applied ≡ j → Built (j + 1) (extend p j b r hn t)
 unfolding extend
-extend-built p j b r hn true h = omega (arith, h)
+extend-built p j b r hn true h = (omega (arith, h), le-refl (j + 1))
 extend-built p j b r hn false h = omega (arith, h)
 
-close-built : (p : Setting) (o : Turn Columns Breakdown) → Built (p .m) o → applied-of (close p o) ≤ suc (p .m)
-unfolding close
-close-built p (out b) h = omega (arith, h)
-close-built p (on b) h = suc-le-suc (le-of-eq h)
+abbrev pub Products : ℕ → Basis → Type 0
+Products M (breakdown b) = (b .columns .applied ≡ b .mb) × (b .mb ≤ M)
+Products M (full b avnorm) = b .applied ≡ suc M
 
-pub products-of-one : (p : Setting) (y : List Float) (beta : Float) → applied-of (arnoldi p y beta) ≤ suc (p .m)
+close-built : (p : Setting) (o : Turn Columns Breakdown) → Built (p .m) o → Products (p .m) (close p o)
+unfolding close
+close-built p (out b) h = h
+close-built p (on b) h = ap suc h
+
+pub basis-products : (p : Setting) (y : List Float) (beta : Float) → Products (p .m) (arnoldi p y beta)
 unfolding arnoldi arnoldi-step first-column
-products-of-one p y beta =
-    close-built p _
+basis-products p y beta =
+    close-built p (walk (arnoldi-step p beta) (p .m) 0 (on (first-column p y beta)))
     (subst (λ (n : ℕ). Built n (walk (arnoldi-step p beta) (p .m) 0 (on (first-column p y beta)))) (zero-add (p .m))
-    (walk-keeps _ _ (arnoldi-step p beta) (λ j b h. extend-built p j b _ _ _ h) (λ i j e l h. le-trans h l) (p .m) 0 (on (first-column p y beta)) refl))
+    (walk-keeps _ _ (arnoldi-step p beta) (λ j b h. extend-built p j b _ _ _ h) (λ i j e l h. (h .0, le-trans (h .1) l)) (p .m) 0 (on (first-column p y beta)) refl))
+
+products-few : (M : ℕ) (b : Basis) → Products M b → applied-of b ≤ suc M
+products-few M (breakdown b) h = omega (arith, h .0, h .1)
+products-few M (full b avnorm) h = le-of-eq h
 
 -- ---- trials: at most ten rejections before a length is accepted
 abbrev pub few : ℕ → Tried → Type 0
@@ -183,7 +191,7 @@ accepted-modest M b (out (accepted r t g err)) h f = ((h, omega (arith, f)), tt)
 
 made-modest : (p : Setting) (s : State) → Each (Modest (p .m)) (made p s)
 unfolding made
-made-modest p s = accepted-modest (p .m) (basis-of p s) (trials-of p s) (products-of-one p (s .y) (s .control .beta)) (trials-few p (s .control .beta) (s .control .next) (1f ⊖ s .control .time) (basis-of p s))
+made-modest p s = accepted-modest (p .m) (basis-of p s) (trials-of p s) (products-few (p .m) (basis-of p s) (basis-products p (s .y) (s .control .beta))) (trials-few p (s .control .beta) (s .control .next) (1f ⊖ s .control .time) (basis-of p s))
 
 pub trace-modest : (p : Setting) (k : ℕ) (o : Turn State End) → Each (Modest (p .m)) (trace p k o)
 unfolding trace

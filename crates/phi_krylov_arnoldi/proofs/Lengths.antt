@@ -3,25 +3,24 @@ use mathlib.Core.Path.{_≡_, refl, sym, ap, _∙_, subst}
 use mathlib.Core.Logic.{_⊎_, inl, inr}
 use mathlib.Core.Bool.{Bool, true, false, not, _&&_, cond, true≢false}
 use mathlib.Core.List.{List, [], _∷_, _++_}
-use Prim.Native.Nat.{ℕ, zero, suc, _+_, _≤_, _<_}
-use native.Mathlib.Omega.{arith}
+use Prim.Native.Nat.{ℕ, zero, suc, _+_, _≤_}
 use lib.Dec.{T}
-use lib.Ieee.{Float, nan, inf, fin, binary64, mul, le, lt, eq, fits, isNan, ofBits}
+use lib.Ieee.{Float, nan, inf, fin, binary64, mul, le, lt, eq, fits, ofBits}
 use lib.Ieee.Fits.{add-fits, and-r}
 use lib.Ieee.Bits.{is-true}
 use Rattle.lists.specs.Walk.{Turn, on, out, walk}
-use Rattle.doubles.specs.F64.{_⊕_, _⊖_, _⊗_, _⩽_, _⋖_, +0, 1f, minNum, replaced}
+use Rattle.doubles.specs.F64.{_⊕_, _⊖_, _⩽_, _⋖_, +0, 1f, minNum, replaced}
 use Rattle.doubles.proofs.Order.{nonneg, nonneg-number, nonneg-sign}
-use Rattle.doubles.proofs.Total.{⩽-refl, ⩽-trans, ⩽-or-⋖, ⩽-antisymm, ⋖-⩽, le-number-right, le-number-left}
+use Rattle.doubles.proofs.Total.{⩽-refl, ⩽-trans, ⩽-or-⋖, ⩽-antisymm, le-number-right}
 use Rattle.doubles.proofs.Time.{one-fits, sum-step, rest-good, zero-good}
-use Rattle.retry.specs.Retry.{DELTA, accepts, retry}
+use Rattle.retry.specs.Retry.{accepts, retry}
 use Rattle.hess_exp.specs.HessExp.{Small, unplanned, column, hess-exp-e1}
 use Rattle.arnoldi.specs.Basis.{Setting, dim, Basis, breakdown, full}
 use Rattle.phi_krylov_arnoldi.specs.Trials.{Estimate, Trying, Tried, accepted, stuck, local-error, verdict, judge, try-step, exact-step, trials}
 use Rattle.phi_krylov_arnoldi.specs.Run.{State, End, finished, refused, applied-of, columns-of, advance, unfinished, standing, settle, substep, spent, run, first-length, started}
 use Rattle.phi_krylov_arnoldi.specs.Trace.{Accepted, accepted-in, made, trace, Attempt, lengths, tried-on, attempts}
 use Rattle.phi_krylov_arnoldi.proofs.Counts.{Kept, walk-keeps, Each, each-append, last, reached, basis-of, trials-of}
-use Rattle.phi_krylov_arnoldi.proofs.Signs.{Clear, number-or, round2-clear, round2-fits, retry-clear, retry-fits, retry-nan, error-clear, retry-at-most}
+use Rattle.phi_krylov_arnoldi.proofs.Signs.{Clear, round2-clear, round2-fits, retry-clear, retry-fits, retry-nan, error-clear, retry-at-most}
 
 -- a double with the sign clear that is at most x
 pub record Within (x t : Float) : Type 0 where

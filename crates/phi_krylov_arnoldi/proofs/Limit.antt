@@ -3,8 +3,8 @@ use mathlib.Core.Path.{_≡_, refl, sym, ap, _∙_, subst}
 use mathlib.Core.Logic.{_⊎_, inl, inr}
 use mathlib.Core.Bool.{Bool, true, false, true≢false}
 use mathlib.Core.List.{List}
-use Prim.Native.Nat.{ℕ, zero, suc, _+_, _≤_, _<_, zero-le, suc-le-suc}
-use native.Mathlib.Nat.{le-trans, le-of-eq, lt-of-lt-of-le, not-suc-le-zero, lt-irrefl, zero-add}
+use Prim.Native.Nat.{ℕ, _+_, _≤_, _<_}
+use native.Mathlib.Nat.{le-trans, le-of-eq, not-suc-le-zero, lt-irrefl, zero-add}
 use native.Mathlib.Omega.{arith}
 use lib.Ieee.{Float}
 use Rattle.lists.specs.Walk.{Turn, on, out, walk}

@@ -1,19 +1,19 @@
 -- Signs: a proposed length and a local error are NaN or have the sign clear, and after a rejection no length is above the one before, whatever the tolerance. Assumes nothing.
 use mathlib.Core.Path.{_≡_, refl, sym, ap, _∙_, subst}
 use mathlib.Core.Logic.{_⊎_, inl, inr}
-use mathlib.Core.Bool.{Bool, true, false, not, _&&_, cond, true≢false}
+use mathlib.Core.Bool.{Bool, true, false, not, _&&_, cond}
 use mathlib.Core.List.{List}
-use Prim.Native.Nat.{ℕ, zero, suc, _+_, _-_, _*_, _≤_}
+use Prim.Native.Nat.{ℕ, _+_, _-_, _*_}
 use native.Mathlib.Omega.{arith}
 use lib.IntN.{ℤ, pos}
 use lib.Dec.{T, eqb, ltb}
 use lib.Ieee.{Float, nan, inf, fin, binary64, round, up, down, neg, mul, div, le, fits, isNan, ofBits}
 use lib.Ieee.Fits.{mul-fits, nan-fits}
 use lib.Ieee.Bits.{is-true}
-use Rattle.doubles.specs.F64.{_⊕_, _⊖_, _⊗_, _⊘_, _⩽_, _⋖_, +0, 1f, +∞, at, abs, is-finite}
+use Rattle.doubles.specs.F64.{_⊖_, _⊗_, _⊘_, _⩽_, _⋖_, +0, 1f, +∞, at, abs}
 use Rattle.doubles.specs.Whole.{ceil}
 use Rattle.doubles.proofs.Magnitude.{abs-fits}
-use Rattle.doubles.proofs.Order.{nonneg, nonneg-number, nonneg-zero, nonneg-round, View, endless, number, view}
+use Rattle.doubles.proofs.Order.{nonneg, nonneg-zero, nonneg-round, View, endless, number, view}
 use Rattle.doubles.proofs.Monotone.{round-not, sub-above}
 use Rattle.doubles.proofs.Total.{before→le, le-lowest}
 use Rattle.doubles.proofs.Sizes.{finite-under}
@@ -24,7 +24,7 @@ use Rattle.round2.proofs.Powers.{ten-nonneg, reached-nonneg}
 use Rattle.retry.specs.Retry.{GAMMA, accepts, retry}
 use Rattle.retry.proofs.Length.{Size, length-of, retry-shorter}
 use Rattle.power.specs.Power.{root}
-use Rattle.phi_krylov_arnoldi.specs.Trials.{10f, Estimate, estimate, local-error}
+use Rattle.phi_krylov_arnoldi.specs.Trials.{10f, estimate, local-error}
 
 -- NaN, or the sign clear
 abbrev pub Clear : Float → Type 0

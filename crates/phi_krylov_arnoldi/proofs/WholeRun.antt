@@ -2,19 +2,16 @@
 use mathlib.Core.Path.{_≡_, refl, sym, ap, _∙_, subst}
 use mathlib.Core.Logic.{_⊎_, inl, inr}
 use mathlib.Core.Bool.{Bool, true, false, not, _&&_, true≢false}
-use mathlib.Core.List.{List, [], _∷_}
-use Prim.Native.Nat.{ℕ, zero, suc, _+_, _*_, _≤_, _<_, zero-le}
-use native.Mathlib.Nat.{le-trans, le-of-eq, lt-irrefl}
-use native.Mathlib.Omega.{arith}
+use mathlib.Core.List.{List, []}
+use Prim.Native.Nat.{ℕ, _+_, _<_, zero-le}
+use native.Mathlib.Nat.{lt-irrefl}
 use lib.Dec.{T}
 use lib.ListN.{length}
 use lib.Ieee.{Float, eq, lt, ofBits}
-use lib.Ieee.Bits.{is-true}
-use Rattle.lists.specs.Walk.{Turn, on, out, walk}
+use Rattle.lists.specs.Walk.{on}
 use Rattle.doubles.specs.F64.{_⋖_, +0, 1f}
 use Rattle.doubles.proofs.Time.{zero-good}
 use Rattle.pow2.specs.Pow2.{pow2-scale}
-use Rattle.pow2.specs.declared.Scale.{Scale}
 use Rattle.pow2.specs.declared.Prescale.{Prescale}
 use Rattle.pow2.specs.declared.Prescale.the-variants.{By, None}
 use Rattle.phi_action_helpers.specs.Augmented.{Augmented}
@@ -22,8 +19,8 @@ use Rattle.arnoldi.specs.Basis.{Setting}
 use Rattle.phi_krylov_arnoldi.specs.Run.{State, End, finished, refused, unfinished, run, started, scaled-back, back, clamp-m, idle, expv-by, expv}
 use Rattle.phi_krylov_arnoldi.specs.Trace.{Accepted, trace, total, time-after, Attempt, attempts, in-expv, expv-trace, expv-attempts}
 use Rattle.phi_krylov_arnoldi.proofs.Counts.{last, Each, Counted, Bounded, run-counted, run-bounded}
-use Rattle.phi_krylov_arnoldi.proofs.Limit.{Over, Spent, Ends, run-ends, not-27}
-use Rattle.phi_krylov_arnoldi.proofs.Lengths.{Within, Timely, TimedEnd, run-timed, timed-last, finished-time, Steps, trace-steps, Short, attempts-short, started-timed}
+use Rattle.phi_krylov_arnoldi.proofs.Limit.{Ends, run-ends, not-27}
+use Rattle.phi_krylov_arnoldi.proofs.Lengths.{Within, TimedEnd, run-timed, timed-last, finished-time, Steps, trace-steps, Short, attempts-short, started-timed}
 use Rattle.phi_krylov_arnoldi.proofs.Attempts.{Judged, run-judged}
 
 -- A result comes with norm 0 or at time 1 exactly. A refusal leaves a state whose time is below 1 and, once a substep was accepted, whose norm is not 0:

@@ -7,7 +7,6 @@ use Rattle.lists.specs.Walk.{Turn, on, out}
 use Rattle.doubles.specs.F64.{_⊕_, _⊖_, _⊗_, 1f, minNum}
 use Rattle.vectors.specs.Vectors.{scale}
 use Rattle.pow2.specs.Pow2.{pow2-scale}
-use Rattle.pow2.specs.declared.Scale.{Scale}
 use Rattle.pow2.specs.declared.Prescale.{Prescale}
 use Rattle.pow2.specs.declared.Prescale.the-variants.{By, None}
 use Rattle.phi_action_helpers.specs.Augmented.{Augmented}
