@@ -6,13 +6,13 @@ use mathlib.Core.List.{List, [], _∷_, _++_}
 use Prim.Native.Nat.{ℕ, zero, suc, _+_, _≤_}
 use lib.Dec.{T}
 use lib.Ieee.{Float, nan, inf, fin, binary64, mul, le, lt, eq, fits, ofBits}
-use lib.Ieee.Fits.{add-fits, and-r}
+use lib.Ieee.Fits.{add-fits, sub-fits, and-r}
 use lib.Ieee.Bits.{is-true}
 use Rattle.lists.specs.Walk.{Turn, on, out, walk}
 use Rattle.doubles.specs.F64.{_⊕_, _⊖_, _⩽_, _⋖_, +0, 1f, minNum, replaced}
 use Rattle.doubles.proofs.Order.{nonneg, nonneg-number, nonneg-sign}
-use Rattle.doubles.proofs.Total.{⩽-refl, ⩽-trans, ⩽-or-⋖, ⩽-antisymm, le-number-right}
-use Rattle.doubles.proofs.Time.{one-fits, sum-step, rest-good, zero-good}
+use Rattle.doubles.proofs.Total.{lt-numbers, ⩽-refl, ⩽-trans, ⩽-or-⋖, ⩽-antisymm}
+use Rattle.doubles.proofs.Time.{one-fits, sum-step, rest-good, rest-above, above-zero, zero-good}
 use Rattle.retry.specs.Retry.{accepts, retry}
 use Rattle.hess_exp.specs.HessExp.{Small, unplanned, column, hess-exp-e1}
 use Rattle.arnoldi.specs.Basis.{Setting, dim, Basis, breakdown, full}
@@ -20,7 +20,8 @@ use Rattle.phi_krylov_arnoldi.specs.Trials.{Estimate, Trying, Tried, acc
 use Rattle.phi_krylov_arnoldi.specs.Run.{State, End, finished, refused, applied-of, columns-of, advance, unfinished, standing, settle, substep, spent, run, first-length, started}
 use Rattle.phi_krylov_arnoldi.specs.Trace.{Accepted, accepted-in, made, trace, Attempt, lengths, tried-on, attempts}
 use Rattle.phi_krylov_arnoldi.proofs.Counts.{Kept, walk-keeps, Each, each-append, last, reached, basis-of, trials-of}
-use Rattle.phi_krylov_arnoldi.proofs.Signs.{Clear, round2-clear, round2-fits, retry-clear, retry-fits, retry-nan, error-clear, retry-at-most}
+use Rattle.phi_krylov_arnoldi.proofs.Positive.{round2-above}
+use Rattle.phi_krylov_arnoldi.proofs.Signs.{Clear, round2-fits, retry-above, retry-fits, retry-nan, error-clear, retry-at-most}
 
 -- a double with the sign clear that is at most x
 pub record Within (x t : Float) : Type 0 where
@@ -28,29 +29,42 @@ pub record Within (x t : Float) : Type 0 where
   pub clear : T (nonneg t)
   pub most : T (t ⩽ x)
 
--- a length to be tried: NaN, or within what is left
+-- a double above 0 that is at most x
+pub record Step (x t : Float) : Type 0 where
+  pub fit : T (fits binary64 t)
+  pub above : T (+0 ⋖ t)
+  pub most : T (t ⩽ x)
+
+pub clear-of : (t : Float) → T (+0 ⋖ t) → T (nonneg t)
+clear-of t h = above-zero t (is-true (+0 ⋖ t) h)
+
+-- a length proposed: NaN, or above 0
+abbrev pub Proposed : Float → Type 0
+Proposed t = (t ≡ nan) ⊎ T (+0 ⋖ t)
+
+-- a length to be tried: NaN, or above 0 and within what is left
 abbrev pub Length : Float → Float → Type 0
-Length x t = (t ≡ nan) ⊎ Within x t
+Length x t = (t ≡ nan) ⊎ Step x t
 
 -- ---- the lengths tried on one basis
 -- the first: a NaN proposed is dropped
-pub first-within : (next x : Float) → T (fits binary64 next) → Clear next → Within x x → Within x (minNum next x)
+first-step : (next x : Float) → T (fits binary64 next) → Proposed next → Step x x → Step x (minNum next x)
 unfolding minNum replaced
-first-within next x f (inl e) w = subst (λ (z : Float). Within x (replaced z x (x ⋖ z))) (sym e) w
-first-within next x f (inr h) w = go next f h (x ⋖ next) refl
+first-step next x f (inl e) w = subst (λ (z : Float). Step x (replaced z x (x ⋖ z))) (sym e) w
+first-step next x f (inr h) w = go next f h (x ⋖ next) refl
   where
-    under : (next : Float) → T (nonneg next) → (x ⋖ next) ≡ false → T (next ⩽ x)
-    under next h e = elim (⩽-or-⋖ next x (nonneg-number next h) (le-number-right x x (w .most))) [
+    under : (next : Float) → T (+0 ⋖ next) → (x ⋖ next) ≡ false → T (next ⩽ x)
+    under next h e = elim (⩽-or-⋖ next x (lt-numbers +0 next h .1) (lt-numbers +0 x (w .above) .1)) [
       | inl l ↦ l
       | inr g ↦ absurd (true≢false (sym (is-true (x ⋖ next) g) ∙ e))
     ]
 
-    go : (next : Float) → T (fits binary64 next) → T (nonneg next) → (b : Bool) → (x ⋖ next) ≡ b → Within x (replaced next x b)
-    go nan f h b e = absurd h
+    go : (next : Float) → T (fits binary64 next) → T (+0 ⋖ next) → (b : Bool) → (x ⋖ next) ≡ b → Step x (replaced next x b)
+    go nan f h b e = w
     go (inf s) f h true e = w
-    go (inf s) f h false e = record { fit = f; clear = h; most = under (inf s) h e }
+    go (inf s) f h false e = record { fit = f; above = h; most = under (inf s) h e }
     go (fin s m d) f h true e = w
-    go (fin s m d) f h false e = record { fit = f; clear = h; most = under (fin s m d) h e }
+    go (fin s m d) f h false e = record { fit = f; above = h; most = under (fin s m d) h e }
 
 -- no NaN passes the test
 le-nan : (x : Float) → le x nan ≡ false
@@ -63,27 +77,27 @@ pub accepts-nan : (tol err : Float) → accepts tol nan err ≡ false
 unfolding mul ofBits
 accepts-nan tol err = le-nan err
 
-accepted-within : (x tol t err : Float) → Length x t → accepts tol t err ≡ true → Within x t
-accepted-within x tol t err (inl e) h = absurd (true≢false (sym h ∙ ap (λ (z : Float). accepts tol z err) e ∙ accepts-nan tol err))
-accepted-within x tol t err (inr w) h = w
+accepted-step : (x tol t err : Float) → Length x t → accepts tol t err ≡ true → Step x t
+accepted-step x tol t err (inl e) h = absurd (true≢false (sym h ∙ ap (λ (z : Float). accepts tol z err) e ∙ accepts-nan tol err))
+accepted-step x tol t err (inr w) h = w
 
 -- after a rejection
 retry-length : (x : Float) → T (x ⩽ 1f) → (q : ℕ) (tol t err : Float) → Clear err → Length x t → accepts tol t err ≡ false → Length x (retry q tol t err)
 retry-length x u q tol t err c (inl e) r = inl (ap (λ (z : Float). retry q tol z err) e ∙ retry-nan q tol err)
-retry-length x u q tol t err c (inr w) r = elim (retry-at-most q tol t err (w .fit) (w .clear) (⩽-trans t x 1f (w .most) u) c r) [
+retry-length x u q tol t err c (inr w) r = elim (retry-at-most q tol t err (w .fit) (clear-of t (w .above)) (⩽-trans t x 1f (w .most) u) c r) [
   | inl e ↦ inl e
-  | inr l ↦ elim (retry-clear q tol t err) [
+  | inr l ↦ elim (retry-above q tol t err) [
     | inl e ↦ inl e
-    | inr h ↦ inr (record { fit = retry-fits q tol t err; clear = h; most = ⩽-trans (retry q tol t err) t x l (w .most) })
+    | inr h ↦ inr (record { fit = retry-fits q tol t err; above = h; most = ⩽-trans (retry q tol t err) t x l (w .most) })
   ]
 ]
 
-module _ (x : Float) (own : Within x x) (u : T (x ⩽ 1f)) where
+module _ (x : Float) (own : Step x x) (u : T (x ⩽ 1f)) where
   abbrev pub Trial : ℕ → Trying → Type 0
   Trial i s = Length x (s .t)
 
   abbrev pub Chosen : ℕ → Tried → Type 0
-  Chosen i (accepted r t f err) = Within x t
+  Chosen i (accepted r t f err) = Step x t
   Chosen i (stuck arg) = Unit {0}
 
   abbrev pub Trials : ℕ → Turn Trying Tried → Type 0
@@ -91,7 +105,7 @@ module _ (x : Float) (own : Within x x) (u : T (x ⩽ 1f)) where
 
   verdict-trial : (p : Setting) (i : ℕ) (s : Trying) (f : List Float) (e : Estimate) (b : Bool) → Clear (e .err) → Length x (s .t) → accepts (p .tol) (s .t) (e .err) ≡ b → Trials i (verdict p s f e b)
   unfolding verdict
-  verdict-trial p i s f e true c h q = accepted-within x (p .tol) (s .t) (e .err) h q
+  verdict-trial p i s f e true c h q = accepted-step x (p .tol) (s .t) (e .err) h q
   verdict-trial p i s f e false c h q = retry-length x u (e .order) (p .tol) (s .t) (e .err) c h q
 
   judge-trial : (p : Setting) (beta avnorm : Float) (i : ℕ) (s : Trying) (f : Small) → Length x (s .t) → Trials i (judge p beta avnorm s f)
@@ -114,45 +128,44 @@ module _ (x : Float) (own : Within x x) (u : T (x ⩽ 1f)) where
   exact-trial beta hn (unplanned arg) = tt
   exact-trial beta hn (column f) = own
 
-  pub trials-trial : (p : Setting) (beta next : Float) (b : Basis) → T (fits binary64 next) → Clear next → Trials 11 (trials p beta next x b)
+  pub trials-trial : (p : Setting) (beta next : Float) (b : Basis) → T (fits binary64 next) → Proposed next → Trials 11 (trials p beta next x b)
   unfolding trials
   trials-trial p beta next (breakdown b) f c = exact-trial beta (b .hn) (hess-exp-e1 (b .columns .h) (dim p) (b .mb) x)
-  trials-trial p beta next (full b avnorm) f c = walk-keeps Trial Chosen (try-step p beta (b .h) avnorm) (try-trial p beta (b .h) avnorm) chosen-later 11 0 (on (record { rejections = 0; t = minNum next x })) (inr (first-within next x f c own))
+  trials-trial p beta next (full b avnorm) f c = walk-keeps Trial Chosen (try-step p beta (b .h) avnorm) (try-trial p beta (b .h) avnorm) chosen-later 11 0 (on (record { rejections = 0; t = minNum next x })) (inr (first-step next x f c own))
 
 -- ---- the time
--- the time is a double from +0 to 1, and the length proposed is NaN or has the sign clear
+-- the time is a double from +0 to 1, and below 1 the length proposed is NaN or above 0
 pub record Timely (s : State) : Type 0 where
   pub time : Within 1f (s .control .time)
   pub next-fits : T (fits binary64 (s .control .next))
-  pub next-clear : Clear (s .control .next)
+  pub next-above : T (s .control .time ⋖ 1f) → Proposed (s .control .next)
 
--- what is left of a time
-pub rest-within : {t : Float} → Within 1f t → Within (1f ⊖ t) (1f ⊖ t) × T (1f ⊖ t ⩽ 1f)
-rest-within {t} w =
+-- what is left of a time below 1
+rest-step : {t : Float} → Within 1f t → T (t ⋖ 1f) → Step (1f ⊖ t) (1f ⊖ t) × T (1f ⊖ t ⩽ 1f)
+rest-step {t} w l =
     let r = rest-good t (w .fit) (w .clear) (w .most) in
-    (record { fit = r .0; clear = r .2; most = ⩽-refl (1f ⊖ t) (nonneg-number (1f ⊖ t) (r .2)) }, r .3)
+    (record { fit = r .0; above = rest-above t (w .fit) l; most = ⩽-refl (1f ⊖ t) (nonneg-number (1f ⊖ t) (r .2)) }, r .3)
 
-time-within : (t a : Float) → Within 1f t → Within (1f ⊖ t) a → Within 1f (t ⊕ a)
+time-within : (t a : Float) → Within 1f t → Step (1f ⊖ t) a → Within 1f (t ⊕ a)
 time-within t a w v =
-    let r = sum-step t a (w .fit) (w .clear) (w .most) (v .clear) (v .most) in
+    let r = sum-step t a (w .fit) (w .clear) (w .most) (clear-of a (v .above)) (v .most) in
     record { fit = add-fits binary64 t a; clear = r .0; most = r .1 }
 
-pub advance-timely : (p : Setting) (s : State) (n : ℕ) (v : List (List Float)) (r : ℕ) (t : Float) (f : List Float) (err : Float) → Timely s → Within (1f ⊖ s .control .time) t → Timely (advance p s n v r t f err)
+advance-timely : (p : Setting) (s : State) (n : ℕ) (v : List (List Float)) (r : ℕ) (t : Float) (f : List Float) (err : Float) → Timely s → Step (1f ⊖ s .control .time) t → Timely (advance p s n v r t f err)
 unfolding advance
 advance-timely p s n v r t f err h w =
     let time = s .control .time ⊕ t in
     let k : Within 1f time = time-within (s .control .time) t (h .time) w in
-    let left = rest-within k .0 in
     let d = +0 ⋖ err in
-    record { time = k; next-fits = fit-by d (1f ⊖ time) (left .fit); next-clear = clear-by d (1f ⊖ time) (left .clear) }
+    record { time = k; next-fits = fit-by d (1f ⊖ time) (sub-fits binary64 1f time); next-above = λ l. above-by d (1f ⊖ time) (rest-above time (k .fit) l) }
   where
     fit-by : (b : Bool) (x : Float) → T (fits binary64 x) → T (fits binary64 (cond b (retry (p .m) (p .tol) t err) x))
     fit-by true x h = retry-fits (p .m) (p .tol) t err
     fit-by false x h = h
 
-    clear-by : (b : Bool) (x : Float) → T (nonneg x) → Clear (cond b (retry (p .m) (p .tol) t err) x)
-    clear-by true x h = retry-clear (p .m) (p .tol) t err
-    clear-by false x h = inr h
+    above-by : (b : Bool) (x : Float) → T (+0 ⋖ x) → Proposed (cond b (retry (p .m) (p .tol) t err) x)
+    above-by true x h = retry-above (p .m) (p .tol) t err
+    above-by false x h = inr h
 
 -- a state that a substep starts from has its time below 1
 abbrev pub TimedEnd : End → Type 0
@@ -168,7 +181,7 @@ unfolding unfinished
 standing-timed s true h e = (h, and-r (not (eq (s .control .beta) +0)) (s .control .time ⋖ 1f) (subst (λ (c : Bool). T c) (sym e) tt))
 standing-timed s false h e = h
 
-settle-timed : (p : Setting) (s : State) (b : Basis) (i : ℕ) (own : Within (1f ⊖ s .control .time) (1f ⊖ s .control .time)) (u : T (1f ⊖ s .control .time ⩽ 1f)) (o : Turn Trying Tried)
+settle-timed : (p : Setting) (s : State) (b : Basis) (i : ℕ) (own : Step (1f ⊖ s .control .time) (1f ⊖ s .control .time)) (u : T (1f ⊖ s .control .time ⩽ 1f)) (o : Turn Trying Tried)
     → Timely s → T (s .control .time ⋖ 1f) → Trials (1f ⊖ s .control .time) own u i o → Timed (settle p s b o)
 unfolding settle
 settle-timed p s b i own u (on t) h l k = (h, l)
@@ -178,17 +191,18 @@ settle-timed p s b i own u (out (accepted r t f err)) h l k =
     standing-timed n (unfinished n) (advance-timely p s (applied-of b) (columns-of b) r t f err h k) refl
 
 -- the trials of the substep from s
-own-trials : (p : Setting) (s : State) (h : Timely s) → Trials (1f ⊖ s .control .time) (rest-within (h .time) .0) (rest-within (h .time) .1) 11 (trials-of p s)
-own-trials p s h = trials-trial (1f ⊖ s .control .time) (rest-within (h .time) .0) (rest-within (h .time) .1) p (s .control .beta) (s .control .next) (basis-of p s) (h .next-fits) (h .next-clear)
+own-trials : (p : Setting) (s : State) (h : Timely s) (l : T (s .control .time ⋖ 1f)) → Trials (1f ⊖ s .control .time) (rest-step (h .time) l .0) (rest-step (h .time) l .1) 11 (trials-of p s)
+own-trials p s h l =
+    trials-trial (1f ⊖ s .control .time) (rest-step (h .time) l .0) (rest-step (h .time) l .1) p (s .control .beta) (s .control .next) (basis-of p s) (h .next-fits) (h .next-above l)
 
 pub substep-timed : (p : Setting) (s : State) → Timely s → T (s .control .time ⋖ 1f) → Timed (substep p s)
 unfolding substep
-substep-timed p s h l = settle-timed p s (basis-of p s) 11 (rest-within (h .time) .0) (rest-within (h .time) .1) (trials-of p s) h l (own-trials p s h)
+substep-timed p s h l = settle-timed p s (basis-of p s) 11 (rest-step (h .time) l .0) (rest-step (h .time) l .1) (trials-of p s) h l (own-trials p s h l)
 
 pub started-timed : (p : Setting) (y : List Float) → Timed (on (started p y))
 unfolding started first-length
 started-timed p y = (
-  record { time = record { fit = zero-good .0; clear = zero-good .1; most = zero-good .2 }; next-fits = round2-fits _; next-clear = round2-clear _ },
+  record { time = record { fit = zero-good .0; clear = zero-good .1; most = zero-good .2 }; next-fits = round2-fits _; next-above = λ _. round2-above _ },
   unfold lt ofBits in tt,
 )
 
@@ -229,13 +243,13 @@ finished-time s h e = go (eq (s .control .beta) +0) (s .control .time ⋖ 1f) re
     go true b q e = inl refl
     go false b q e = inr (exact (q ∙ e))
 
--- ---- the trace: each substep starts at a time from +0 to below 1, and its length is a number within what is left
+-- ---- the trace: each substep starts at a time from +0 to below 1, and its length is above 0 and within what is left
 abbrev pub Steps : Float → List Accepted → Type 0
 Steps time [] = Unit {0}
-Steps time (a ∷ l) = Within 1f time × T (time ⋖ 1f) × Within (1f ⊖ time) (a .t) × Steps (time ⊕ a .t) l
+Steps time (a ∷ l) = Within 1f time × T (time ⋖ 1f) × Step (1f ⊖ time) (a .t) × Steps (time ⊕ a .t) l
 
 settle-steps : (p : Setting) (s : State) (b : Basis) (later : Turn State End → List Accepted) → ((o : Turn State End) → Timed o → Steps (reached o .control .time) (later o))
-    → (h : Timely s) → T (s .control .time ⋖ 1f) → (o : Turn Trying Tried) → Trials (1f ⊖ s .control .time) (rest-within (h .time) .0) (rest-within (h .time) .1) 11 o
+    → (h : Timely s) (l : T (s .control .time ⋖ 1f)) (o : Turn Trying Tried) → Trials (1f ⊖ s .control .time) (rest-step (h .time) l .0) (rest-step (h .time) l .1) 11 o
     → Steps (s .control .time) (accepted-in b o ++ later (settle p s b o))
 unfolding settle accepted-in
 settle-steps p s b later rest h l (on t) k = rest (out (refused 28 (p .tol) s)) (h, l)
@@ -251,7 +265,7 @@ settle-steps p s b later rest h l (out (accepted r t f err)) k =
 pub trace-steps : (p : Setting) (k : ℕ) (o : Turn State End) → Timed o → Steps (reached o .control .time) (trace p k o)
 unfolding trace made substep
 trace-steps p zero o h = tt
-trace-steps p (suc k) (on s) h = settle-steps p s (basis-of p s) (trace p k) (trace-steps p k) (h .0) (h .1) (trials-of p s) (own-trials p s (h .0))
+trace-steps p (suc k) (on s) h = settle-steps p s (basis-of p s) (trace p k) (trace-steps p k) (h .0) (h .1) (trials-of p s) (own-trials p s (h .0) (h .1))
 trace-steps p (suc k) (out e) h = tt
 
 -- ---- every length tried
@@ -263,7 +277,7 @@ short : (time t : Float) → Length (1f ⊖ time) t → Short (record { time = t
 short time t (inl e) = inl e
 short time t (inr w) = inr (w .most)
 
-lengths-short : (time : Float) (own : Within (1f ⊖ time) (1f ⊖ time)) (u : T (1f ⊖ time ⩽ 1f)) (step : ℕ → Trying → Turn Trying Tried)
+lengths-short : (time : Float) (own : Step (1f ⊖ time) (1f ⊖ time)) (u : T (1f ⊖ time ⩽ 1f)) (step : ℕ → Trying → Turn Trying Tried)
     → ((i : ℕ) (s : Trying) → Trial (1f ⊖ time) own u i s → Trials (1f ⊖ time) own u (i + 1) (step i s))
     → (k i : ℕ) (o : Turn Trying Tried) → Trials (1f ⊖ time) own u i o → Each Short (lengths step time k i o)
 unfolding lengths
@@ -271,20 +285,20 @@ lengths-short time own u step one zero i o h = tt
 lengths-short time own u step one (suc k) i (on s) h = (short time (s .t) h, lengths-short time own u step one k (i + 1) (step i s) (one i s h))
 lengths-short time own u step one (suc k) i (out e) h = tt
 
-tried-short : (p : Setting) (s : State) (b : Basis) → Timely s → Each Short (tried-on p s b)
+tried-short : (p : Setting) (s : State) (b : Basis) → Timely s → T (s .control .time ⋖ 1f) → Each Short (tried-on p s b)
 unfolding tried-on
-tried-short p s (breakdown b) h = (inr (rest-within (h .time) .0 .most), tt)
-tried-short p s (full b avnorm) h =
+tried-short p s (breakdown b) h l = (inr (rest-step (h .time) l .0 .most), tt)
+tried-short p s (full b avnorm) h l =
     let x = 1f ⊖ s .control .time in
-    let own = rest-within (h .time) .0 in
-    let u = rest-within (h .time) .1 in
+    let own = rest-step (h .time) l .0 in
+    let u = rest-step (h .time) l .1 in
     lengths-short (s .control .time) own u (try-step p (s .control .beta) (b .h) avnorm) (try-trial x own u p (s .control .beta) (b .h) avnorm) 11 0 _
-    (inr (first-within (s .control .next) x (h .next-fits) (h .next-clear) own))
+    (inr (first-step (s .control .next) x (h .next-fits) (h .next-above l) own))
 
 pub attempts-short : (p : Setting) (k : ℕ) (o : Turn State End) → Timed o → Each Short (attempts p k o)
 unfolding attempts
 attempts-short p zero o h = tt
 attempts-short p (suc k) (on s) h =
-    each-append Short (tried-on p s (basis-of p s)) (attempts p k (substep p s)) (tried-short p s (basis-of p s) (h .0))
+    each-append Short (tried-on p s (basis-of p s)) (attempts p k (substep p s)) (tried-short p s (basis-of p s) (h .0) (h .1))
     (attempts-short p k (substep p s) (substep-timed p s (h .0) (h .1)))
 attempts-short p (suc k) (out e) h = tt

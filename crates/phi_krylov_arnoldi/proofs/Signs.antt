@@ -1,7 +1,7 @@
--- Signs: a proposed length and a local error are NaN or have the sign clear, and after a rejection no length is above the one before, whatever the tolerance. Assumes nothing.
+-- A local error is NaN or has the sign clear, and after a rejection no length is above the one before, whatever the tolerance. Assumes nothing.
 use mathlib.Core.Path.{_≡_, refl, sym, ap, _∙_, subst}
 use mathlib.Core.Logic.{_⊎_, inl, inr}
-use mathlib.Core.Bool.{Bool, true, false, not, _&&_, cond}
+use mathlib.Core.Bool.{Bool, true, false, not, cond}
 use mathlib.Core.List.{List}
 use Prim.Native.Nat.{ℕ, _+_, _-_, _*_}
 use native.Mathlib.Omega.{arith}
@@ -10,7 +10,7 @@ use lib.Dec.{T, eqb, ltb}
 use lib.Ieee.{Float, nan, inf, fin, binary64, round, up, down, neg, mul, div, le, fits, isNan, ofBits}
 use lib.Ieee.Fits.{mul-fits, nan-fits}
 use lib.Ieee.Bits.{is-true}
-use Rattle.doubles.specs.F64.{_⊖_, _⊗_, _⊘_, _⩽_, _⋖_, +0, 1f, +∞, at, abs}
+use Rattle.doubles.specs.F64.{_⊖_, _⊗_, _⊘_, _⩽_, _⋖_, +0, 1f, at, abs}
 use Rattle.doubles.specs.Whole.{ceil}
 use Rattle.doubles.proofs.Magnitude.{abs-fits}
 use Rattle.doubles.proofs.Order.{nonneg, nonneg-zero, nonneg-round, View, endless, number, view}
@@ -20,10 +20,10 @@ use Rattle.doubles.proofs.Sizes.{finite-under}
 use Rattle.doubles.proofs.Time.{above-zero}
 use Rattle.round2.specs.Ten.{ten}
 use Rattle.round2.specs.Rounded.{usable, decade, up-to, round2, open-Rounded}
-use Rattle.round2.proofs.Powers.{ten-nonneg, reached-nonneg}
 use Rattle.retry.specs.Retry.{GAMMA, accepts, retry}
 use Rattle.retry.proofs.Length.{Size, length-of, retry-shorter}
 use Rattle.power.specs.Power.{root}
+use Rattle.phi_krylov_arnoldi.proofs.Positive.{round2-above}
 use Rattle.phi_krylov_arnoldi.specs.Trials.{10f, estimate, local-error}
 
 -- NaN, or the sign clear
@@ -90,30 +90,6 @@ div-clear x y (inr h) (inl e) = inl (ap (λ (z : Float). x ⊘ z) e ∙ div-nan 
 div-clear x y (inr h) (inr k) = div-view (view x h) (view y k)
 
 -- ---- `round2`
-ceil-clear : (x : Float) → Clear x → Clear (ceil x)
-unfolding ceil
-ceil-clear x (inl e) = inl (ap ceil e)
-ceil-clear x (inr h) = inr (go (view x h))
-  where
-    go : {x : Float} → View x → T (nonneg (ceil x))
-    go endless = tt
-    go (number m e) = nonneg-round binary64 _ 1
-
-up-to-clear : (x : Float) (i : ℕ) → T (nonneg x) → Clear (up-to x i)
-unfolding up-to
-up-to-clear x i h =
-    let t : Clear (ten (i - 1)) = inr (ten-nonneg (i - 1)) in
-    mul-clear (ceil (x ⊘ ten (i - 1))) (ten (i - 1)) (ceil-clear (x ⊘ ten (i - 1)) (div-clear x (ten (i - 1)) (inr h) t)) t
-
-pub round2-clear : (x : Float) → Clear (round2 x)
-unfolding round2
-round2-clear x = go (ten 1 ⩽ x) (x ⋖ +∞) (λ h. up-to-clear x (decade x) (reached-nonneg x h))
-  where
-    go : (a b : Bool) → (T a → Clear (up-to x (decade x))) → Clear (cond (a && b) (up-to x (decade x)) nan)
-    go true true h = h tt
-    go true false h = inl refl
-    go false b h = inl refl
-
 pub round2-fits : (x : Float) → T (fits binary64 (round2 x))
 unfolding round2 up-to
 round2-fits x = go (usable x)
@@ -126,9 +102,9 @@ round2-nan : round2 nan ≡ nan
 unfolding open-Rounded
 round2-nan = refl
 
-pub retry-clear : (q : ℕ) (tol t err : Float) → Clear (retry q tol t err)
+pub retry-above : (q : ℕ) (tol t err : Float) → (retry q tol t err ≡ nan) ⊎ T (+0 ⋖ retry q tol t err)
 unfolding retry
-retry-clear q tol t err = round2-clear (GAMMA ⊗ t ⊗ root (t ⊗ tol ⊘ err) q)
+retry-above q tol t err = round2-above (GAMMA ⊗ t ⊗ root (t ⊗ tol ⊘ err) q)
 
 pub retry-fits : (q : ℕ) (tol t err : Float) → T (fits binary64 (retry q tol t err))
 unfolding retry

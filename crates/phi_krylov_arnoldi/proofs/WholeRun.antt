@@ -41,7 +41,7 @@ pub record Whole (M limit : ℕ) (l : List Accepted) (a : List Attempt) (e : End
   pub judged : Judged (length a) e
   -- no length tried is above the rounded 1 - time
   pub short : Each Short a
-  -- each substep starts at a time from +0 to below 1, and its length is no NaN, not negative and within the rounded 1 - time
+  -- each substep starts at a time from +0 to below 1, and its length is no NaN, above 0 and within the rounded 1 - time
   pub steps : Steps +0 l
   -- the time is from +0 to 1
   pub time : Within 1f (last e .control .time)
