@@ -258,6 +258,29 @@ module _ {A : Type 0} where
   pub set-splice-before : (at : ℕ) (vs w : List A) (k : ℕ) (v : A) → k < at → set (splice at vs w) k v ≡ splice at vs (set w k v)
   set-splice-before at vs w k v h = set-splice k v (splice at vs w) ∙ splice-comm k at (v ∷ []) vs w (omega arith) ∙ ap (splice at vs) (sym (set-splice k v w))
 
+  set-in-over : (vs w : List A) (k : ℕ) (v : A) → k < length vs → set (over vs w) k v ≡ over (set vs k v) w
+  unfolding over
+  set-in-over [] w k v h = absurd (omega arith)
+  set-in-over (u ∷ vs) [] zero v h = refl
+  set-in-over (u ∷ vs) [] (suc k) v h = refl
+  set-in-over (u ∷ vs) (x ∷ w) zero v h = refl
+  set-in-over (u ∷ vs) (x ∷ w) (suc k) v h = ap (λ (r : List A). u ∷ r) (set-in-over vs w k v (omega arith))
+
+  -- a store within what was written
+  pub set-splice-in : (at : ℕ) (vs w : List A) (k : ℕ) (v : A) → k < length vs → set (splice at vs w) (at + k) v ≡ splice at (set vs k v) w
+  unfolding splice
+  set-splice-in zero vs w k v h = rw zero-add (set-in-over vs w k v h)
+  set-splice-in (suc n) vs [] k v h = refl
+  set-splice-in (suc n) vs (x ∷ w) k v h = rw (suc-add n k) (ap (λ (r : List A). x ∷ r) (set-splice-in n vs w k v h))
+
+  -- a store within a window
+  pub window-set-in : (at len : ℕ) (w : List A) (k : ℕ) (v : A) → k < len → at + len ≤ length w → window at len (set w (at + k) v) ≡ set (window at len w) k v
+  window-set-in at len w k v l h =
+      let ws : length (window at len w) ≡ len = length-window at len w h in
+      ap (λ (u : List A). window at len (set u (at + k) v)) (sym (splice-window at len w))
+      ∙ ap (window at len) (set-splice-in at (window at len w) w k v (omega arith))
+      ∙ window-splice-same at len (set (window at len w) k v) w (length-set (window at len w) k v ∙ ws) h
+
   -- the same, as the caller has it when `&mut w[at..at + len]` is back: the callee kept the part's length, and made f of it
   pub part-back : (at len : ℕ) (f : List A → List A) (ys w : List A) → at + len ≤ length w → length ys ≡ length (take (at + len - at) (drop at w)) → ys ≡ f (take (at + len - at) (drop at w))
       → take at w ++ (ys ++ drop (at + len - at) (drop at w)) ≡ splice at (f (window at len w)) w

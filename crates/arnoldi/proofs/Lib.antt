@@ -1,0 +1,2 @@
+pub mod GramSchmidt
+pub mod Turns
