@@ -1,2 +1,3 @@
 pub mod GramSchmidt
 pub mod Turns
+pub mod Answers

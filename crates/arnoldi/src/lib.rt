@@ -13,7 +13,9 @@ ghost use Rattle.phi_action_helpers.specs.Laid.{matrix-at};
 ghost use Rattle.phi_action_helpers.specs.declared.Coupling.{Coupling};
 ghost use Rattle.arnoldi.specs.Basis.{norm2, apply, orthogonal, broken, arnoldi-step, close, arnoldi};
 ghost use Rattle.arnoldi.specs.Memory.{setting-at, Room, Spared, column, behind, rest-at, columns-at, grown-at, Within, basis-at, Counted, Rested, Ended};
-use phi_action_helpers::{Coupling, Layout, Scales};
+use phi_action_helpers::Coupling;
+use phi_action_helpers::Layout;
+use phi_action_helpers::Scales;
 
 // A run's memory and what stays the same during it: M + 1 columns of n + d values from place 0, the product from the Layout's w,
 // the small matrix of (M + 2) squared from h, the field of n + d from y, then the Layout's av and q.

@@ -8,7 +8,7 @@ use Prim.Native.Nat.{ℕ, zero, suc, _+_, _-_, _≤_, _<_, suc-le-suc, zero-le}
 use native.Mathlib.Omega.{arith}
 use native.Mathlib.Numerals.{add-one}
 use native.Mathlib.Nat.{suc-add, zero-add, suc-inj, add-sub-cancel-left}
-use lib.ListN.{length, getD, set, take, drop, length-set, length-take, length-drop}
+use lib.ListN.{length, getD, set, take, drop, replicate, length-set, length-take, length-drop}
 use Rattle.lists.specs.Window.{window, over, splice}
 use lib.Seq.{take-take, length-take-le, getD-take, getD-drop, ext-getD, drop-drop}
 
@@ -288,3 +288,9 @@ module _ {A : Type 0} where
       let l : length ys ≡ len = k ∙ rw (part-window at len w) (length-window at len w h) in
       let e′ : ys ≡ f (window at len w) = rw (part-window at len w) at e in
       rw (add-sub-cancel-left at len, drop-drop len at w, ← l) (splice-parts at ys w (omega arith)) ∙ ap (λ (r : List A). splice at r w) e′
+
+  -- and where it filled the part
+  pub part-filled : (at len : ℕ) (z : A) (ys w : List A) → at + len ≤ length w → length ys ≡ length (take (at + len - at) (drop at w)) → ys ≡ replicate (length (take (at + len - at) (drop at w))) z
+      → take at w ++ (ys ++ drop (at + len - at) (drop at w)) ≡ splice at (replicate len z) w
+  part-filled at len z ys w h k e =
+      part-back at len (λ x. replicate (length x) z) ys w h k e ∙ ap (λ (n : ℕ). splice at (replicate n z) w) (length-window at len w h)
