@@ -56,7 +56,7 @@ columns-at l k i applied w = record { v = tabulate i (column (l .n + l .d) w); h
 abbrev pub breakdown-at : Layout → Krylov → ℕ → ℕ → Float → List Float → Breakdown
 breakdown-at l k applied mb hn w = record { columns = columns-at l k mb applied w; mb = mb; hn = hn }
 
--- after turn j
+-- after j turns
 unfoldable pub grown-at : Layout → Krylov → ℕ → Grown → List Float → Turn Columns Breakdown
 grown-at l k j (On applied) w = on (columns-at l k (j + 1) applied w)
 grown-at l k j (Broken applied mb hn) w = out (breakdown-at l k applied mb hn w)
