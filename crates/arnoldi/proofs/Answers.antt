@@ -1,7 +1,7 @@
 -- The turns and the answer of a run on lists. Assumes nothing.
 use mathlib.Core.List.{List, [], _∷_}
-use mathlib.Core.Path.{_≡_, refl, sym, ap, _∙_, subst}
-use Prim.Native.Nat.{ℕ, _+_, _*_, _≤_, _<_}
+use mathlib.Core.Path.{_≡_, refl, sym, ap, _∙_}
+use Prim.Native.Nat.{ℕ, _+_, _*_, _≤_}
 use native.Mathlib.Numerals.{add-one}
 use native.Mathlib.Omega.{arith}
 use lib.ListN.{length, getD, replicate, length-replicate}
@@ -22,13 +22,13 @@ use Rattle.phi_action_helpers.specs.declared.Coupling.{Coupling}
 use Rattle.phi_action_helpers.specs.Laid.{matrix-at}
 use Rattle.phi_action_helpers.proofs.Sweeps.{values-kept}
 use Rattle.arnoldi.specs.Basis.{Setting, Columns, Breakdown, arnoldi-step, close, first-column, arnoldi}
-use Rattle.arnoldi.specs.Memory.{setting-at, Room, Spared, column, columns-at, breakdown-at, grown-at, Within, basis-at, Counted, Ended}
+use Rattle.arnoldi.specs.Memory.{setting-at, Room, Spared, column, columns-at, breakdown-at, grown-at, Within, basis-at, Ended}
 use Rattle.arnoldi.specs.declared.Krylov.{Krylov}
 use Rattle.arnoldi.specs.declared.Grown.{Grown}
 use Rattle.arnoldi.specs.declared.Grown.the-variants.{On, Broken}
 use Rattle.arnoldi.specs.declared.BasisAnswer.{BasisAnswer}
 use Rattle.arnoldi.specs.declared.BasisAnswer.the-variants.{Breakdown as Broke, Full}
-use Rattle.arnoldi.proofs.Turns.{spared-all, spared-by, spared-on}
+use Rattle.arnoldi.proofs.Turns.{spared-all, spared-by}
 
 -- ---- the loop: what the present answer stands for
 pub within-more : (i j : ℕ) (o : Grown) → Within i o → i ≤ j → Within j o

@@ -1,9 +1,8 @@
 -- Worked examples, by computation. Assumes nothing.
 use mathlib.Core.Path.{_≡_, refl}
-use mathlib.Core.List.{List, [], _∷_}
+use mathlib.Core.List.{[], _∷_}
 use Prim.Native.Nat.{ℕ}
 use lib.ListN.{replicate, set}
-use lib.Ieee.{Float}
 use Rattle.doubles.specs.F64.{nat, +0, 1f}
 use Rattle.general_operator.specs.Csr.{csr}
 use Rattle.phi_action_helpers.specs.Augmented.{augmented}

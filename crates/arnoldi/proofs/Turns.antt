@@ -20,7 +20,6 @@ use Rattle.vectors.specs.Vectors.{scale}
 use Rattle.vectors.proofs.Laws.{length-scale}
 use Rattle.general_operator.specs.Csr.{Csr, csr, apply-generator}
 use Rattle.general_operator.proofs.Rows.{length-apply}
-use Rattle.csr_matvec.specs.Values.{values}
 use Rattle.phi_action_helpers.specs.declared.Layout.{Layout}
 use Rattle.phi_action_helpers.specs.declared.Coupling.{Coupling}
 use Rattle.phi_action_helpers.specs.declared.Scales.{Scales}

@@ -1,6 +1,6 @@
 // The Arnoldi basis of one substep.
 ghost use mathlib.Core.Path.{_≡_};
-ghost use mathlib.Core.List.{List, [], _∷_};
+ghost use mathlib.Core.List.{List};
 ghost use Prim.Native.Nat.{ℕ, _+_, _*_, _≤_, _<_};
 ghost use lib.ListN.{length, set, replicate};
 ghost use lib.Ieee.{Float};
