@@ -2,14 +2,14 @@
 -- the callee's equation `w₁ ≡ splice at vs w` is an argument. Assumes nothing.
 use mathlib.Core.Path.{_≡_, refl, sym, ap, _∙_}
 use mathlib.Core.Logic.{_⊎_, ⊎-elim}
-use mathlib.Core.List.{List, _++_}
+use mathlib.Core.List.{List, [], _∷_, _++_}
 use Prim.Native.Nat.{ℕ, _+_, _≤_, _<_}
 use native.Mathlib.Omega.{arith}
-use lib.ListN.{length, replicate, length-replicate, length-append}
+use lib.ListN.{length, set, replicate, length-replicate, length-append}
 use Rattle.lists.specs.Window.{window, splice}
 use Rattle.lists.specs.Bounds.{Disjoint}
 use Rattle.lists.proofs.Bounds.{disjoint-cases}
-use Rattle.lists.proofs.Window.{length-splice, window-splice-same, window-splice-before, window-splice-after, splice-cover, splice-splice, splice-append}
+use Rattle.lists.proofs.Window.{length-splice, window-splice-same, window-splice-before, window-splice-after, splice-cover, splice-splice, splice-append, set-splice}
 pub use Rattle.lists.specs.Frame.{Kept}
 
 module _ {A : Type 0} where
@@ -20,6 +20,10 @@ module _ {A : Type 0} where
 
   pub wrote : (at n : ℕ) (vs w w₁ : List A) → length vs ≡ n → w₁ ≡ splice at vs w → Wrote at n vs w w₁
   wrote at n vs w w₁ l e = record { is = e; size = l }
+
+  -- a store
+  pub wrote-set : (w : List A) (k : ℕ) (v : A) → Wrote k 1 (v ∷ []) w (set w k v)
+  wrote-set w k v = record { is = set-splice k v w; size = refl }
 
   -- the window that was written
   pub written : {at n : ℕ} {vs w w₁ : List A} → Wrote at n vs w w₁ → at + n ≤ length w → window at n w₁ ≡ vs
@@ -51,6 +55,18 @@ module _ {A : Type 0} where
   -- one after the other
   pub kept-on : {p n : ℕ} {z : A} {w₀ w w₁ : List A} → Kept p n z w₀ w → Kept p n z w w₁ → Kept p n z w₀ w₁
   kept-on a b = record { outside = b .outside ∙ a .outside; long = b .long ∙ a .long }
+
+  -- what differs within a part differs within a longer one
+  pub kept-wider : {p n : ℕ} {z : A} {w₀ w : List A} → Kept p n z w₀ w → (m : ℕ) → n ≤ m → Kept p m z w₀ w
+  kept-wider {p} {n} {z} {w₀} {w} k m h =
+      let ln = length-replicate n z in
+      let lm = length-replicate m z in
+      record {
+        outside = sym (splice-cover p p (replicate m z) (replicate n z) w (omega arith) (omega arith))
+            ∙ ap (splice p (replicate m z)) (k .outside)
+            ∙ splice-cover p p (replicate m z) (replicate n z) w₀ (omega arith) (omega arith);
+        long = k .long;
+      }
 
   -- a window outside is as it was
   pub kept-window : {p n : ℕ} {z : A} {w₀ w : List A} → Kept p n z w₀ w → (q m : ℕ) → Disjoint p n q m → window q m w ≡ window q m w₀

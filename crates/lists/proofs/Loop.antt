@@ -51,6 +51,9 @@ module _ {A : Type 0} where
   tabulate-suc zero f = refl
   tabulate-suc (suc n) f = ap (λ (r : List A). f 0 ∷ r) (tabulate-suc n (λ k. f (suc k)))
 
+  pub tabulate-snoc : (n : ℕ) (f : ℕ → A) → tabulate (n + 1) f ≡ tabulate n f ++ (f n ∷ [])
+  tabulate-snoc n f = rw (add-one n) (tabulate-suc n f)
+
   pub tabulate-add : (i m : ℕ) (f : ℕ → A) → tabulate (i + m) f ≡ tabulate i f ++ tabulate m (λ k. f (i + k))
   unfolding tabulate
   tabulate-add zero m f = simp zero-add
@@ -70,7 +73,7 @@ module _ {A : Type 0} where
   pub fill-next : (at : ℕ) (f : ℕ → A) (i : ℕ) (w : List A) → set (splice at (tabulate i f) w) (at + i) (f i) ≡ splice at (tabulate (i + 1) f) w
   fill-next at f i w =
       subst (λ (k : ℕ). set (splice at (tabulate i f) w) (at + k) (f i) ≡ splice at (tabulate i f ++ (f i ∷ [])) w) (length-tabulate i f) (splice-snoc at (tabulate i f) w (f i))
-      ∙ ap (λ (r : List A). splice at r w) (sym (tabulate-suc i f) ∙ ap (λ (k : ℕ). tabulate k f) (sym (add-one i)))
+      ∙ ap (λ (r : List A). splice at r w) (sym (tabulate-snoc i f))
 
   -- w is w₀ with f 0 .. f (i - 1) written from index p: the invariant of a loop that writes a window from its front
   pub record Filled (p i : ℕ) (f : ℕ → A) (w₀ w : List A) : Type 0 where

@@ -285,6 +285,14 @@ module _ {A : Type 0} where
   pub set-splice-before : (at : ℕ) (vs w : List A) (k : ℕ) (v : A) → k < at → set (splice at vs w) k v ≡ splice at vs (set w k v)
   set-splice-before at vs w k v h = set-splice k v (splice at vs w) ∙ splice-comm k at (v ∷ []) vs w (omega arith) ∙ ap (splice at vs) (sym (set-splice k v w))
 
+  -- a store within a window
+  pub window-set-in : (at len : ℕ) (w : List A) (k : ℕ) (v : A) → k < len → at + len ≤ length w → window at len (set w (at + k) v) ≡ set (window at len w) k v
+  window-set-in at len w k v l h =
+      let ws : length (window at len w) ≡ len = length-window at len w h in
+      ap (λ (u : List A). window at len (set u (at + k) v)) (sym (splice-window at len w))
+      ∙ ap (window at len) (set-splice-in at (window at len w) w k v (omega arith))
+      ∙ window-splice-same at len (set (window at len w) k v) w (length-set (window at len w) k v ∙ ws) h
+
   -- the same, as the caller has it when `&mut w[at..at + len]` is back: the callee kept the part's length, and made f of it
   pub part-back : (at len : ℕ) (f : List A → List A) (ys w : List A) → at + len ≤ length w → length ys ≡ length (take (at + len - at) (drop at w)) → ys ≡ f (take (at + len - at) (drop at w))
       → take at w ++ (ys ++ drop (at + len - at) (drop at w)) ≡ splice at (f (window at len w)) w
@@ -292,3 +300,9 @@ module _ {A : Type 0} where
       let l : length ys ≡ len = k ∙ rw (part-window at len w) (length-window at len w h) in
       let e′ : ys ≡ f (window at len w) = rw (part-window at len w) at e in
       rw (add-sub-cancel-left at len, drop-drop len at w, ← l) (splice-parts at ys w (omega arith)) ∙ ap (λ (r : List A). splice at r w) e′
+
+  -- and where it filled the part
+  pub part-filled : (at len : ℕ) (z : A) (ys w : List A) → at + len ≤ length w → length ys ≡ length (take (at + len - at) (drop at w)) → ys ≡ replicate (length (take (at + len - at) (drop at w))) z
+      → take at w ++ (ys ++ drop (at + len - at) (drop at w)) ≡ splice at (replicate len z) w
+  part-filled at len z ys w h k e =
+      part-back at len (λ x. replicate (length x) z) ys w h k e ∙ ap (λ (n : ℕ). splice at (replicate n z) w) (length-window at len w h)

@@ -1,16 +1,16 @@
 -- A job in the lent memory, from its first field to its end. Assumes nothing.
-use mathlib.Core.Path.{_≡_, refl, sym, ap, _∙_, subst}
+use mathlib.Core.Path.{_≡_, refl, sym, ap, _∙_}
 use mathlib.Core.Bool.{Bool, true, false}
-use mathlib.Core.List.{List, []}
+use mathlib.Core.List.{List}
 use mathlib.Core.Option.{none, some}
 use Prim.Native.Nat.{ℕ, zero, _+_, _*_, _≤_, _<_}
 use native.Mathlib.Omega.{arith}
-use lib.ListN.{length, getD, replicate, length-replicate}
+use lib.ListN.{length, getD, replicate}
 use lib.Ieee.{Float}
 use Rattle.lists.specs.Window.{window, splice}
 use Rattle.lists.specs.Frame.{Kept}
-use Rattle.lists.proofs.Window.{length-splice, length-window, window-splice-same, splice-nil, splice-cover, splice-whole}
-use Rattle.lists.proofs.Frame.{Wrote, wrote, untouched, kept-all, kept-by, kept-on}
+use Rattle.lists.proofs.Window.{length-splice, length-window, window-splice-same, splice-whole}
+use Rattle.lists.proofs.Frame.{Wrote, wrote, untouched, kept-all, kept-by, kept-on, kept-wider}
 use Rattle.doubles.specs.F64.{+0}
 use Rattle.general_operator.specs.Csr.{Csr, csr, Valid}
 use Rattle.csr_matvec.specs.Values.{values}
@@ -35,18 +35,6 @@ use Rattle.combination.specs.Checks.{no-row, quotient-need, taylor-need}
 use Rattle.phi_action.specs.Memory.{layout, Coupled}
 use Rattle.phi_action.specs.Calls.{ends, cleared, unless-refused, soaked}
 use Rattle.phi_action.specs.declared.TaylorAnswer.the-variants.{Soaked}
-
--- what differs within a part differs within a longer one
-pub kept-wider : {A : Type 0} {p n : ℕ} {z : A} {w₀ w : List A} → Kept p n z w₀ w → (m : ℕ) → n ≤ m → Kept p m z w₀ w
-kept-wider {p = p} {n = n} {z = z} {w₀ = w₀} {w = w} k m h =
-    let ln = length-replicate n z in
-    let lm = length-replicate m z in
-    record {
-      outside = sym (splice-cover p p (replicate m z) (replicate n z) w (omega arith) (omega arith))
-          ∙ ap (splice p (replicate m z)) (k .outside)
-          ∙ splice-cover p p (replicate m z) (replicate n z) w₀ (omega arith) (omega arith);
-      long = k .long;
-    }
 
 -- ---- the quotients
 pub length-stored : (a : Csr) (b : Bool) (mass : List Float) → length (stored a (given b mass)) ≡ quotient-need a (given b mass)

@@ -16,8 +16,11 @@ use Rattle.phi_action_helpers.specs.Sweeps.{Horner, Swept}
 abbrev pub matrix-at : Layout → List ℕ → List ℕ → List Float → List Float → Csr
 matrix-at l starts cols vals work = csr (l .n) starts cols (values (l .mass) (l .q) vals work)
 
+abbrev pub operator-of : Layout → Coupling → Csr → List Float → Augmented
+operator-of l b q vectors = augmented q (l .d) vectors (b .places) (b .gains) (b .count)
+
 abbrev pub operator-at : Layout → Coupling → List ℕ → List ℕ → List Float → List Float → List Float → Augmented
-operator-at l b starts cols vals vectors work = augmented (matrix-at l starts cols vals work) (l .d) vectors (b .places) (b .gains) (b .count)
+operator-at l b starts cols vals vectors work = operator-of l b (matrix-at l starts cols vals work) vectors
 
 -- what a product needs: the operands lie within the work, w and av apart, av apart from the quotients; of vals, vectors and work the lengths
 pub record Laid (l : Layout) (b : Coupling) (q : Csr) (vals vectors work : ℕ) : Type 0 where

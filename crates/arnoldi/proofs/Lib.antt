@@ -1,0 +1,5 @@
+-- Laws of the definitions, and worked examples.
+pub mod GramSchmidt
+pub mod Turns
+pub mod Answers
+pub mod Examples
