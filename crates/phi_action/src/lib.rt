@@ -1,4 +1,6 @@
 // Taylor: the combination, the single action and the batch of actions.
+use checks::Checked;
+use generator_action::MatrixAnswer;
 use phi_action_helpers::Coupling;
 use phi_action_helpers::Layout;
 use phi_action_helpers::SweepPlan;
@@ -23,7 +25,7 @@ ghost use Rattle.phi_shift.specs.Plan.{argument, sweep-plan};
 ghost use Rattle.combination.specs.Combination.{combination-start, action-start};
 ghost use Rattle.combination.specs.Checks.{no-row, taylor-need};
 ghost use Rattle.phi_action.specs.Memory.{layout, Coupled};
-ghost use Rattle.phi_action.specs.Calls.{ends, unless-refused, soaked};
+ghost use Rattle.phi_action.specs.Calls.{ends, unless-refused, soaked, phi-combination};
 
 // Of an accepted job: the plan, and the products with the generator made, over all sweeps of a batch.
 pub struct TaylorReport {
@@ -177,4 +179,93 @@ fn soak(
         mu: p.mu,
         applications: applied,
     })
+}
+
+// The combination of a matrix that passed 1 to 11.
+fn combined(
+    n: usize,
+    starts: &[u32],
+    cols: &[u32],
+    vals: &[f64],
+    with_mass: bool,
+    mass: &[f64],
+    tau: f64,
+    count: usize,
+    w: &[f64],
+    out: &mut [f64],
+    work: &mut [f64],
+    norm: f64,
+) -> TaylorAnswer
+    requires { ⌜ Accepted (csr n (now starts) (now cols) (now vals)) (given «with_mass» (now mass)) norm ⌝ }
+    ensures { λ r. ⌜ ends r (now (out .exit)) (now (work .exit)) ≡ phi-combination (csr n (now (starts .entry)) (now (cols .entry)) (now (vals .entry))) (given «with_mass» (now (mass .entry))) tau count (now (w .entry)) (now (out .entry)) (now (work .entry)) ⌝ }
+{
+    let vectors = combination::validate_combination(n, tau, count, w, out.len());
+    if let Checked::Refused(k, x) = vectors {
+        return TaylorAnswer::Refusal(k, x);
+    }
+    let d = count - 1;
+    let need = taylor_need(n, d, with_mass, vals.len());
+    let sweeps = combination::check_sweeps(n, tau, d, w, norm, work.len(), need);
+    if let Checked::Refused(k, x) = sweeps {
+        return TaylorAnswer::Refusal(k, x);
+    }
+    let eta = pow2::eta_scaling(combination::magnitude(n, w, tau, d));
+    let b = Coupling {
+        places: combination::column_places(n, d),
+        gains: combination::scaled_gains(n, w, tau, d, eta.eta),
+        count: d,
+    };
+    init_aug_vector(n, w, d, eta.inv, work);
+    soak(
+        n,
+        starts,
+        cols,
+        vals,
+        with_mass,
+        mass,
+        w,
+        out,
+        work,
+        d,
+        b,
+        tau,
+        norm,
+        need,
+    )
+}
+
+// The sum over k of tau^k phi_k(tau G) w_k, of `count` vectors in one slice.
+pub fn phi_combination(
+    n: usize,
+    starts: &[u32],
+    cols: &[u32],
+    vals: &[f64],
+    with_mass: bool,
+    mass: &[f64],
+    tau: f64,
+    count: usize,
+    w: &[f64],
+    out: &mut [f64],
+    work: &mut [f64],
+) -> TaylorAnswer
+    ensures { λ r. ⌜ ends r (now (out .exit)) (now (work .exit)) ≡ phi-combination (csr n (now (starts .entry)) (now (cols .entry)) (now (vals .entry))) (given «with_mass» (now (mass .entry))) tau count (now (w .entry)) (now (out .entry)) (now (work .entry)) ⌝ }
+{
+    let matrix = generator_action::check_generator(n, starts, cols, vals, with_mass, mass);
+    match matrix {
+        MatrixAnswer::Refusal(k, x) => TaylorAnswer::Refusal(k, x),
+        MatrixAnswer::Norm(norm, _) => combined(
+            n,
+            starts,
+            cols,
+            vals,
+            with_mass,
+            mass,
+            tau,
+            count,
+            w,
+            out,
+            work,
+            norm,
+        ),
+    }
 }
