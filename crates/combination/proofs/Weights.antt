@@ -15,7 +15,7 @@ use Rattle.general_operator.proofs.Sound.{or-false}
 use Rattle.checks.specs.declared.Checked.{Checked}
 use Rattle.checks.specs.declared.Checked.the-variants.{Sound, Refused}
 use Rattle.combination.specs.Combination.{magnitude}
-use Rattle.combination.specs.Checks.{count-checks, bad-gain, magnitude-checks, bad-norm, no-row, schedule-checks}
+use Rattle.combination.specs.Checks.{count-checks, bad-gain, magnitude-checks, out-of-range, no-row, schedule-checks}
 use Rattle.phi_shift.specs.Plan.{argument}
 use Rattle.expmv.specs.Select.{select-s-m}
 use Rattle.expmv.specs.declared.Selected.{Selected}
@@ -38,7 +38,7 @@ module _ (n : ℕ) (w : List Float) (tau : Float) (d : ℕ) {s : Float} {t : Boo
   ends-passed {i} g h l = passes 21 _ _ (told g) (passes 22 _ _ (rw (← h) (le-ltb i d l)) ends-sound)
 
 -- ---- 23 to 25
-module _ (m-max : ℕ) (norm tau : Float) {b : Bool} (e : b ≡ bad-norm norm) where
+module _ (m-max : ℕ) (norm tau : Float) {b : Bool} (e : b ≡ out-of-range norm) where
   pub ends-23 : b ≡ true → Refused 23 norm ≡ first (schedule-checks m-max norm tau)
   unfolding schedule-checks
   ends-23 g = stops _ (sym e ∙ g) refl

@@ -26,12 +26,13 @@ count-checks count = refuse 12 (eqb count 0 || ltb 4 count) (nat count) ∷ []
 unfoldable pub index-checks : ℕ → List Check
 index-checks k = refuse 13 (ltb 3 k) (nat k) ∷ []
 
--- tau negative or not finite
-unfoldable pub bad-time : Float → Bool
-bad-time tau = not (is-finite tau) || tau ⋖ +0
+-- negative or not finite (`phi_schedule`, of tau and of the norm)
+unfoldable pub out-of-range : Float → Bool
+out-of-range x = not (is-finite x) || x ⋖ +0
 
+-- tau negative or not finite
 unfoldable pub time-checks : Float → List Check
-time-checks tau = refuse 14 (bad-time tau) tau ∷ []
+time-checks tau = refuse 14 (out-of-range tau) tau ∷ []
 
 -- the output's and the vectors' lengths: what is handed in, and what is wanted
 unfoldable pub length-checks : ℕ → ℕ → ℕ → ℕ → List Check
@@ -56,13 +57,10 @@ abbrev pub no-row : Selected → Bool
 no-row NoRow = true
 no-row (Row s m) = false
 
--- negative or not finite
-unfoldable pub bad-norm : Float → Bool
-bad-norm norm = not (is-finite norm) || norm ⋖ +0
-
+-- the norm negative or not finite, the argument not finite, no admissible row
 unfoldable pub schedule-checks : ℕ → Float → Float → List Check
 schedule-checks m-max norm tau =
-    refuse 23 (bad-norm norm) norm
+    refuse 23 (out-of-range norm) norm
     ∷ refuse 24 (not (is-finite (argument tau norm))) (argument tau norm)
     ∷ refuse 25 (no-row (select-s-m m-max (argument tau norm))) (argument tau norm)
     ∷ []
@@ -98,5 +96,5 @@ job-checks k tau output wanted v n norm memory need =
 
 -- to compute: a line `unfolding open-Checks` opens every definition of this file and of those below it
 unfoldable pub open-Checks : Unit {0}
-unfolding count-checks index-checks bad-time time-checks length-checks not-finite-at finite-checks bad-gain magnitude-checks bad-norm schedule-checks memory-checks quotient-need taylor-need vector-checks sweep-checks job-checks open-Find open-Combination open-Plan
+unfolding count-checks index-checks out-of-range time-checks length-checks not-finite-at finite-checks bad-gain magnitude-checks schedule-checks memory-checks quotient-need taylor-need vector-checks sweep-checks job-checks open-Find open-Combination open-Plan
 open-Checks = tt

@@ -45,7 +45,7 @@ scaled-gains n w tau d eta = tabulate 3 (λ j. if ltb j d then gain n w tau (d -
 unfoldable pub combination-operator : Csr → List Float → Float → ℕ → Float → Augmented
 combination-operator q w tau d eta = augmented q d w (column-places (q .n) d) (scaled-gains (q .n) w tau d eta) d
 
--- w_0, then the chain: zeros, and 1 / eta at its end
+-- `phi_combination`: w_0, then the chain: zeros, and 1 / eta at its end
 unfoldable pub combination-start : ℕ → List Float → ℕ → Float → List Float
 combination-start n w zero inv = vector n w 0
 combination-start n w (suc d) inv = vector n w 0 ++ (replicate d +0 ++ (inv ∷ []))
@@ -54,12 +54,12 @@ combination-start n w (suc d) inv = vector n w 0 ++ (replicate d +0 ++ (inv ∷ 
 unfoldable pub action-operator : Csr → List Float → Float → Augmented
 action-operator q v eta = augmented q 3 v (0 ∷ 0 ∷ 0 ∷ []) (eta ∷ 1f ∷ 1f ∷ []) 1
 
--- for phi_0 v and an empty chain, for phi_k zeros and 1 / eta at place k - 1 of the chain
-unfoldable pub action-start : ℕ → List Float → Float → ℕ → List Float
-action-start n v inv zero = v ++ replicate 3 +0
-action-start n v inv (suc k) = replicate n +0 ++ set (replicate 3 +0) k inv
+-- `init_aug_vector`: for phi_0 v and an empty chain, for phi_k zeros and 1 / eta at place k - 1 of the chain
+unfoldable pub init-aug-vector : ℕ → List Float → Float → ℕ → List Float
+init-aug-vector n v inv zero = v ++ replicate 3 +0
+init-aug-vector n v inv (suc k) = replicate n +0 ++ set (replicate 3 +0) k inv
 
 -- to compute: a line `unfolding open-Combination` opens every definition of this file and of those below it
 unfoldable pub open-Combination : Unit {0}
-unfolding vector gain weighed magnitude eta-of column-places scaled-gains combination-operator combination-start action-operator action-start open-Power open-Pow2 open-Sweeps
+unfolding vector gain weighed magnitude eta-of column-places scaled-gains combination-operator combination-start action-operator init-aug-vector open-Power open-Pow2 open-Sweeps
 open-Combination = tt

@@ -11,7 +11,7 @@ ghost use Rattle.lists.specs.Find.{find};
 ghost use Rattle.checks.specs.First.{first};
 ghost use Rattle.pow2.specs.Pow2.{sup};
 ghost use Rattle.combination.specs.Combination.{vector, gain, weighed, magnitude, eta-of, column-places, scaled-gains};
-ghost use Rattle.combination.specs.Checks.{count-checks, index-checks, bad-time, time-checks, length-checks, not-finite-at, finite-checks, bad-gain, magnitude-checks, bad-norm, schedule-checks, memory-checks, vector-checks, sweep-checks, job-checks};
+ghost use Rattle.combination.specs.Checks.{count-checks, index-checks, out-of-range, time-checks, length-checks, not-finite-at, finite-checks, bad-gain, magnitude-checks, schedule-checks, memory-checks, vector-checks, sweep-checks, job-checks};
 
 // sup |w_k|
 fn sup_of(n: usize, w: &[f64], k: usize) -> f64
@@ -110,11 +110,11 @@ pub fn check_index(k: usize) -> Checked
     Checked::Sound
 }
 
-fn is_bad_time(tau: f64) -> bool
-    ensures { λ r. ⌜ r ≡ bad-time tau ⌝ }
+fn out_of_range(x: f64) -> bool
+    ensures { λ r. ⌜ r ≡ out-of-range x ⌝ }
 {
-    if float::is_finite(tau) {
-        return tau < 0.0;
+    if float::is_finite(x) {
+        return x < 0.0;
     }
     true
 }
@@ -123,7 +123,7 @@ fn is_bad_time(tau: f64) -> bool
 pub fn check_time(tau: f64) -> Checked
     ensures { λ r. ⌜ r ≡ first (time-checks tau) ⌝ }
 {
-    if is_bad_time(tau) {
+    if out_of_range(tau) {
         return Checked::Refused(14, tau);
     }
     Checked::Sound
@@ -194,20 +194,11 @@ pub fn check_magnitude(n: usize, w: &[f64], tau: f64, d: usize) -> Checked
     Checked::Sound
 }
 
-fn is_bad_norm(norm: f64) -> bool
-    ensures { λ r. ⌜ r ≡ bad-norm norm ⌝ }
-{
-    if float::is_finite(norm) {
-        return norm < 0.0;
-    }
-    true
-}
-
 // 23 to 25.
 pub fn check_schedule(m_max: u32, norm: f64, tau: f64) -> Checked
     ensures { λ r. ⌜ r ≡ first (schedule-checks «m_max» norm tau) ⌝ }
 {
-    if is_bad_norm(norm) {
+    if out_of_range(norm) {
         return Checked::Refused(23, norm);
     }
     let arg = phi_shift::argument(tau, norm);

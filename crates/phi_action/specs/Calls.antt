@@ -24,7 +24,7 @@ use Rattle.phi_shift.specs.declared.PlanAnswer.the-variants.{NoPlan, Plan}
 use Rattle.phi_action.specs.declared.TaylorReport.{TaylorReport}
 use Rattle.phi_action.specs.declared.TaylorAnswer.{TaylorAnswer}
 use Rattle.phi_action.specs.declared.TaylorAnswer.the-variants.{Refusal, Soaked}
-use Rattle.combination.specs.Combination.{vector, eta-of, combination-operator, combination-start, action-operator, action-start}
+use Rattle.combination.specs.Combination.{vector, eta-of, combination-operator, combination-start, action-operator, init-aug-vector}
 use Rattle.combination.specs.Checks.{vector-checks, sweep-checks, job-checks, taylor-need, open-Checks}
 
 -- the answer, the output and the working memory at the end
@@ -85,12 +85,12 @@ phi-action a mass tau k v output memory =
     let eta = eta-scaling (sup v) in
     unless-refused (first (action-checks a mass tau k v (length output) (a .n) (length memory))) (taylor-need a mass 3) output memory
     (sweep-plan M-MAX tau q (row-sum-norm q))
-    (soaked (action-operator q v (eta .eta)) tau (action-start (a .n) v (eta .inv) k))
+    (soaked (action-operator q v (eta .eta)) tau (init-aug-vector (a .n) v (eta .inv) k))
 
 -- one more function of a batch
 unfoldable pub batch-step : Augmented → Float → SweepPlan → List Float → Float → ℕ → Fields → Fields
 batch-step b tau p v inv k r =
-    let f = soaked b tau (action-start (b .matrix .n) v inv k) p in
+    let f = soaked b tau (init-aug-vector (b .matrix .n) v inv k) p in
     record { fields = r .fields ++ f .fields; applied = r .applied + f .applied }
 
 unfoldable pub batched : Augmented → Float → List Float → Float → ℕ → SweepPlan → Fields

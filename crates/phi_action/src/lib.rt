@@ -22,7 +22,7 @@ ghost use Rattle.expmv.specs.Select.{select-s-m, M-MAX};
 ghost use Rattle.phi_action_helpers.specs.Augmented.{augmented};
 ghost use Rattle.phi_action_helpers.specs.Laid.{matrix-at, operator-at, Ready, Lined};
 ghost use Rattle.phi_shift.specs.Plan.{argument, sweep-plan};
-ghost use Rattle.combination.specs.Combination.{combination-start, action-start};
+ghost use Rattle.combination.specs.Combination.{combination-start, init-aug-vector};
 ghost use Rattle.combination.specs.Checks.{no-row, taylor-need};
 ghost use Rattle.phi_action.specs.Memory.{layout, Coupled};
 ghost use Rattle.phi_action.specs.Calls.{ends, unless-refused, soaked, phi-combination};
@@ -67,7 +67,7 @@ fn taylor_need(n: usize, d: usize, with_mass: bool, entries: usize) -> usize
 }
 
 // w_0, then the chain: zeros, and 1 / eta at its end.
-fn init_aug_vector(n: usize, w: &[f64], d: usize, inv: f64, work: &mut [f64])
+fn combination_start(n: usize, w: &[f64], d: usize, inv: f64, work: &mut [f64])
     requires { ⌜ (n ≤ length (now w)) × (n + d ≤ length (now work)) ⌝ }
     ensures { λ _. ⌜ now (work .exit) ≡ splice 0 (combination-start n (now (w .entry)) d inv) (now (work .entry)) ⌝ }
 {
@@ -79,9 +79,9 @@ fn init_aug_vector(n: usize, w: &[f64], d: usize, inv: f64, work: &mut [f64])
 }
 
 // For phi_0 v and an empty chain, for phi_k zeros and 1 / eta at place k - 1 of the chain.
-fn init_action(n: usize, v: &[f64], k: usize, inv: f64, work: &mut [f64])
+fn init_aug_vector(n: usize, v: &[f64], k: usize, inv: f64, work: &mut [f64])
     requires { ⌜ (length (now v) ≡ n) × (n + 3 ≤ length (now work)) × (k ≤ 3) ⌝ }
-    ensures { λ _. ⌜ now (work .exit) ≡ splice 0 (action-start n (now (v .entry)) inv k) (now (work .entry)) ⌝ }
+    ensures { λ _. ⌜ now (work .exit) ≡ splice 0 (init-aug-vector n (now (v .entry)) inv k) (now (work .entry)) ⌝ }
 {
     if k == 0 {
         vectors::copy_from(work, 0, v, 0, n);
@@ -215,7 +215,7 @@ fn combined(
         gains: combination::scaled_gains(n, w, tau, d, eta.eta),
         count: d,
     };
-    init_aug_vector(n, w, d, eta.inv, work);
+    combination_start(n, w, d, eta.inv, work);
     soak(
         n,
         starts,

@@ -93,8 +93,8 @@ scaled-gains-requires c κs =
     let f = vectors-fill (a .count) (a .n) (s .some) in
     (omega (arith, s .flat, f), omega (arith, s .most))
 
-init-aug-vector-requires : tie.Need-init-aug-vector-requires
-init-aug-vector-requires c κs =
+combination-start-requires : tie.Need-combination-start-requires
+combination-start-requires c κs =
     let t = c .before .before .before .before .before .before .before .before .before in
     let v = t .before .before in
     let a = v .before .before .before .before .before .before .before .before .args in
@@ -113,7 +113,7 @@ soak-requires c κs =
     let s = vectors-known _ (a .tau) (a .count) (a .w .now) _ (t .enum-told .given .1) (v .validate-combination .ensures) in
     let f = vectors-fill (a .count) (a .n) (s .some) in
     let k = sweeps-known (a .n) (a .tau) (a .count - 1) (a .w .now) (a .norm) _ _ (c .before .before .before .before .before .before .before .before .before .before .enum-told2 .given .1) (c .before .before .before .before .before .before .before .before .before .before .before .before .check-sweeps .ensures) in
-    let i = c .before .before .before .before .init-aug-vector .ensures in
+    let i = c .before .before .before .before .combination-start .ensures in
     let li = ap length i ∙ length-splice 0 _ (a .work .now) in
     let cp = coupled-in (a .n) (a .count - 1) (length (a .w .now)) _ (c .before .before .before .before .before .before .before .column-places .ensures) (omega (arith, s .flat, f)) (omega (arith, s .most)) in
     (p, (cp, (((c .before .before .before .before .before .before .before .before .before .before .before .before .before .taylor-need .ensures (a .starts .now) (a .cols .now) (a .vals .now) (a .mass .now) refl), omega (arith, k .1, li), s .out), k .0)))
@@ -132,7 +132,7 @@ returns-3 c =
     let n = enough (csr (a .n) (a .starts .now) (a .cols .now) (a .vals .now)) (given (a .with-mass) (a .mass .now)) (a .count - 1) _ _ (c .before .before .before .before .before .before .before .before .before .before .before .before .before .before .before .before .before .before .taylor-need .ensures (a .starts .now) (a .cols .now) (a .vals .now) (a .mass .now) refl) (le-refl _) in
     combined-is (csr (a .n) (a .starts .now) (a .cols .now) (a .vals .now)) (given (a .with-mass) (a .mass .now)) (a .tau) (a .count) (a .w .now) (a .out .now) (a .work .now) (p .sound) (t .enum-told .given .1) (v .validate-combination .ensures) (a .norm) (p .norm) _ (c .before .before .before .before .before .before .before .before .before .before .before .before .before .before .before .before .before .before .taylor-need .ensures (a .starts .now) (a .cols .now) (a .vals .now) (a .mass .now) refl) (c .before .before .before .before .before .before .before .before .before .before .before .before .before .before .before .before .before .check-sweeps .ensures) (c .before .before .before .before .before .before .before .before .before .before .before .before .before .before .before .enum-told2 .given .1) (omega (arith, s .flat, first-vector (a .count) (a .n) (s .some))) (omega (arith, n)) (k .1) (k .0)
     (eta-is (a .n) (a .w .now) (a .tau) (a .count - 1) (c .before .before .before .before .before .before .before .before .before .before .before .before .before .before .magnitude .ensures) (c .before .before .before .before .before .before .before .before .before .before .before .before .before .eta-scaling .ensures))
-    (c .before .before .before .before .before .before .before .before .before .init-aug-vector .ensures)
+    (c .before .before .before .before .before .before .before .before .before .combination-start .ensures)
     (rw (places, gains) at (c .before .before .before .before .soak .ensures))
 
 pub combined-spec : {M : Type 1} → statement M
@@ -153,7 +153,7 @@ combined-spec =
     (λ c κs. search needs)
     column-places-requires
     scaled-gains-requires
-    init-aug-vector-requires
+    combination-start-requires
     soak-requires
     (λ c. search needs)
     (λ c. search needs)

@@ -9,29 +9,30 @@ use lib.ListN.{replicate, set}
 use lib.Ieee.{Float}
 use Rattle.lists.specs.Window.{splice}
 use Rattle.doubles.specs.F64.{+0}
-use Rattle.phi_action.proofs.Starts.{no-chain, chained}
+use Rattle.phi_action.proofs.Starts.{at-rest, driven}
 use Rattle.phi_action.proofs.init_aug_vector.Statement.{statement}
 use Rattle.phi_action.proofs.init_aug_vector.Tie as tie
 
-same-length : tie.Need-same-length
-same-length c =
-    let k = c .before .before .before in
-    let a = k .before .before .before .before .before .before .before .before .args in
-    set-long Float (k .clear-in .last .0) (a .n + a .d - 1) _ (a .inv) (k .clear-in .kept .0 ∙ k .before .before .before .before .copy-from .kept .0)
-
 returns : tie.Need-returns
 returns c =
-    let k = c .before .before .before in
+    let k = c .before .before in
     let f = k .before .before .before .before in
-    let a = f .before .before .before .before .args in
-    ap (λ (u : List Float). set u (a .n + a .d - 1) (a .inv)) (k .clear-in .ensures ∙ ap (splice (a .n) (replicate (a .d) +0)) (f .copy-from .ensures)) ∙ chained (a .n) (a .w .now) (a .work .now) (a .inv) (f .before .before .before .before .pre .0) (a .d) (a .n + a .d - 1) (omega arith) refl
+    let s = f .before .before .before .before .before in
+    let a = s .args in
+    k .clear-in .ensures ∙ ap (splice (a .n) (replicate 3 +0)) (f .copy-from .ensures) ∙ at-rest (a .n) (a .v .now) (a .work .now) (a .inv) (a .k) (omega arith) (s .pre .0)
+
+same-length-2 : tie.Need-same-length-2
+same-length-2 c =
+    let k = c .before .before in
+    let a = k .before .before .before .before .before .args in
+    set-long Float (k .clear-in2 .last .0) (a .n + a .k - 1) _ (a .inv) (k .clear-in2 .kept .0)
 
 returns-2 : tie.Need-returns-2
 returns-2 c =
-    let k = c .before .before .before in
-    let f = k .before .before .before .before in
-    let a = f .before .before .before .before .args in
-    k .clear-in .ensures ∙ ap (splice (a .n) (replicate (a .d) +0)) (f .copy-from .ensures) ∙ no-chain (a .n) (a .w .now) (a .work .now) (a .inv) (f .before .before .before .before .pre .0) (a .d) (omega arith)
+    let k = c .before .before in
+    let s = k .before .before .before .before .before in
+    let a = s .args in
+    ap (λ (u : List Float). set u (a .n + a .k - 1) (a .inv)) (k .clear-in2 .ensures) ∙ driven (a .n) (a .v .now) (a .work .now) (a .inv) (a .k) (a .n + a .k - 1) (omega arith) (s .pre .2) refl
 
 pub init-aug-vector-spec : {M : Type 1} → statement M
 init-aug-vector-spec =
@@ -40,10 +41,12 @@ init-aug-vector-spec =
     (λ c κs. search needs)
     (λ c κs. search needs)
     (λ c. search needs)
-    (λ c. search needs)
-    (λ c. search needs)
-    (λ c. search needs)
-    same-length
     returns
     (λ c. search needs)
+    (λ c κs. search needs)
+    (λ c. search needs)
+    (λ c. search needs)
+    (λ c. search needs)
+    (λ c. search needs)
+    same-length-2
     returns-2)
