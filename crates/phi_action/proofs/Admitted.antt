@@ -32,7 +32,9 @@ use Rattle.phi_action_helpers.specs.Augmented.{augmented}
 use Rattle.combination.specs.Combination.{vector, magnitude, eta-of, column-places, scaled-gains, combination-operator, combination-start}
 use Rattle.combination.specs.Checks.{no-row, count-checks, time-checks, length-checks, finite-checks, magnitude-checks, schedule-checks, memory-checks, vector-checks, sweep-checks, taylor-need}
 use Rattle.phi_action.specs.Memory.{Coupled}
-use Rattle.phi_action.specs.Calls.{Call, Fields, ends, cleared, unless-refused, soaked, combination-checks, phi-combination}
+use Rattle.combination.specs.Call.{Call, ends, unless-refused, cleared}
+use Rattle.phi_action.specs.declared.TaylorAnswer.{TaylorAnswer}
+use Rattle.phi_action.specs.Calls.{Fields, after-plan, soaked, combination-checks, phi-combination}
 use Rattle.phi_action.proofs.Jobs.{quotients-rows, front, has-plan}
 use Rattle.phi_action.specs.declared.TaylorAnswer.the-variants.{Refusal}
 
@@ -114,8 +116,8 @@ length-start n w (suc d) inv h =
 
 -- ---- the answer
 same-end : (p : PlanAnswer) (need : ℕ) (out w₀ w₁ : List Float) (run run₁ : SweepPlan → Fields) → (p ≡ NoPlan → zero ≡ 1) → cleared need w₁ ≡ cleared need w₀ → run₁ ≡ run
-    → unless-refused Sound need out w₁ p run₁ ≡ unless-refused Sound need out w₀ p run
-unfolding unless-refused
+    → after-plan need out w₁ p run₁ ≡ after-plan need out w₀ p run
+unfolding after-plan
 same-end NoPlan need out w₀ w₁ run run₁ h e f = absurd (omega (arith, h refl))
 same-end (Plan p) need out w₀ w₁ run run₁ h e f = rw (e, f) refl
 
@@ -149,13 +151,13 @@ module _ (a : Csr) (mass : Mass) (tau : Float) (count : ℕ) (w out w₀ : List 
     unfolding phi-combination unless-refused
     refused-sweeps e = rw (← told, e) refl
 
-    pub combined-is : {c : Call} {eta : Scaling} {w₁ : List Float} → s ≡ Sound → a .n ≤ length w → a .n + (count - 1) ≤ need → need ≤ length w₀
+    pub combined-is : {c : Call TaylorAnswer} {eta : Scaling} {w₁ : List Float} → s ≡ Sound → a .n ≤ length w → a .n + (count - 1) ≤ need → need ≤ length w₀
         → no-row (select-s-m M-MAX (argument tau norm)) ≡ false
         → eta ≡ eta-of (a .n) w tau (count - 1)
         → w₁ ≡ splice 0 (combination-start (a .n) w (count - 1) (eta .inv)) w₀
-        → c ≡ unless-refused Sound need out w₁ (sweep-plan M-MAX tau (quotients a mass) norm) (soaked (augmented (quotients a mass) (count - 1) w (column-places (a .n) (count - 1)) (scaled-gains (a .n) w tau (count - 1) (eta .eta)) (count - 1)) tau (window 0 (a .n + (count - 1)) w₁))
+        → c ≡ after-plan need out w₁ (sweep-plan M-MAX tau (quotients a mass) norm) (soaked (augmented (quotients a mass) (count - 1) w (column-places (a .n) (count - 1)) (scaled-gains (a .n) w tau (count - 1) (eta .eta)) (count - 1)) tau (window 0 (a .n + (count - 1)) w₁))
         → c ≡ phi-combination a mass tau count w out w₀
-    unfolding phi-combination combination-operator
+    unfolding phi-combination combination-operator unless-refused
     combined-is {c} {eta} {w₁} e hw hn hm row ee e₁ f =
         let d = count - 1 in
         let q = quotients a mass in

@@ -8,7 +8,8 @@ use lib.Ieee.{Float, nan}
 use Rattle.doubles.specs.F64.{bits, nat, 1f, +0}
 use Rattle.general_operator.specs.Csr.{Csr, csr}
 use Rattle.phi_action.specs.declared.TaylorAnswer.the-variants.{Refusal, Soaked}
-use Rattle.phi_action.specs.Calls.{Call, ends, phi-combination, phi-action, phi-action-batched, open-Calls}
+use Rattle.combination.specs.Call.{Call, ends}
+use Rattle.phi_action.specs.Calls.{phi-combination, phi-action, phi-action-batched, open-Calls}
 
 abbrev laplace : Csr
 laplace = csr 2 (0 ∷ 2 ∷ 4 ∷ []) (0 ∷ 1 ∷ 0 ∷ 1 ∷ []) (nat 2 ∷ bits 0xbff0000000000000 ∷ bits 0xbff0000000000000 ∷ nat 2 ∷ [])

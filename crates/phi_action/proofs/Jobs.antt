@@ -33,7 +33,8 @@ use Rattle.phi_shift.specs.declared.PlanAnswer.{PlanAnswer}
 use Rattle.phi_shift.specs.declared.PlanAnswer.the-variants.{NoPlan, Plan}
 use Rattle.combination.specs.Checks.{no-row, quotient-need, taylor-need}
 use Rattle.phi_action.specs.Memory.{layout, Coupled}
-use Rattle.phi_action.specs.Calls.{ends, cleared, unless-refused, soaked}
+use Rattle.combination.specs.Call.{ends, cleared}
+use Rattle.phi_action.specs.Calls.{after-plan, soaked}
 use Rattle.phi_action.specs.declared.TaylorAnswer.the-variants.{Soaked}
 
 -- ---- the quotients
@@ -162,8 +163,8 @@ module _
         → Kept 0 (l .q) +0 w₁ w₂
         → w₃ ≡ splice 0 (replicate need +0) w₂
         → ends (Soaked (record { s = p .s; m = p .m; mu = p .mu; applications = applied })) out₁ w₃
-        ≡ unless-refused Sound need out w₀ (sweep-plan M-MAX tau (quotients a (given b mass)) norm) (soaked (augmented (quotients a (given b mass)) d vectors (c .places) (c .gains) (c .count)) tau (window 0 (n + d) w₀))
-    unfolding unless-refused cleared
+        ≡ after-plan need out w₀ (sweep-plan M-MAX tau (quotients a (given b mass)) norm) (soaked (augmented (quotients a (given b mass)) d vectors (c .places) (c .gains) (c .count)) tau (window 0 (n + d) w₀))
+    unfolding after-plan cleared
     done out {p} {applied} {out₁} {w₂} {w₃} lo pl ea eo k e₃ =
         let B = augmented (quotients a (given b mass)) d vectors (c .places) (c .gains) (c .count) in
         let y = window 0 (n + d) w₀ in

@@ -3,14 +3,11 @@
 use mathlib.Core.Bool.{Bool, true, false}
 use mathlib.Core.List.{List, [], _∷_, _++_}
 use Prim.Native.Nat.{ℕ, suc, _+_, _-_, _*_}
-use lib.ListN.{length, replicate}
+use lib.ListN.{length}
 use lib.Ieee.{Float, nan}
 use Rattle.lists.specs.Loop.{iter}
-use Rattle.lists.specs.Window.{window, splice}
-use Rattle.doubles.specs.F64.{+0}
+use Rattle.lists.specs.Window.{window}
 use Rattle.checks.specs.First.{Check, first}
-use Rattle.checks.specs.declared.Checked.{Checked}
-use Rattle.checks.specs.declared.Checked.the-variants.{Sound, Refused}
 use Rattle.general_operator.specs.Csr.{Csr, row-sum-norm}
 use Rattle.generator_action.specs.Mass.{Mass, quotients, generator-checks, open-Mass}
 use Rattle.expmv.specs.Select.{M-MAX}
@@ -25,16 +22,8 @@ use Rattle.phi_action.specs.declared.TaylorReport.{TaylorReport}
 use Rattle.phi_action.specs.declared.TaylorAnswer.{TaylorAnswer}
 use Rattle.phi_action.specs.declared.TaylorAnswer.the-variants.{Refusal, Soaked}
 use Rattle.combination.specs.Combination.{vector, eta-of, combination-operator, combination-start, action-operator, init-aug-vector}
+use Rattle.combination.specs.Call.{Call, ends, unless-refused, cleared, open-Call}
 use Rattle.combination.specs.Checks.{vector-checks, sweep-checks, job-checks, taylor-need, open-Checks}
-
--- the answer, the output and the working memory at the end
-pub record Call : Type 0 where
-  pub answer : TaylorAnswer
-  pub output : List Float
-  pub memory : List Float
-
-abbrev pub ends : TaylorAnswer → List Float → List Float → Call
-ends a output memory = record { answer = a; output = output; memory = memory }
 
 -- the fields made, and the products with the generator
 pub record Fields : Type 0 where
@@ -44,15 +33,10 @@ pub record Fields : Type 0 where
 abbrev pub report : SweepPlan → ℕ → TaylorAnswer
 report p applied = Soaked (record { s = p .s; m = p .m; mu = p .mu; applications = applied })
 
--- the needed length of the memory holds +0, the rest is unchanged
-unfoldable pub cleared : ℕ → List Float → List Float
-cleared need memory = splice 0 (replicate need +0) memory
-
--- refusals change no lent memory; an accepted job leaves its fields and clears what it needed. That there is no plan is refusal 25 of the list already.
-unfoldable pub unless-refused : Checked → ℕ → List Float → List Float → PlanAnswer → (SweepPlan → Fields) → Call
-unless-refused (Refused k x) need output memory p run = ends (Refusal k x) output memory
-unless-refused Sound need output memory NoPlan run = ends (Refusal 25 nan) output memory
-unless-refused Sound need output memory (Plan p) run = ends (report p (run p .applied)) (run p .fields) (cleared need memory)
+-- an accepted job leaves its fields and clears what it needed. That there is no plan is refusal 25 of the list already.
+unfoldable pub after-plan : ℕ → List Float → List Float → PlanAnswer → (SweepPlan → Fields) → Call TaylorAnswer
+after-plan need output memory NoPlan run = ends (Refusal 25 nan) output memory
+after-plan need output memory (Plan p) run = ends (report p (run p .applied)) (run p .fields) (cleared need memory)
 
 -- the n values of the field after the sweeps
 unfoldable pub soaked : Augmented → Float → List Float → SweepPlan → Fields
@@ -65,27 +49,27 @@ combination-checks a mass tau count w output memory =
     ++ (vector-checks (a .n) tau count w output
     ++ sweep-checks (a .n) tau (count - 1) w (row-sum-norm (quotients a mass)) memory (taylor-need a mass (count - 1)))
 
-unfoldable pub phi-combination : Csr → Mass → Float → ℕ → List Float → List Float → List Float → Call
+unfoldable pub phi-combination : Csr → Mass → Float → ℕ → List Float → List Float → List Float → Call TaylorAnswer
 phi-combination a mass tau count w output memory =
     let d = count - 1 in
     let q = quotients a mass in
     let eta = eta-of (a .n) w tau d in
-    unless-refused (first (combination-checks a mass tau count w (length output) (length memory))) (taylor-need a mass d) output memory
-    (sweep-plan M-MAX tau q (row-sum-norm q))
-    (soaked (combination-operator q w tau d (eta .eta)) tau (combination-start (a .n) w d (eta .inv)))
+    unless-refused Refusal (first (combination-checks a mass tau count w (length output) (length memory))) output memory
+    (after-plan (taylor-need a mass d) output memory (sweep-plan M-MAX tau q (row-sum-norm q))
+    (soaked (combination-operator q w tau d (eta .eta)) tau (combination-start (a .n) w d (eta .inv))))
 
 -- ---- `phi_action` of index k, `phi_action_batched` of the indices 0 to p
 unfoldable pub action-checks : Csr → Mass → Float → ℕ → List Float → ℕ → ℕ → ℕ → List Check
 action-checks a mass tau k v output wanted memory =
     generator-checks a mass ++ job-checks k tau output wanted (length v) (a .n) (row-sum-norm (quotients a mass)) memory (taylor-need a mass 3)
 
-unfoldable pub phi-action : Csr → Mass → Float → ℕ → List Float → List Float → List Float → Call
+unfoldable pub phi-action : Csr → Mass → Float → ℕ → List Float → List Float → List Float → Call TaylorAnswer
 phi-action a mass tau k v output memory =
     let q = quotients a mass in
     let eta = eta-scaling (sup v) in
-    unless-refused (first (action-checks a mass tau k v (length output) (a .n) (length memory))) (taylor-need a mass 3) output memory
-    (sweep-plan M-MAX tau q (row-sum-norm q))
-    (soaked (action-operator q v (eta .eta)) tau (init-aug-vector (a .n) v (eta .inv) k))
+    unless-refused Refusal (first (action-checks a mass tau k v (length output) (a .n) (length memory))) output memory
+    (after-plan (taylor-need a mass 3) output memory (sweep-plan M-MAX tau q (row-sum-norm q))
+    (soaked (action-operator q v (eta .eta)) tau (init-aug-vector (a .n) v (eta .inv) k)))
 
 -- one more function of a batch
 unfoldable pub batch-step : Augmented → Float → SweepPlan → List Float → Float → ℕ → Fields → Fields
@@ -96,15 +80,15 @@ batch-step b tau p v inv k r =
 unfoldable pub batched : Augmented → Float → List Float → Float → ℕ → SweepPlan → Fields
 batched b tau v inv k p = iter (batch-step b tau p v inv) k (record { fields = []; applied = 0 })
 
-unfoldable pub phi-action-batched : Csr → Mass → Float → ℕ → List Float → List Float → List Float → Call
+unfoldable pub phi-action-batched : Csr → Mass → Float → ℕ → List Float → List Float → List Float → Call TaylorAnswer
 phi-action-batched a mass tau p v output memory =
     let q = quotients a mass in
     let eta = eta-scaling (sup v) in
-    unless-refused (first (action-checks a mass tau p v (length output) (suc p * a .n) (length memory))) (taylor-need a mass 3) output memory
-    (sweep-plan M-MAX tau q (row-sum-norm q))
-    (batched (action-operator q v (eta .eta)) tau v (eta .inv) (suc p))
+    unless-refused Refusal (first (action-checks a mass tau p v (length output) (suc p * a .n) (length memory))) output memory
+    (after-plan (taylor-need a mass 3) output memory (sweep-plan M-MAX tau q (row-sum-norm q))
+    (batched (action-operator q v (eta .eta)) tau v (eta .inv) (suc p)))
 
 -- to compute: a line `unfolding open-Calls` opens every definition of this file and of those below it
 unfoldable pub open-Calls : Unit {0}
-unfolding cleared unless-refused soaked combination-checks phi-combination action-checks phi-action batch-step batched phi-action-batched open-Mass open-Checks
+unfolding after-plan soaked combination-checks phi-combination action-checks phi-action batch-step batched phi-action-batched open-Mass open-Checks open-Call
 open-Calls = tt

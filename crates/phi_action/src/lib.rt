@@ -17,15 +17,15 @@ ghost use Rattle.doubles.specs.F64.{+0};
 ghost use Rattle.general_operator.specs.Csr.{csr, Valid};
 ghost use Rattle.generator_action.specs.Mass.{given, quotients};
 ghost use Rattle.generator_action.specs.Known.{Accepted};
-ghost use Rattle.checks.specs.declared.Checked.the-variants.{Sound};
 ghost use Rattle.expmv.specs.Select.{select-s-m, M-MAX};
 ghost use Rattle.phi_action_helpers.specs.Augmented.{augmented};
 ghost use Rattle.phi_action_helpers.specs.Laid.{matrix-at, operator-at, Ready, Lined};
 ghost use Rattle.phi_shift.specs.Plan.{argument, sweep-plan};
 ghost use Rattle.combination.specs.Combination.{combination-start, init-aug-vector};
+ghost use Rattle.combination.specs.Call.{ends};
 ghost use Rattle.combination.specs.Checks.{no-row, taylor-need};
 ghost use Rattle.phi_action.specs.Memory.{layout, Coupled};
-ghost use Rattle.phi_action.specs.Calls.{ends, unless-refused, soaked, phi-combination};
+ghost use Rattle.phi_action.specs.Calls.{after-plan, soaked, phi-combination};
 
 // Of an accepted job: the plan, and the products with the generator made, over all sweeps of a batch.
 pub struct TaylorReport {
@@ -162,7 +162,7 @@ fn soak(
     requires { ⌜ Coupled b n d (length (now vectors)) ⌝ }
     requires { ⌜ (need ≡ taylor-need (csr n (now starts) (now cols) (now vals)) (given «with_mass» (now mass)) d) × (need ≤ length (now work)) × (length (now out) ≡ n) ⌝ }
     requires { ⌜ no-row (select-s-m M-MAX (argument tau norm)) ≡ false ⌝ }
-    ensures { λ r. ⌜ ends r (now (out .exit)) (now (work .exit)) ≡ unless-refused Sound need (now (out .entry)) (now (work .entry)) (sweep-plan M-MAX tau (quotients (csr n (now (starts .entry)) (now (cols .entry)) (now (vals .entry))) (given «with_mass» (now (mass .entry)))) norm) (soaked (augmented (quotients (csr n (now (starts .entry)) (now (cols .entry)) (now (vals .entry))) (given «with_mass» (now (mass .entry)))) d (now (vectors .entry)) (b .places) (b .gains) (b .count)) tau (window 0 (n + d) (now (work .entry)))) ⌝ }
+    ensures { λ r. ⌜ ends r (now (out .exit)) (now (work .exit)) ≡ after-plan need (now (out .entry)) (now (work .entry)) (sweep-plan M-MAX tau (quotients (csr n (now (starts .entry)) (now (cols .entry)) (now (vals .entry))) (given «with_mass» (now (mass .entry)))) norm) (soaked (augmented (quotients (csr n (now (starts .entry)) (now (cols .entry)) (now (vals .entry))) (given «with_mass» (now (mass .entry)))) d (now (vectors .entry)) (b .places) (b .gains) (b .count)) tau (window 0 (n + d) (now (work .entry)))) ⌝ }
 {
     let l = layout(n, d, with_mass);
     let q = l.q;

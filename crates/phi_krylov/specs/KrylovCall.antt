@@ -9,13 +9,12 @@ use lib.Ieee.{Float, nan}
 use Rattle.lists.specs.Window.{window}
 use Rattle.doubles.specs.F64.{_⊕_, _⊗_, _⋖_, +0, 1f, 2f, is-finite}
 use Rattle.checks.specs.First.{Check, refuse, first}
-use Rattle.checks.specs.declared.Checked.{Checked}
-use Rattle.checks.specs.declared.Checked.the-variants.{Sound, Refused}
 use Rattle.general_operator.specs.Csr.{Csr, row-sum-norm}
 use Rattle.generator_action.specs.Mass.{Mass, quotients, generator-checks}
 use Rattle.combination.specs.Combination.{eta-of, combination-operator, combination-start}
+use Rattle.combination.specs.Call.{Call, ends, unless-refused, cleared}
 use Rattle.combination.specs.Checks.{vector-checks, magnitude-checks, memory-checks, quotient-need}
-use Rattle.phi_action.specs.Calls.{cleared, open-Calls}
+use Rattle.phi_action.specs.Calls.{open-Calls}
 use Rattle.phi_krylov_arnoldi.specs.Run.{State, End, finished, refused, clamp-m, expv, open-Run}
 use Rattle.phi_krylov.specs.declared.KrylovPhiOptions.{KrylovPhiOptions}
 use Rattle.phi_krylov.specs.declared.KrylovAnswer.{KrylovAnswer}
@@ -55,34 +54,21 @@ krylov-checks a mass tau count w o output memory =
     ++ (bound-checks (row-sum-norm (quotients a mass)) tau
     ++ memory-checks memory (krylov-need a mass d M)))))
 
-pub record Call : Type 0 where
-  pub answer : KrylovAnswer
-  pub output : List Float
-  pub memory : List Float
-
-abbrev pub ends : KrylovAnswer → List Float → List Float → Call
-ends a output memory = record { answer = a; output = output; memory = memory }
-
 -- a run leaves its field, the last accepted one where it was refused, and clears what it needed
-unfoldable pub after-run : ℕ → ℕ → List Float → End → Call
+unfoldable pub after-run : ℕ → ℕ → List Float → End → Call KrylovAnswer
 after-run n need memory (finished s) = ends (Soaked (s .report)) (window 0 n (s .y)) (cleared need memory)
 after-run n need memory (refused k x s) = ends (Refusal k x) (window 0 n (s .y)) (cleared need memory)
 
--- refusals 1 to 26 change no lent memory
-unfoldable pub unless-refused : Checked → List Float → List Float → Call → Call
-unless-refused (Refused k x) output memory c = ends (Refusal k x) output memory
-unless-refused Sound output memory c = c
-
-unfoldable pub phi-combination-krylov : Csr → Mass → Float → ℕ → List Float → KrylovPhiOptions → List Float → List Float → Call
+unfoldable pub phi-combination-krylov : Csr → Mass → Float → ℕ → List Float → KrylovPhiOptions → List Float → List Float → Call KrylovAnswer
 phi-combination-krylov a mass tau count w o output memory =
     let d = count - 1 in
     let q = quotients a mass in
     let eta = eta-of (a .n) w tau d in
-    unless-refused (first (krylov-checks a mass tau count w o (length output) (length memory))) output memory
+    unless-refused Refusal (first (krylov-checks a mass tau count w o (length output) (length memory))) output memory
     (after-run (a .n) (krylov-need a mass d (dimension (a .n) d (o .m))) memory
     (expv (combination-operator q w tau d (eta .eta)) tau (bound tau (row-sum-norm q)) (o .tol) (o .m) (o .«max_substeps») (combination-start (a .n) w d (eta .inv))))
 
 -- to compute: a line `unfolding open-KrylovCall` opens every definition of this file and of those below it
 unfoldable pub open-KrylovCall : Unit {0}
-unfolding bound dimension option-checks bound-checks krylov-need krylov-checks after-run unless-refused phi-combination-krylov open-Run open-Calls
+unfolding bound dimension option-checks bound-checks krylov-need krylov-checks after-run phi-combination-krylov open-Run open-Calls
 open-KrylovCall = tt
