@@ -11,7 +11,8 @@ use Rattle.lists.specs.Walk.{Turn, on, out, walk}
 use Rattle.doubles.specs.F64.{_⊕_, _⊖_, 1f, +0, minNum}
 use Rattle.hess_exp.specs.HessExp.{Small, unplanned, column, hess-exp-e1}
 use Rattle.arnoldi.specs.Basis.{Setting, dim, Columns, Rest, Breakdown, Basis, breakdown, full, extend, arnoldi-step, close, first-column, arnoldi}
-use Rattle.phi_krylov_arnoldi.specs.Trials.{Estimate, Trying, Tried, accepted, stuck, verdict, judge, try-step, exact-step, trials}
+use Rattle.phi_krylov_arnoldi.specs.declared.Estimate.{Estimate}
+use Rattle.phi_krylov_arnoldi.specs.Trials.{Trying, Tried, accepted, stuck, verdict, judge, try-step, exact-step, trials}
 use Rattle.phi_krylov_arnoldi.specs.Run.{State, End, finished, refused, applied-of, columns-of, advance, unfinished, standing, settle, substep, spent, run, started}
 use Rattle.phi_krylov_arnoldi.specs.Trace.{Accepted, accepted-in, made, trace, total, time-after}
 

@@ -16,7 +16,8 @@ use Rattle.doubles.proofs.Time.{one-fits, sum-step, rest-good, rest-above, abov
 use Rattle.retry.specs.Retry.{accepts, retry}
 use Rattle.hess_exp.specs.HessExp.{Small, unplanned, column, hess-exp-e1}
 use Rattle.arnoldi.specs.Basis.{Setting, dim, Basis, breakdown, full}
-use Rattle.phi_krylov_arnoldi.specs.Trials.{Estimate, Trying, Tried, accepted, stuck, local-error, verdict, judge, try-step, exact-step, trials}
+use Rattle.phi_krylov_arnoldi.specs.declared.Estimate.{Estimate}
+use Rattle.phi_krylov_arnoldi.specs.Trials.{Trying, Tried, accepted, stuck, local-error, verdict, judge, try-step, exact-step, trials}
 use Rattle.phi_krylov_arnoldi.specs.Run.{State, End, finished, refused, applied-of, columns-of, advance, unfinished, standing, settle, substep, spent, run, first-length, started}
 use Rattle.phi_krylov_arnoldi.specs.Trace.{Accepted, accepted-in, made, trace, Attempt, lengths, tried-on, attempts}
 use Rattle.phi_krylov_arnoldi.proofs.Counts.{Kept, walk-keeps, Each, each-append, last, reached, basis-of, trials-of}

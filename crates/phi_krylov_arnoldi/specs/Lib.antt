@@ -1,3 +1,4 @@
 pub mod Trials
 pub mod Run
 pub mod Trace
+pub mod Memory

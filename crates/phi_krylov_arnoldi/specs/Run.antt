@@ -21,6 +21,7 @@ use Rattle.pow2.specs.declared.Prescale.the-variants.{By, None}
 use Rattle.phi_action_helpers.specs.Augmented.{Augmented}
 use Rattle.arnoldi.specs.Basis.{Setting, Columns, Basis, breakdown, full, norm2, arnoldi}
 use Rattle.phi_krylov_arnoldi.specs.Trials.{Trying, Tried, accepted, stuck, trials, open-Trials}
+use Rattle.phi_krylov_arnoldi.specs.declared.Control.{Control}
 use Rattle.phi_krylov_arnoldi.specs.declared.KrylovPhiReport.{KrylovPhiReport}
 
 abbrev pub EPSILON : Float
@@ -37,12 +38,6 @@ abbrev pub 2PI : Float
 
 abbrev pub 4f : Float
 4f = bits 0x4010_0000_0000_0000
-
--- the time reached, the length proposed next, and the field's norm
-pub record Control : Type 0 where
-  pub time : Float
-  pub next : Float
-  pub beta : Float
 
 pub record State : Type 0 where
   pub control : Control

@@ -10,14 +10,10 @@ use Rattle.doubles.specs.F64.{if_then_else_, _⊖_, _⊗_, _⊘_, _⋖_, bits, 
 use Rattle.retry.specs.Retry.{accepts, retry, open-Retry}
 use Rattle.hess_exp.specs.HessExp.{Small, unplanned, column, hess-exp-e1, open-HessExp}
 use Rattle.arnoldi.specs.Basis.{Setting, dim, Columns, Breakdown, Basis, breakdown, full, open-Basis}
+use Rattle.phi_krylov_arnoldi.specs.declared.Estimate.{Estimate}
 
 abbrev pub 10f : Float
 10f = bits 0x4024_0000_0000_0000
-
--- the error of a length, and the order of the root that shortens it
-pub record Estimate : Type 0 where
-  pub err : Float
-  pub order : ℕ
 
 abbrev pub estimate : Float → ℕ → Estimate
 estimate err order = record { err = err; order = order }

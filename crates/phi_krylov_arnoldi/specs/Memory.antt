@@ -1,0 +1,43 @@
+-- What the memory and the answers of a run's functions stand for. Definitions only.
+use mathlib.Core.List.{List}
+use Prim.Native.Nat.{ℕ, _+_, _*_, _≤_, _<_}
+use lib.Ieee.{Float}
+use Rattle.lists.specs.Walk.{Turn, on, out}
+use Rattle.lists.specs.Window.{window}
+use Rattle.phi_action_helpers.specs.declared.Layout.{Layout}
+use Rattle.arnoldi.specs.declared.Krylov.{Krylov}
+use Rattle.phi_krylov_arnoldi.specs.Trials.{Trying, Tried, accepted, stuck}
+use Rattle.phi_krylov_arnoldi.specs.Run.{State, End, finished, refused}
+use Rattle.phi_krylov_arnoldi.specs.declared.Control.{Control}
+use Rattle.phi_krylov_arnoldi.specs.declared.KrylovPhiReport.{KrylovPhiReport}
+use Rattle.phi_krylov_arnoldi.specs.declared.Step.{Step}
+use Rattle.phi_krylov_arnoldi.specs.declared.Trial.{Trial}
+use Rattle.phi_krylov_arnoldi.specs.declared.Trial.the-variants.{Next, Accepted, NoPlan}
+use Rattle.phi_krylov_arnoldi.specs.declared.Progress.{Progress}
+use Rattle.phi_krylov_arnoldi.specs.declared.Progress.the-variants as progress
+use Rattle.phi_krylov_arnoldi.specs.declared.RunAnswer.{RunAnswer}
+use Rattle.phi_krylov_arnoldi.specs.declared.RunAnswer.the-variants as answer
+
+unfoldable pub trial-at : Trial → Turn Trying Tried
+trial-at (Next rejections t) = on (record { rejections = rejections; t = t })
+trial-at (Accepted s) = out (accepted (s .rejections) (s .t) (window 0 (s .count) (s .f)) (s .err))
+trial-at (NoPlan arg) = out (stuck arg)
+
+-- an accepted length has few rejections before it, and a coefficient for each of at most `columns` columns
+abbrev pub Modest : ℕ → Trial → Type 0
+Modest columns (Next rejections t) = Unit {0}
+Modest columns (Accepted s) = (s .rejections ≤ 10) × (s .count ≤ columns)
+Modest columns (NoPlan arg) = Unit {0}
+
+-- the field stands from k .y on
+abbrev pub state-at : Layout → Krylov → Control → KrylovPhiReport → List Float → State
+state-at l k c r w = record { control = c; report = r; y = window (k .y) (l .n + l .d) w }
+
+unfoldable pub progress-at : Layout → Krylov → Progress → List Float → Turn State End
+progress-at l k (progress.On c r) w = on (state-at l k c r w)
+progress-at l k (progress.Finished c r) w = out (finished (state-at l k c r w))
+progress-at l k (progress.Refused number x c r) w = out (refused number x (state-at l k c r w))
+
+unfoldable pub end-at : Layout → Krylov → RunAnswer → List Float → End
+end-at l k (answer.Finished c r) w = finished (state-at l k c r w)
+end-at l k (answer.Refused number x c r) w = refused number x (state-at l k c r w)
