@@ -2,12 +2,15 @@
 use mathlib.Core.List.{List}
 use Prim.Native.Nat.{ℕ, _+_, _*_, _≤_, _<_}
 use lib.Ieee.{Float}
+use Rattle.lists.specs.Loop.{tabulate}
 use Rattle.lists.specs.Walk.{Turn, on, out}
 use Rattle.lists.specs.Window.{window}
 use Rattle.phi_action_helpers.specs.declared.Layout.{Layout}
+use Rattle.arnoldi.specs.Basis.{Setting}
+use Rattle.arnoldi.specs.Memory.{column}
 use Rattle.arnoldi.specs.declared.Krylov.{Krylov}
 use Rattle.phi_krylov_arnoldi.specs.Trials.{Trying, Tried, accepted, stuck}
-use Rattle.phi_krylov_arnoldi.specs.Run.{State, End, finished, refused}
+use Rattle.phi_krylov_arnoldi.specs.Run.{State, End, finished, refused, advance}
 use Rattle.phi_krylov_arnoldi.specs.declared.Control.{Control}
 use Rattle.phi_krylov_arnoldi.specs.declared.KrylovPhiReport.{KrylovPhiReport}
 use Rattle.phi_krylov_arnoldi.specs.declared.Step.{Step}
@@ -32,6 +35,10 @@ Modest columns (NoPlan arg) = Unit {0}
 -- the field stands from k .y on
 abbrev pub state-at : Layout → Krylov → Control → KrylovPhiReport → List Float → State
 state-at l k c r w = record { control = c; report = r; y = window (k .y) (l .n + l .d) w }
+
+-- the state after the length s, whose columns stand at the front of the memory
+abbrev pub stepped : Layout → Krylov → Control → KrylovPhiReport → ℕ → Step → Setting → List Float → State
+stepped l k c r applied s p w = advance p (state-at l k c r w) applied (tabulate (s .count) (column (l .n + l .d) w)) (s .rejections) (s .t) (window 0 (s .count) (s .f)) (s .err)
 
 unfoldable pub progress-at : Layout → Krylov → Progress → List Float → Turn State End
 progress-at l k (progress.On c r) w = on (state-at l k c r w)

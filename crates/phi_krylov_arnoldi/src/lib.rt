@@ -6,8 +6,17 @@ ghost use lib.ListN.{length};
 ghost use lib.Ieee.{Float};
 ghost use Rattle.lists.specs.Loop.{tabulate};
 ghost use Rattle.lists.specs.Window.{window, splice};
-ghost use Rattle.arnoldi.specs.Memory.{column};
-ghost use Rattle.phi_krylov_arnoldi.specs.Run.{combined};
+ghost use Rattle.lists.specs.Frame.{Kept};
+ghost use Rattle.doubles.specs.F64.{if_then_else_, _⊖_, _⋖_, +0, 1f};
+ghost use Rattle.retry.specs.Retry.{retry};
+ghost use Rattle.general_operator.specs.Csr.{Csr};
+ghost use Rattle.phi_action_helpers.specs.declared.Coupling.{Coupling};
+ghost use Rattle.arnoldi.specs.Memory.{column, setting-at};
+ghost use Rattle.phi_krylov_arnoldi.specs.Run.{combined, unfinished, standing};
+ghost use Rattle.phi_krylov_arnoldi.specs.declared.KrylovPhiReport.{KrylovPhiReport};
+ghost use Rattle.phi_krylov_arnoldi.specs.Memory.{progress-at, stepped};
+use arnoldi::Krylov;
+use phi_action_helpers::Layout;
 
 // Of a run: products with the generator, accepted substeps, rejected lengths, and the accumulated error estimate.
 pub struct KrylovPhiReport {
@@ -60,19 +69,70 @@ pub enum RunAnswer {
 }
 
 // The field: beta times the columns by their coefficients, added up from zeros.
-fn combine_columns(
-    work: &mut [f64],
-    y_at: usize,
-    len: usize,
-    beta: f64,
-    count: usize,
-    f: [f64; 130],
-)
-    requires { ⌜ (count ≤ 130) × (count * len ≤ «y_at») × («y_at» + len ≤ length (now work)) ⌝ }
-    ensures { λ _. ⌜ now (work .exit) ≡ splice «y_at» (combined beta (tabulate count (column len (now (work .entry)))) (window 0 count f) len) (now (work .entry)) ⌝ }
+fn combine_columns(work: &mut [f64], y_at: usize, len: usize, beta: f64, s: Step)
+    requires { ⌜ (s .count ≤ 130) × (s .count * len ≤ «y_at») × («y_at» + len ≤ length (now work)) × (length (window 0 (s .count) (s .f)) ≡ s .count) ⌝ }
+    ensures { λ _. ⌜ now (work .exit) ≡ splice «y_at» (combined beta (tabulate (s .count) (column len (now (work .entry)))) (window 0 (s .count) (s .f)) len) (now (work .entry)) ⌝ }
 {
+    let count = s.count;
     vectors::clear_in(work, y_at, len);
     for i in 0..count {
-        vectors::axpy_in(work, y_at, i * len, len, beta * f[i]);
+        vectors::axpy_in(work, y_at, i * len, len, beta * s.f[i]);
     }
+}
+
+// The length proposed after an accepted one.
+fn next_length(m: usize, tol: f64, t: f64, err: f64, time: f64) -> f64
+    ensures { λ r. ⌜ r ≡ if +0 ⋖ err then retry m tol t err else (1f ⊖ time) ⌝ }
+{
+    if 0.0 < err {
+        return retry::retry(m, tol, t, err);
+    }
+    1.0 - time
+}
+
+// A run goes on while its norm is not 0 and its time is below 1.
+fn unfinished(c: Control) -> bool
+    ensures { λ r. ⌜ ((report : KrylovPhiReport) (y : List Float) → r ≡ unfinished (record { control = c; report = report; y = y })) ⌝ }
+{
+    if c.beta == 0.0 {
+        return false;
+    }
+    c.time < 1.0
+}
+
+// The state after an accepted length, `applied` products made.
+fn advance(
+    work: &mut [f64],
+    l: Layout,
+    k: Krylov,
+    c: Control,
+    r: KrylovPhiReport,
+    applied: usize,
+    s: Step,
+) -> Progress
+    requires { ⌜ (s .count ≤ 130) × (s .count * (l .n + l .d) ≤ k .y) × (k .y + (l .n + l .d) ≤ l .q) × (k .y + (l .n + l .d) ≤ length (now work)) × (length (window 0 (s .count) (s .f)) ≡ s .count) ⌝ }
+    requires { ⌜ (r .matvecs ≤ 1000000000) × (r .substeps ≤ 1000000) × (r .rejected ≤ 1000000000) × (applied ≤ 1000) × (s .rejections ≤ 10) ⌝ }
+    ensures { λ x. ⌜ ((b : Coupling) (q : Csr) (vectors : List Float) → progress-at l k x (now (work .exit)) ≡ standing (stepped l k c r applied s (setting-at l b k q vectors) (now (work .entry))) (unfinished (stepped l k c r applied s (setting-at l b k q vectors) (now (work .entry))))) ⌝ }
+    ensures { λ _. ⌜ Kept 0 (l .q) +0 (now (work .entry)) (now (work .exit)) ⌝ }
+{
+    let len = l.n + l.d;
+    let y = k.y;
+    let end = y + len;
+    combine_columns(work, y, len, c.beta, s);
+    let time = c.time + s.t;
+    let control = Control {
+        time: time,
+        next: next_length(k.m, k.tol, s.t, s.err, time),
+        beta: arnoldi::norm2(&work[y..end]),
+    };
+    let report = KrylovPhiReport {
+        matvecs: r.matvecs + applied,
+        substeps: r.substeps + 1,
+        rejected: r.rejected + s.rejections,
+        est_error: r.est_error + float::max(s.err, k.anorm * 2.220446049250313e-16 * c.beta),
+    };
+    if unfinished(control) {
+        return Progress::On(control, report);
+    }
+    Progress::Finished(control, report)
 }
