@@ -25,14 +25,14 @@ use Rattle.phi_krylov_arnoldi.specs.declared.Step.{Step}
 use Rattle.phi_krylov_arnoldi.specs.declared.Progress.the-variants.{On, Finished}
 use Rattle.phi_krylov_arnoldi.proofs.Columns.{length-sums, sums-combined}
 
-module _ (l : Layout) (k : Krylov) (c : Control) (r : KrylovPhiReport) (applied : ℕ) (s : Step) (w₀ w : List Float) (few : length (window 0 (s .count) (s .f)) ≡ s .count)
+module _ (l : Layout) (k : Krylov) (c : Control) (r : KrylovPhiReport) (applied : ℕ) (s : Step) (f w₀ w : List Float) (few : length (window 0 (s .count) f) ≡ s .count)
     (before : s .count * (l .n + l .d) ≤ k .y) (room : k .y + (l .n + l .d) ≤ length w₀)
-    (e : w ≡ splice (k .y) (combined (c .beta) (tabulate (s .count) (column (l .n + l .d) w₀)) (window 0 (s .count) (s .f)) (l .n + l .d)) w₀) where
+    (e : w ≡ splice (k .y) (combined (c .beta) (tabulate (s .count) (column (l .n + l .d) w₀)) (window 0 (s .count) f) (l .n + l .d)) w₀) where
   abbrev field : List Float
-  field = combined (c .beta) (tabulate (s .count) (column (l .n + l .d) w₀)) (window 0 (s .count) (s .f)) (l .n + l .d)
+  field = combined (c .beta) (tabulate (s .count) (column (l .n + l .d) w₀)) (window 0 (s .count) f) (l .n + l .d)
 
   long : length field ≡ l .n + l .d
-  long = ap length (sym (sums-combined (c .beta) (l .n + l .d) (s .count) (s .f) w₀ few)) ∙ length-sums (c .beta) (l .n + l .d) (s .count) (s .f) w₀ (k .y) before room (s .count) (omega arith)
+  long = ap length (sym (sums-combined (c .beta) (l .n + l .d) (s .count) f w₀ few)) ∙ length-sums (c .beta) (l .n + l .d) (s .count) f w₀ (k .y) before room (s .count) (omega arith)
 
   pub step-kept : (q : ℕ) → k .y + (l .n + l .d) ≤ q → Kept 0 q +0 w₀ w
   step-kept q h = kept-by (kept-all 0 q +0 w₀) (wrote (k .y) (l .n + l .d) field w₀ w long e) (omega arith) (omega arith)
@@ -44,17 +44,17 @@ module _ (l : Layout) (k : Krylov) (c : Control) (r : KrylovPhiReport) (applied 
     abbrev pub report : KrylovPhiReport
     report = record { matvecs = r .matvecs + applied; substeps = r .substeps + 1; rejected = r .rejected + s .rejections; «est_error» = r .«est_error» ⊕ x }
 
-    stepped-is : state-at l k control report w ≡ stepped l k c r applied s p w₀
+    stepped-is : state-at l k control report w ≡ stepped l k c r applied s f p w₀
     unfolding advance
     stepped-is =
         let y : window (k .y) (l .n + l .d) w ≡ field = ap (window (k .y) (l .n + l .d)) e ∙ window-splice-same (k .y) (l .n + l .d) field w₀ long room in
         let one : r .substeps + 1 ≡ suc (r .substeps) = omega arith in
         rw (eb, ex, em, y, one, length-window (k .y) (l .n + l .d) w₀ room) refl
 
-    pub goes-on : unfinished (state-at l k control report w) ≡ true → progress-at l k (On control report) w ≡ standing (stepped l k c r applied s p w₀) (unfinished (stepped l k c r applied s p w₀))
+    pub goes-on : unfinished (state-at l k control report w) ≡ true → progress-at l k (On control report) w ≡ standing (stepped l k c r applied s f p w₀) (unfinished (stepped l k c r applied s f p w₀))
     unfolding progress-at
     goes-on u = rw (← stepped-is, u) refl
 
-    pub comes-to-end : unfinished (state-at l k control report w) ≡ false → progress-at l k (Finished control report) w ≡ standing (stepped l k c r applied s p w₀) (unfinished (stepped l k c r applied s p w₀))
+    pub comes-to-end : unfinished (state-at l k control report w) ≡ false → progress-at l k (Finished control report) w ≡ standing (stepped l k c r applied s f p w₀) (unfinished (stepped l k c r applied s f p w₀))
     unfolding progress-at
     comes-to-end u = rw (← stepped-is, u) refl

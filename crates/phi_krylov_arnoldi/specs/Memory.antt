@@ -1,4 +1,5 @@
 -- What the memory and the answers of a run's functions stand for. Definitions only.
+use mathlib.Core.Path.{_≡_}
 use mathlib.Core.List.{List}
 use Prim.Native.Nat.{ℕ, _+_, _*_, _≤_, _<_}
 use lib.Ieee.{Float}
@@ -9,36 +10,54 @@ use Rattle.phi_action_helpers.specs.declared.Layout.{Layout}
 use Rattle.arnoldi.specs.Basis.{Setting}
 use Rattle.arnoldi.specs.Memory.{column}
 use Rattle.arnoldi.specs.declared.Krylov.{Krylov}
+use Rattle.arnoldi.specs.declared.BasisAnswer.{BasisAnswer}
+use Rattle.arnoldi.specs.declared.BasisAnswer.the-variants.{Breakdown, Full}
 use Rattle.phi_krylov_arnoldi.specs.Trials.{Trying, Tried, accepted, stuck}
 use Rattle.phi_krylov_arnoldi.specs.Run.{State, End, finished, refused, advance}
 use Rattle.phi_krylov_arnoldi.specs.declared.Control.{Control}
 use Rattle.phi_krylov_arnoldi.specs.declared.KrylovPhiReport.{KrylovPhiReport}
 use Rattle.phi_krylov_arnoldi.specs.declared.Step.{Step}
 use Rattle.phi_krylov_arnoldi.specs.declared.Trial.{Trial}
-use Rattle.phi_krylov_arnoldi.specs.declared.Trial.the-variants.{Next, Accepted, NoPlan}
+use Rattle.phi_krylov_arnoldi.specs.declared.Outcome.{Outcome}
+use Rattle.phi_krylov_arnoldi.specs.declared.Outcome.the-variants.{Next, Accepted, NoPlan}
 use Rattle.phi_krylov_arnoldi.specs.declared.Progress.{Progress}
 use Rattle.phi_krylov_arnoldi.specs.declared.Progress.the-variants as progress
 use Rattle.phi_krylov_arnoldi.specs.declared.RunAnswer.{RunAnswer}
 use Rattle.phi_krylov_arnoldi.specs.declared.RunAnswer.the-variants as answer
 
-unfoldable pub trial-at : Trial → Turn Trying Tried
-trial-at (Next rejections t) = on (record { rejections = rejections; t = t })
-trial-at (Accepted s) = out (accepted (s .rejections) (s .t) (window 0 (s .count) (s .f)) (s .err))
-trial-at (NoPlan arg) = out (stuck arg)
+-- an outcome, of which f holds the coefficients
+unfoldable pub outcome-at : List Float → Outcome → Turn Trying Tried
+outcome-at f (Next rejections t) = on (record { rejections = rejections; t = t })
+outcome-at f (Accepted s) = out (accepted (s .rejections) (s .t) (window 0 (s .count) f) (s .err))
+outcome-at f (NoPlan arg) = out (stuck arg)
 
--- an accepted length has few rejections before it, and a coefficient for each of at most `columns` columns
-abbrev pub Modest : ℕ → Trial → Type 0
+abbrev pub trial-at : Trial → Turn Trying Tried
+trial-at o = outcome-at (o .f) (o .outcome)
+
+-- an accepted length has at most ten rejections before it, and one coefficient for each column
+abbrev pub Modest : ℕ → Outcome → Type 0
 Modest columns (Next rejections t) = Unit {0}
-Modest columns (Accepted s) = (s .rejections ≤ 10) × (s .count ≤ columns)
+Modest columns (Accepted s) = (s .rejections ≤ 10) × (s .count ≡ columns)
 Modest columns (NoPlan arg) = Unit {0}
+
+-- a length to be tried has at most i rejections before it
+abbrev pub Rejected : ℕ → Outcome → Type 0
+Rejected i (Next rejections t) = rejections ≤ i
+Rejected i (Accepted s) = Unit {0}
+Rejected i (NoPlan arg) = Unit {0}
+
+-- how many columns a basis has
+abbrev pub columns-in : Krylov → BasisAnswer → ℕ
+columns-in k (Breakdown applied mb hn) = mb
+columns-in k (Full applied avnorm) = k .m + 1
 
 -- the field stands from k .y on
 abbrev pub state-at : Layout → Krylov → Control → KrylovPhiReport → List Float → State
 state-at l k c r w = record { control = c; report = r; y = window (k .y) (l .n + l .d) w }
 
--- the state after the length s, whose columns stand at the front of the memory
-abbrev pub stepped : Layout → Krylov → Control → KrylovPhiReport → ℕ → Step → Setting → List Float → State
-stepped l k c r applied s p w = advance p (state-at l k c r w) applied (tabulate (s .count) (column (l .n + l .d) w)) (s .rejections) (s .t) (window 0 (s .count) (s .f)) (s .err)
+-- the state after the length s with the coefficients f, whose columns stand at the front of the memory
+abbrev pub stepped : Layout → Krylov → Control → KrylovPhiReport → ℕ → Step → List Float → Setting → List Float → State
+stepped l k c r applied s f p w = advance p (state-at l k c r w) applied (tabulate (s .count) (column (l .n + l .d) w)) (s .rejections) (s .t) (window 0 (s .count) f) (s .err)
 
 unfoldable pub progress-at : Layout → Krylov → Progress → List Float → Turn State End
 progress-at l k (progress.On c r) w = on (state-at l k c r w)

@@ -12,16 +12,16 @@ use Rattle.phi_krylov_arnoldi.proofs.combine_columns.Statement.{stateme
 use Rattle.phi_krylov_arnoldi.proofs.combine_columns.Tie as tie
 
 abbrev Inv-loop : tie.InvT-loop
-Inv-loop work₀ y-at len beta s count i₀ work i = (i ≤ count) × (work ≡ splice y-at (sums beta len count (s .f) work₀ i) work₀)
+Inv-loop work₀ y-at len beta count trial i₀ work i = (i ≤ count) × (work ≡ splice y-at (sums beta len count (trial .f) work₀ i) work₀)
 
 abbrev μ-loop : tie.MeasureT-loop
-μ-loop work₀ y-at len beta s count i₀ work i = count - i
+μ-loop work₀ y-at len beta count trial i₀ work i = count - i
 
 -- in a turn the column lies before the field
 col : (c : tie.In-loop Inv-loop μ-loop) → (let a = c .before .before .before .before .before .before .before .args in c .before .loop .i * a .len + a .len ≤ a .y-at)
 col c =
     let a = c .before .before .before .before .before .before .before .args in
-    omega (arith, column-within (c .before .loop .i) (a .t5 .count) (a .len) (c .loop-test .taken))
+    omega (arith, column-within (c .before .loop .i) (a .count) (a .len) (c .loop-test .taken))
 
 long : (c : tie.At-loop Inv-loop μ-loop) → length (c .loop .work) ≡ length (c .before .before .before .clear-in .last .0)
 long c = ap length (c .loop .inv .1) ∙ length-splice _ _ _
@@ -33,7 +33,7 @@ clear-in-requires : tie.Need-clear-in-requires Inv-loop μ-loop
 clear-in-requires c κs = omega arith
 
 loop-holds : tie.Need-loop-holds Inv-loop μ-loop
-loop-holds c = let a = c .before .before .before .before .before .args in (omega arith, sums-start (a .beta) (a .len) (a .t5 .count) (a .t5 .f) (a .work .now) (a .y-at) (c .before .before .clear-in .ensures))
+loop-holds c = let a = c .before .before .before .before .before .args in (omega arith, sums-start (a .beta) (a .len) (a .count) (a .t6 .f) (a .work .now) (a .y-at) (c .before .before .clear-in .ensures))
 
 mul-axpy-in : tie.Need-mul-axpy-in Inv-loop μ-loop
 mul-axpy-in c = omega (arith, col (c .before))
@@ -58,7 +58,7 @@ loop-again c =
     let s = (c .before .before .before .before .before .before) in
     let a = c .before .before .before .before .before .before .before .before .before .before .before .before .args in
     let p = c .before .before .before .before .before .before .before .before .before .before .before .before .pre in
-    (omega arith, sums-turn (a .beta) (a .len) (a .t5 .count) (a .t5 .f) (c .before .before .before .before .before .before .before .before .before .clear-in .last .0) (a .y-at) (p .1) (omega (arith, long₁ s)) (s .loop .i) (c .before .before .before .before .before .loop-test .taken) (s .loop .inv .1) (c .before .before .axpy-in .ensures))
+    (omega arith, sums-turn (a .beta) (a .len) (a .count) (a .t6 .f) (c .before .before .before .before .before .before .before .before .before .clear-in .last .0) (a .y-at) (p .1) (omega (arith, long₁ s)) (s .loop .i) (c .before .before .before .before .before .loop-test .taken) (s .loop .inv .1) (c .before .before .axpy-in .ensures))
 
 same-length : tie.Need-same-length Inv-loop μ-loop
 same-length c = long (c .before) ∙ long₁ (c .before)
@@ -68,8 +68,8 @@ returns c =
     let s = (c .before) in
     let a = c .before .before .before .before .before .before .before .args in
     let p = c .before .before .before .before .before .before .before .pre in
-    let e : s .loop .i ≡ a .t5 .count = omega arith in
-    rw e at (s .loop .inv .1) ∙ sums-all (a .beta) (a .len) (a .t5 .count) (a .t5 .f) (a .work .now) (a .y-at) (c .before .before .before .before .clear-in .ensures) (p .3) (p .1) (p .2)
+    let e : s .loop .i ≡ a .count = omega arith in
+    rw e at (s .loop .inv .1) ∙ sums-all (a .beta) (a .len) (a .count) (a .t6 .f) (a .work .now) (a .y-at) (c .before .before .before .before .clear-in .ensures) (p .3) (p .1) (p .2)
 
 pub combine-columns-spec : {M : Type 1} → statement M
 combine-columns-spec =
