@@ -12,6 +12,7 @@ use Rattle.lists.specs.Bounds.{Disjoint}
 use Rattle.lists.specs.Loop.{tabulate}
 use Rattle.lists.specs.Window.{window, splice}
 use Rattle.lists.proofs.Bounds.{column-within, cell-within}
+use Rattle.lists.specs.Frame.{Kept}
 use Rattle.lists.proofs.Frame.{Wrote, wrote, wrote-set, written, untouched, wrote-long, kept-all, kept-by, kept-on}
 use Rattle.lists.proofs.Loop.{getD-tabulate, tabulate-ext, tabulate-snoc}
 use Rattle.lists.proofs.Window.{part-window, length-window, window-window, window-set-in, splice-comm, splice-splice}
@@ -47,9 +48,9 @@ module _ {l : Layout} {k : Krylov} where
   pub spared-by : {w₀ w w₁ vs : List Float} {at n : ℕ} → Spared l k w₀ w → Wrote at n vs w w₁ → Disjoint at n (k .y) (l .n + l .d) → at + n ≤ l .q → Spared l k w₀ w₁
   spared-by s t apart h = record { kept = kept-by (s .kept) t (omega arith) (omega arith); field = untouched t (k .y) (l .n + l .d) apart ∙ s .field }
 
-  pub room-kept : {b : Coupling} (starts cols : List ℕ) (vals : List Float) {v x : ℕ} {w₀ w : List Float} → Spared l k w₀ w
+  pub room-kept : {b : Coupling} (starts cols : List ℕ) (vals : List Float) {v x : ℕ} {w₀ w : List Float} → Kept 0 (l .q) +0 w₀ w
       → Room l b k (matrix-at l starts cols vals w₀) v x (length w₀) → Room l b k (matrix-at l starts cols vals w) v x (length w)
-  room-kept starts cols vals {w₀ = w₀} {w = w} s h = rw (values-kept (l .mass) (l .q) vals w₀ w (s .kept), s .kept .long) h
+  room-kept starts cols vals {w₀ = w₀} {w = w} s h = rw (values-kept (l .mass) (l .q) vals w₀ w s, s .long) h
 
 module _ (l : Layout) (b : Coupling) (k : Krylov) (starts cols : List ℕ) (vals vectors : List Float) where
   -- column j is copied

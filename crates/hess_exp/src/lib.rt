@@ -202,6 +202,7 @@ pub fn hess_exp_e1(h: &[f64], dim: usize, mx: usize, t: f64) -> SmallExp
     requires { ⌜ (1 ≤ mx) × (mx ≤ 130) ⌝ }
     requires { ⌜ Leading (now h) dim mx ⌝ }
     ensures { λ r. ⌜ small-of mx r ≡ hess-exp-e1 (now (h .entry)) dim mx t ⌝ }
+    ensures { λ r. ⌜ length (r .column) ≡ 130 ⌝ }
 {
     let mut y = [0.0; 130];
     let mut w = [0.0; 130];

@@ -49,16 +49,16 @@ module _ (beta : Float) (len count : ℕ) (f w₀ : List Float) where
         let t : axpy (beta ⊗ at f i) (window (i * len) len w) (window y len w) ≡ sums (i + 1) = rw (v, x, iter-next add-column i (replicate len +0), g, getD-window 0 count f i nan h, zero-add i) refl in
         f₁ ∙ rw (t, e) (splice-splice y (sums (i + 1)) (sums i) w₀ (omega (arith, l, length-sums (i + 1) (omega arith))))
 
-  pub sums-combined : length (window 0 count f) ≡ count → sums count ≡ combined beta (tabulate count (column len w₀)) (window 0 count f) len
+  pub sums-combined : count ≤ length f → sums count ≡ combined beta (tabulate count (column len w₀)) (window 0 count f) len
   unfolding combined
-  sums-combined h = rw h refl
+  sums-combined h = rw (length-window 0 count f (omega arith)) refl
 
 module _ (beta : Float) (len count : ℕ) (f w₀ : List Float) (y : ℕ) {w : List Float} (e : w ≡ splice y (replicate len +0) w₀) where
   pub sums-start : w ≡ splice y (sums beta len count f w 0) w
   unfolding iter
   sums-start = rw e (sym (splice-splice y (replicate len +0) (replicate len +0) w₀ (omega arith)))
 
-  pub sums-all : length (window 0 count f) ≡ count → count * len ≤ y → y + len ≤ length w₀
+  pub sums-all : count ≤ length f → count * len ≤ y → y + len ≤ length w₀
       → splice y (sums beta len count f w count) w ≡ splice y (combined beta (tabulate count (column len w₀)) (window 0 count f) len) w₀
   unfolding column
   sums-all h b r =

@@ -200,7 +200,7 @@ trace-modest p zero o = tt
 trace-modest p (suc k) (on s) = each-append (Modest (p .m)) (made p s) (trace p k (substep p s)) (made-modest p s) (trace-modest p k (substep p s))
 trace-modest p (suc k) (out e) = tt
 
-total-under : (f : Accepted → ℕ) (c : ℕ) (l : List Accepted) → Each (λ a. f a ≤ c) l → total f l ≤ c * length l
+pub total-under : (f : Accepted → ℕ) (c : ℕ) (l : List Accepted) → Each (λ a. f a ≤ c) l → total f l ≤ c * length l
 unfolding total
 total-under f c [] h = zero-le
 total-under f c (a ∷ l) h = le-trans (add-le-add (h .0) (total-under f c l (h .1))) (le-of-eq (swap c (c * length l) ∙ sym (mul-suc c (length l))))
@@ -208,7 +208,7 @@ total-under f c (a ∷ l) h = le-trans (add-le-add (h .0) (total-under f c l (h 
     swap : (a b : ℕ) → a + b ≡ b + a
     swap a b = omega arith
 
-each-of : {A : Type 0} (P Q : A → Type 0) → ((a : A) → P a → Q a) → (l : List A) → Each P l → Each Q l
+pub each-of : {A : Type 0} (P Q : A → Type 0) → ((a : A) → P a → Q a) → (l : List A) → Each P l → Each Q l
 each-of P Q g [] h = tt
 each-of P Q g (a ∷ l) h = (g a (h .0), each-of P Q g l (h .1))
 

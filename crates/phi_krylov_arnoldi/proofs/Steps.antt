@@ -25,7 +25,7 @@ use Rattle.phi_krylov_arnoldi.specs.declared.Step.{Step}
 use Rattle.phi_krylov_arnoldi.specs.declared.Progress.the-variants.{On, Finished}
 use Rattle.phi_krylov_arnoldi.proofs.Columns.{length-sums, sums-combined}
 
-module _ (l : Layout) (k : Krylov) (c : Control) (r : KrylovPhiReport) (applied : ℕ) (s : Step) (f w₀ w : List Float) (few : length (window 0 (s .count) f) ≡ s .count)
+module _ (l : Layout) (k : Krylov) (c : Control) (r : KrylovPhiReport) (applied : ℕ) (s : Step) (f w₀ w : List Float) (few : s .count ≤ length f)
     (before : s .count * (l .n + l .d) ≤ k .y) (room : k .y + (l .n + l .d) ≤ length w₀)
     (e : w ≡ splice (k .y) (combined (c .beta) (tabulate (s .count) (column (l .n + l .d) w₀)) (window 0 (s .count) f) (l .n + l .d)) w₀) where
   abbrev field : List Float

@@ -1,7 +1,8 @@
 -- What the memory and the answers of a run's functions stand for. Definitions only.
 use mathlib.Core.Path.{_≡_}
 use mathlib.Core.List.{List}
-use Prim.Native.Nat.{ℕ, _+_, _*_, _≤_, _<_}
+use Prim.Native.Nat.{ℕ, _+_, _*_, _≤_}
+use lib.ListN.{length}
 use lib.Ieee.{Float}
 use Rattle.lists.specs.Loop.{tabulate}
 use Rattle.lists.specs.Walk.{Turn, on, out}
@@ -34,22 +35,25 @@ outcome-at f (NoPlan arg) = out (stuck arg)
 abbrev pub trial-at : Trial → Turn Trying Tried
 trial-at o = outcome-at (o .f) (o .outcome)
 
--- an accepted length has at most ten rejections before it, and one coefficient for each column
-abbrev pub Modest : ℕ → Outcome → Type 0
-Modest columns (Next rejections t) = Unit {0}
-Modest columns (Accepted s) = (s .rejections ≤ 10) × (s .count ≡ columns)
-Modest columns (NoPlan arg) = Unit {0}
+-- a length to be tried has at most i rejections before it, an accepted one at most ten, and one coefficient for each column
+abbrev pub Within : ℕ → ℕ → Outcome → Type 0
+Within i columns (Next rejections t) = rejections ≤ i
+Within i columns (Accepted s) = (s .rejections ≤ 10) × (s .count ≡ columns)
+Within i columns (NoPlan arg) = Unit {0}
 
--- a length to be tried has at most i rejections before it
-abbrev pub Rejected : ℕ → Outcome → Type 0
-Rejected i (Next rejections t) = rejections ≤ i
-Rejected i (Accepted s) = Unit {0}
-Rejected i (NoPlan arg) = Unit {0}
+pub record Modest (i columns : ℕ) (o : Trial) : Type 0 where
+  pub long : length (o .f) ≡ 130
+  pub within : Within i columns (o .outcome)
 
 -- how many columns a basis has
 abbrev pub columns-in : Krylov → BasisAnswer → ℕ
 columns-in k (Breakdown applied mb hn) = mb
 columns-in k (Full applied avnorm) = k .m + 1
+
+-- how many products with the generator it took
+abbrev pub products : BasisAnswer → ℕ
+products (Breakdown applied mb hn) = applied
+products (Full applied avnorm) = applied
 
 -- the field stands from k .y on
 abbrev pub state-at : Layout → Krylov → Control → KrylovPhiReport → List Float → State
@@ -63,6 +67,12 @@ unfoldable pub progress-at : Layout → Krylov → Progress → List Float → T
 progress-at l k (progress.On c r) w = on (state-at l k c r w)
 progress-at l k (progress.Finished c r) w = out (finished (state-at l k c r w))
 progress-at l k (progress.Refused number x c r) w = out (refused number x (state-at l k c r w))
+
+-- the counts of at most i substeps
+abbrev pub Moderate : ℕ → Progress → Type 0
+Moderate i (progress.On c r) = (r .matvecs ≤ 129 * i) × (r .substeps ≤ i) × (r .rejected ≤ 10 * i)
+Moderate i (progress.Finished c r) = Unit {0}
+Moderate i (progress.Refused number x c r) = Unit {0}
 
 unfoldable pub end-at : Layout → Krylov → RunAnswer → List Float → End
 end-at l k (answer.Finished c r) w = finished (state-at l k c r w)

@@ -22,7 +22,7 @@ copy-in-requires c κs = let f = col c in omega arith
 aug-matvec-requires : tie.Need-aug-matvec-requires
 aug-matvec-requires c κs =
     let s = c .before .before .before .before .before .before .before .before .before .before .before in
-    room-kept _ _ _ (copied _ _ _ _ _ _ (s .args .vectors .now) _ _ _ (s .pre .0) (s .pre .1) (c .before .before .before .copy-in .ensures) .1) (s .pre .0) .laid
+    room-kept _ _ _ (copied _ _ _ _ _ _ (s .args .vectors .now) _ _ _ (s .pre .0) (s .pre .1) (c .before .before .before .copy-in .ensures) .1 .kept) (s .pre .0) .laid
 
 returns : tie.Need-returns
 returns c =

@@ -8,13 +8,13 @@ use Rattle.arnoldi.proofs.arnoldi.Tie as tie
 columns-requires : tie.Need-columns-requires
 columns-requires c κs =
     let s = c .before .before .before .before .before .before .before .before .before .before .before .before in
-    room-kept _ _ _ (begun _ _ _ _ (s .args .vectors .now) (s .args .beta) _ _ (s .pre) (c .before .before .before .begin .ensures) .1) (s .pre)
+    room-kept _ _ _ (begun _ _ _ _ (s .args .vectors .now) (s .args .beta) _ _ (s .pre) (c .before .before .before .begin .ensures) .1 .kept) (s .pre)
 
 finish-requires : tie.Need-finish-requires
 finish-requires c κs =
     let s = c .before .before .before .before .before .before .before .before .before .before .before .before .before .before .before .before in
     let f = c .before .before .before .columns .ensures .1 in
-    (room-kept _ _ _ (spared-on (begun _ _ _ _ (s .args .vectors .now) (s .args .beta) _ _ (s .pre) (c .before .before .before .before .before .before .before .begin .ensures) .1) (f .1)) (s .pre), f .0)
+    (room-kept _ _ _ (spared-on (begun _ _ _ _ (s .args .vectors .now) (s .args .beta) _ _ (s .pre) (c .before .before .before .before .before .before .before .begin .ensures) .1) (f .1) .kept) (s .pre), f .0)
 
 returns : tie.Need-returns
 returns c =

@@ -37,7 +37,7 @@ grow-requires c κs =
     let s = c .before .before .before .before .before .loop in
     let start = c .before .before .before .before .before .before .before .before .before .before .before in
     let f = subst (Within (s .j)) (c .before .before .o .given .1) (s .inv .1) in
-    (room-kept _ _ _ (s .inv .2) (start .pre), omega arith)
+    (room-kept _ _ _ (s .inv .2 .kept) (start .pre), omega arith)
 
 loop-again : tie.Need-loop-again Inv-loop μ-loop
 loop-again c =

@@ -12,7 +12,7 @@ apply-in-requires : tie.Need-apply-in-requires
 apply-in-requires c κs =
     let s = c .before .before .before .before .before .before .before .before in
     let a = s .args in
-    (room-kept _ _ _ (cornered (a .l) (a .b) (a .k) _ _ _ (a .vectors .now) _ (s .pre)) (s .pre), omega arith)
+    (room-kept _ _ _ (cornered (a .l) (a .b) (a .k) _ _ _ (a .vectors .now) _ (s .pre) .kept) (s .pre), omega arith)
 
 part-norm2-end : tie.Need-part-norm2-end
 part-norm2-end c =

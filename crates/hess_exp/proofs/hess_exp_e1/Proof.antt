@@ -5,7 +5,7 @@ use Prim.Native.Nat.{ℕ, _≤_}
 use mathlib.Core.Path.{_≡_, ap, _∙_}
 use mathlib.Core.Bool.{true, false}
 use mathlib.Core.List.{List}
-use lib.ListN.{replicate, set}
+use lib.ListN.{replicate, set, length-replicate, length-set}
 use lib.Seq.{take-set-lt}
 use lib.Ieee.{Float}
 use Rattle.lists.specs.Loop.{iter}
@@ -38,13 +38,13 @@ module _ (h : List Float) (dim mx : ℕ) (t norm : Float) (plan : Selected) (n :
 
 returns : tie.Need-returns
 returns c = let selected = c .before .before in
-    none _ _ _ _ _ _ (selected .before .column-sum-norm .ensures) (selected .select-s-m .ensures) _ (c .enum-told .given .1)
+    (none _ _ _ _ _ _ (selected .before .column-sum-norm .ensures) (selected .select-s-m .ensures) _ (c .enum-told .given .1), length-replicate 130 +0)
 
 returns-2 : tie.Need-returns-2
 returns-2 c = let planned = c .before .before .before .before .before .before .before .before .before in
     let selected = planned .before .before in
     let run = c .before .before .before in
-    some _ _ _ _ _ _ (selected .before .column-sum-norm .ensures) (selected .select-s-m .ensures) _ _ _ _ _ (planned .plan .given .1) (c .before .before .before .before .before .before .before .count .ensures) (omega arith) (omega arith) (run .hess-sweeps-in .ensures)
+    (some _ _ _ _ _ _ (selected .before .column-sum-norm .ensures) (selected .select-s-m .ensures) _ _ _ _ _ (planned .plan .given .1) (c .before .before .before .before .before .before .before .count .ensures) (omega arith) (omega arith) (run .hess-sweeps-in .ensures), run .hess-sweeps-in .kept .1 .1 .1 .1 .1 .1 .0 ∙ length-set (replicate 130 +0) 0 1f)
 
 pub hess-exp-e1-spec : {M : Type 1} → statement M
 hess-exp-e1-spec =

@@ -27,8 +27,8 @@ returns c =
     let a = c .before .before .before .before .before .before .before .before .before .before .before .before .before .before .before .before .before .before .before .before .before .before .args in
     let p = c .before .before .before .before .before .before .before .before .before .before .before .before .before .before .before .before .before .before .before .before .before .before .pre .0 in
     let e = c .before .before .before .before .before .before .before .before .before .before .before .before .before .before .before .before .before .before .combine-columns .ensures in (
-      λ b q vectors. goes-on (a .l) (a .k) (a .c) (a .r) (a .applied) (a .s) (a .trial .f) (a .work .now) (c .before .before .before .before .before .before .before .before .before .before .before .before .before .before .before .before .before .before .combine-columns .last .0) (p .4) (p .1) (p .3) e (setting-at (a .l) b (a .k) q vectors) _ _ _ (c .before .before .before .before .before .before .before .before .before .before .before .before .before .next-length .ensures) (c .before .before .before .before .before .before .before .before .before .before .norm2 .ensures ∙ ap norm2 (part-window _ _ _)) (c .before .before .before .max .ensures) (sym (c .before .unfinished .ensures _ _) ∙ c .if1 .taken),
-      step-kept (a .l) (a .k) (a .c) (a .r) (a .applied) (a .s) (a .trial .f) (a .work .now) (c .before .before .before .before .before .before .before .before .before .before .before .before .before .before .before .before .before .before .combine-columns .last .0) (p .4) (p .1) (p .3) e (a .l .q) (p .2),
+      λ b q vectors. goes-on (a .l) (a .k) (a .c) (a .r) (a .applied) (a .s) (a .trial .f) (a .work .now) (c .before .before .before .before .before .before .before .before .before .before .before .before .before .before .before .before .before .before .combine-columns .last .0) (omega (arith, p .0, p .4)) (p .1) (p .3) e (setting-at (a .l) b (a .k) q vectors) _ _ _ (c .before .before .before .before .before .before .before .before .before .before .before .before .before .next-length .ensures) (c .before .before .before .before .before .before .before .before .before .before .norm2 .ensures ∙ ap norm2 (part-window _ _ _)) (c .before .before .before .max .ensures) (sym (c .before .unfinished .ensures _ _) ∙ c .if1 .taken),
+      step-kept (a .l) (a .k) (a .c) (a .r) (a .applied) (a .s) (a .trial .f) (a .work .now) (c .before .before .before .before .before .before .before .before .before .before .before .before .before .before .before .before .before .before .combine-columns .last .0) (omega (arith, p .0, p .4)) (p .1) (p .3) e (a .l .q) (p .2),
     )
 
 same-length-2 : tie.Need-same-length-2
@@ -39,8 +39,8 @@ returns-2 c =
     let a = c .before .before .before .before .before .before .before .before .before .before .before .before .before .before .before .before .before .before .before .before .before .before .args in
     let p = c .before .before .before .before .before .before .before .before .before .before .before .before .before .before .before .before .before .before .before .before .before .before .pre .0 in
     let e = c .before .before .before .before .before .before .before .before .before .before .before .before .before .before .before .before .before .before .combine-columns .ensures in (
-      λ b q vectors. comes-to-end (a .l) (a .k) (a .c) (a .r) (a .applied) (a .s) (a .trial .f) (a .work .now) (c .before .before .before .before .before .before .before .before .before .before .before .before .before .before .before .before .before .before .combine-columns .last .0) (p .4) (p .1) (p .3) e (setting-at (a .l) b (a .k) q vectors) _ _ _ (c .before .before .before .before .before .before .before .before .before .before .before .before .before .next-length .ensures) (c .before .before .before .before .before .before .before .before .before .before .norm2 .ensures ∙ ap norm2 (part-window _ _ _)) (c .before .before .before .max .ensures) (sym (c .before .unfinished .ensures _ _) ∙ c .if1 .left),
-      step-kept (a .l) (a .k) (a .c) (a .r) (a .applied) (a .s) (a .trial .f) (a .work .now) (c .before .before .before .before .before .before .before .before .before .before .before .before .before .before .before .before .before .before .combine-columns .last .0) (p .4) (p .1) (p .3) e (a .l .q) (p .2),
+      λ b q vectors. comes-to-end (a .l) (a .k) (a .c) (a .r) (a .applied) (a .s) (a .trial .f) (a .work .now) (c .before .before .before .before .before .before .before .before .before .before .before .before .before .before .before .before .before .before .combine-columns .last .0) (omega (arith, p .0, p .4)) (p .1) (p .3) e (setting-at (a .l) b (a .k) q vectors) _ _ _ (c .before .before .before .before .before .before .before .before .before .before .before .before .before .next-length .ensures) (c .before .before .before .before .before .before .before .before .before .before .norm2 .ensures ∙ ap norm2 (part-window _ _ _)) (c .before .before .before .max .ensures) (sym (c .before .unfinished .ensures _ _) ∙ c .if1 .left),
+      step-kept (a .l) (a .k) (a .c) (a .r) (a .applied) (a .s) (a .trial .f) (a .work .now) (c .before .before .before .before .before .before .before .before .before .before .before .before .before .before .before .before .before .before .combine-columns .last .0) (omega (arith, p .0, p .4)) (p .1) (p .3) e (a .l .q) (p .2),
     )
 
 pub advance-spec : {M : Type 1} → statement M

@@ -69,7 +69,7 @@ returns c =
     let a = c .before .before .before .before .before .before .before .args in
     let p = c .before .before .before .before .before .before .before .pre in
     let e : s .loop .i ≡ a .count = omega arith in
-    rw e at (s .loop .inv .1) ∙ sums-all (a .beta) (a .len) (a .count) (a .t6 .f) (a .work .now) (a .y-at) (c .before .before .before .before .clear-in .ensures) (p .3) (p .1) (p .2)
+    rw e at (s .loop .inv .1) ∙ sums-all (a .beta) (a .len) (a .count) (a .t6 .f) (a .work .now) (a .y-at) (c .before .before .before .before .clear-in .ensures) (omega (arith, p .0, p .3)) (p .1) (p .2)
 
 pub combine-columns-spec : {M : Type 1} → statement M
 combine-columns-spec =
