@@ -5,11 +5,11 @@ use mathlib.Core.List.{List}
 use mathlib.Core.Option.{none, some}
 use Prim.Native.Nat.{ℕ, zero, _+_, _*_, _≤_, _<_}
 use native.Mathlib.Omega.{arith}
-use lib.ListN.{length, getD, replicate}
+use lib.ListN.{length, getD, replicate, length-replicate}
 use lib.Ieee.{Float}
 use Rattle.lists.specs.Window.{window, splice}
 use Rattle.lists.specs.Frame.{Kept}
-use Rattle.lists.proofs.Window.{length-splice, length-window, window-splice-same, splice-whole}
+use Rattle.lists.proofs.Window.{length-splice, length-window, window-splice-same, splice-whole, splice-cover}
 use Rattle.lists.proofs.Frame.{Wrote, wrote, untouched, kept-all, kept-by, kept-on, kept-wider}
 use Rattle.doubles.specs.F64.{+0}
 use Rattle.general_operator.specs.Csr.{Csr, csr, Valid}
@@ -17,7 +17,6 @@ use Rattle.csr_matvec.specs.Values.{values}
 use Rattle.generator_action.specs.Mass.{Mass, given, normalise, quotients, stored}
 use Rattle.generator_action.specs.Known.{Accepted}
 use Rattle.generator_action.proofs.Quotients.{length-normalise}
-use Rattle.checks.specs.declared.Checked.the-variants.{Sound}
 use Rattle.expmv.specs.Select.{select-s-m, M-MAX}
 use Rattle.expmv.specs.declared.Selected.{Selected}
 use Rattle.expmv.specs.declared.Selected.the-variants.{NoRow, Row}
@@ -33,8 +32,9 @@ use Rattle.phi_shift.specs.declared.PlanAnswer.{PlanAnswer}
 use Rattle.phi_shift.specs.declared.PlanAnswer.the-variants.{NoPlan, Plan}
 use Rattle.combination.specs.Checks.{no-row, quotient-need, taylor-need}
 use Rattle.phi_action.specs.Memory.{layout, Coupled}
-use Rattle.combination.specs.Call.{ends, cleared}
-use Rattle.phi_action.specs.Calls.{after-plan, soaked}
+use Rattle.combination.specs.Call.{Call, ends, cleared}
+use Rattle.phi_action.specs.Calls.{Fields, after-plan, soaked}
+use Rattle.phi_action.specs.declared.TaylorAnswer.{TaylorAnswer}
 use Rattle.phi_action.specs.declared.TaylorAnswer.the-variants.{Soaked}
 
 -- ---- the quotients
@@ -90,6 +90,31 @@ field-whole b tau p y out h l = splice-whole _ out (length-window 0 (b .matrix .
 pub front : (a : Csr) (mass : Mass) (d long : ℕ) → taylor-need a mass d ≤ long → 3 * a .n + 2 * d ≤ long
 unfolding taylor-need
 front a mass d long h = omega arith
+
+-- ---- the answer
+same-end : (p : PlanAnswer) (need : ℕ) (out w₀ w₁ : List Float) (run run₁ : SweepPlan → Fields) → (p ≡ NoPlan → zero ≡ 1) → cleared need w₁ ≡ cleared need w₀ → run₁ ≡ run
+    → after-plan need out w₁ p run₁ ≡ after-plan need out w₀ p run
+unfolding after-plan
+same-end NoPlan need out w₀ w₁ run run₁ h e f = absurd (omega (arith, h refl))
+same-end (Plan p) need out w₀ w₁ run run₁ h e f = rw (e, f) refl
+
+clear-over : (need : ℕ) (y w₁ w₀ : List Float) → w₁ ≡ splice 0 y w₀ → length y ≤ need → cleared need w₁ ≡ cleared need w₀
+unfolding cleared
+clear-over need y w₁ w₀ e h =
+    let l = length-replicate need +0 in
+    ap (splice 0 (replicate need +0)) e ∙ splice-cover 0 0 (replicate need +0) y w₀ (omega arith) (omega arith)
+
+-- the first field y was written to the front of the memory: the end is that of y and of the memory before
+pub started-is : (p : PlanAnswer) (need long : ℕ) (out w₀ y : List Float) (run : List Float → SweepPlan → Fields) {w₁ : List Float} {c : Call TaylorAnswer} → (p ≡ NoPlan → zero ≡ 1)
+    → length y ≡ long
+    → long ≤ need
+    → need ≤ length w₀
+    → w₁ ≡ splice 0 y w₀
+    → c ≡ after-plan need out w₁ p (run (window 0 long w₁))
+    → c ≡ after-plan need out w₀ p (run y)
+started-is p need long out w₀ y run {w₁} h ly hn hm e f =
+    let field : window 0 long w₁ ≡ y = ap (window 0 long) e ∙ window-splice-same 0 long y w₀ ly (omega arith) in
+    f ∙ same-end p need out w₀ w₁ (run y) _ h (clear-over need y w₁ w₀ e (omega arith)) (ap run field)
 
 -- ---- a job: the places of its operands are those of `layout`
 module _

@@ -24,8 +24,8 @@ ghost use Rattle.phi_shift.specs.Plan.{argument, sweep-plan};
 ghost use Rattle.combination.specs.Combination.{combination-start, init-aug-vector};
 ghost use Rattle.combination.specs.Call.{ends};
 ghost use Rattle.combination.specs.Checks.{no-row, taylor-need};
-ghost use Rattle.phi_action.specs.Memory.{layout, Coupled};
-ghost use Rattle.phi_action.specs.Calls.{after-plan, soaked, phi-combination};
+ghost use Rattle.phi_action.specs.Memory.{layout, Coupled, one-column};
+ghost use Rattle.phi_action.specs.Calls.{after-plan, soaked, phi-combination, phi-action};
 
 // Of an accepted job: the plan, and the products with the generator made, over all sweeps of a batch.
 pub struct TaylorReport {
@@ -263,6 +263,97 @@ pub fn phi_combination(
             tau,
             count,
             w,
+            out,
+            work,
+            norm,
+        ),
+    }
+}
+
+// An action has one column, v.
+fn one_column(eta: f64) -> Coupling
+    ensures { λ r. ⌜ r ≡ one-column eta ⌝ }
+{
+    Coupling {
+        places: [0, 0, 0],
+        gains: [eta, 1.0, 1.0],
+        count: 1,
+    }
+}
+
+// The action of a matrix that passed 1 to 11.
+fn acted(
+    n: usize,
+    starts: &[u32],
+    cols: &[u32],
+    vals: &[f64],
+    with_mass: bool,
+    mass: &[f64],
+    tau: f64,
+    k: usize,
+    v: &[f64],
+    out: &mut [f64],
+    work: &mut [f64],
+    norm: f64,
+) -> TaylorAnswer
+    requires { ⌜ Accepted (csr n (now starts) (now cols) (now vals)) (given «with_mass» (now mass)) norm ⌝ }
+    ensures { λ r. ⌜ ends r (now (out .exit)) (now (work .exit)) ≡ phi-action (csr n (now (starts .entry)) (now (cols .entry)) (now (vals .entry))) (given «with_mass» (now (mass .entry))) tau k (now (v .entry)) (now (out .entry)) (now (work .entry)) ⌝ }
+{
+    let need = taylor_need(n, 3, with_mass, vals.len());
+    let job = combination::check_action(k, tau, out.len(), n, v.len(), n, norm, work.len(), need);
+    if let Checked::Refused(number, x) = job {
+        return TaylorAnswer::Refusal(number, x);
+    }
+    let eta = pow2::eta_scaling(pow2::sup(v));
+    let b = one_column(eta.eta);
+    init_aug_vector(n, v, k, eta.inv, work);
+    soak(
+        n,
+        starts,
+        cols,
+        vals,
+        with_mass,
+        mass,
+        v,
+        out,
+        work,
+        3,
+        b,
+        tau,
+        norm,
+        need,
+    )
+}
+
+// phi_k(tau G) v.
+pub fn phi_action(
+    n: usize,
+    starts: &[u32],
+    cols: &[u32],
+    vals: &[f64],
+    with_mass: bool,
+    mass: &[f64],
+    tau: f64,
+    k: usize,
+    v: &[f64],
+    out: &mut [f64],
+    work: &mut [f64],
+) -> TaylorAnswer
+    ensures { λ r. ⌜ ends r (now (out .exit)) (now (work .exit)) ≡ phi-action (csr n (now (starts .entry)) (now (cols .entry)) (now (vals .entry))) (given «with_mass» (now (mass .entry))) tau k (now (v .entry)) (now (out .entry)) (now (work .entry)) ⌝ }
+{
+    let matrix = generator_action::check_generator(n, starts, cols, vals, with_mass, mass);
+    match matrix {
+        MatrixAnswer::Refusal(number, x) => TaylorAnswer::Refusal(number, x),
+        MatrixAnswer::Norm(norm, _) => acted(
+            n,
+            starts,
+            cols,
+            vals,
+            with_mass,
+            mass,
+            tau,
+            k,
+            v,
             out,
             work,
             norm,
