@@ -2,7 +2,7 @@
 use mathlib.Core.Path.{_≡_, refl, sym, ap, _∙_}
 use mathlib.Core.Bool.{false}
 use mathlib.Core.List.{List, _++_}
-use Prim.Native.Nat.{ℕ, zero, suc, _+_, _≤_, _<_}
+use Prim.Native.Nat.{ℕ, zero, suc, _+_, _*_, _≤_, _<_}
 use native.Mathlib.Omega.{arith}
 use lib.ListN.{length, getD, replicate, set, length-replicate, length-append, length-set}
 use lib.Ieee.{Float}
@@ -10,7 +10,7 @@ use borrow.Author.Tests.{eqb-true, not-false, ltb-false}
 use Rattle.lists.specs.Window.{window, splice}
 use Rattle.doubles.specs.F64.{+0}
 use Rattle.checks.specs.First.{first}
-use Rattle.checks.proofs.First.{sound-cons, sound-append, sound-on}
+use Rattle.checks.proofs.First.{sound-cons, sound-append, sound-on, refused-up}
 use Rattle.checks.specs.declared.Checked.{Checked}
 use Rattle.checks.specs.declared.Checked.the-variants.{Sound, Refused}
 use Rattle.general_operator.specs.Csr.{Csr, row-sum-norm}
@@ -26,7 +26,7 @@ use Rattle.combination.proofs.Ends.{refused-by, runs}
 use Rattle.phi_action.specs.Memory.{Coupled, one-column}
 use Rattle.phi_action.specs.declared.TaylorAnswer.{TaylorAnswer}
 use Rattle.phi_action.specs.declared.TaylorAnswer.the-variants.{Refusal}
-use Rattle.phi_action.specs.Calls.{after-plan, soaked, action-checks, phi-action}
+use Rattle.phi_action.specs.Calls.{after-plan, soaked, action-checks, phi-action, batched, phi-action-batched}
 use Rattle.phi_action.proofs.Jobs.{has-plan, started-is}
 use Rattle.phi_action.proofs.Admitted.{schedule-known}
 
@@ -38,9 +38,13 @@ pub record Action (k : ℕ) (tau norm : Float) (output wanted long n memory need
   pub row : no-row (select-s-m M-MAX (argument tau norm)) ≡ false
   pub room : need ≤ memory
 
+pub index-known : (k : ℕ) {r : Checked} → r ≡ Sound → r ≡ first (index-checks k) → k ≤ 3
+unfolding index-checks
+index-known k e f = ltb-false 3 k (sound-cons _ _ _ _ (sym e ∙ f) .0)
+
 pub action-known : (k : ℕ) (tau norm : Float) (output wanted long n memory need : ℕ) {r : Checked} → r ≡ Sound → r ≡ first (job-checks k tau output wanted long n norm memory need)
     → Action k tau norm output wanted long n memory need
-unfolding job-checks index-checks length-checks
+unfolding job-checks length-checks
 action-known k tau norm output wanted long n memory need e f =
     let i = sound-append (index-checks k) _ (sym e ∙ f) in
     let t = sound-append (time-checks tau) _ (i .1) in
@@ -49,7 +53,7 @@ action-known k tau norm output wanted long n memory need e f =
     let b = sound-cons _ _ _ _ (a .1) in
     let s = schedule-known norm tau memory need (l .1) in
     record {
-      index = ltb-false 3 k (sound-cons _ _ _ _ (i .0) .0);
+      index = index-known k refl (i .0);
       out = eqb-true output wanted (not-false _ (a .0));
       whole = eqb-true long n (not-false _ (b .0));
       row = s .0;
@@ -96,3 +100,23 @@ module _ (a : Csr) (mass : Mass) (tau : Float) (k : ℕ) (v out w₀ : List Floa
         runs Refusal _ out w₀ _ e (told (a .n) fs)
         (started-is (sweep-plan M-MAX tau q norm) need (a .n + 3) out w₀ _ (soaked (action-operator q v (eta .eta)) tau) (has-plan tau q norm row) (length-init (a .n) v (eta .inv) k lv) hn hm e₁ f
         ∙ rw (← en, ← nd, ← ee) refl)
+
+-- ---- the answer of a batch
+module _ (a : Csr) (mass : Mass) (tau : Float) (k : ℕ) (v out w₀ : List Float) (g : Sound ≡ first (generator-checks a mass)) where
+  pub refused-index : {s : Checked} {i : ℕ} {x : Float} → s ≡ Refused i x → s ≡ first (index-checks k) → ends (Refusal i x) out w₀ ≡ phi-action-batched a mass tau k v out w₀
+  unfolding phi-action-batched action-checks job-checks
+  refused-index e f = refused-by Refusal _ out w₀ _ e (sound-on (generator-checks a mass) _ refl g (refused-up (index-checks k) _ e f))
+
+  module _ (norm : Float) (en : norm ≡ row-sum-norm (quotients a mass)) (need : ℕ) (nd : need ≡ taylor-need a mass 3) (count : ℕ) (ec : count ≡ suc k) {s : Checked} (fs : s ≡ first (job-checks k tau (length out) (count * a .n) (length v) (a .n) norm (length w₀) need)) where
+    told-batch : s ≡ first (action-checks a mass tau k v (length out) (suc k * a .n) (length w₀))
+    told-batch = told a mass tau k v out w₀ g norm en need nd (suc k * a .n) (rw ec at fs)
+
+    pub refused-batch : {i : ℕ} {x : Float} → s ≡ Refused i x → ends (Refusal i x) out w₀ ≡ phi-action-batched a mass tau k v out w₀
+    unfolding phi-action-batched
+    refused-batch e = refused-by Refusal _ out w₀ _ e told-batch
+
+    pub batch-is : {c : Call TaylorAnswer} {eta : Scaling} → s ≡ Sound → eta ≡ eta-scaling (sup v)
+        → c ≡ after-plan need out w₀ (sweep-plan M-MAX tau (quotients a mass) norm) (batched (action-operator (quotients a mass) v (eta .eta)) tau v (eta .inv) count)
+        → c ≡ phi-action-batched a mass tau k v out w₀
+    unfolding phi-action-batched
+    batch-is e ee f = runs Refusal _ out w₀ _ e told-batch (f ∙ rw (← en, ← nd, ← ee, ec) refl)
