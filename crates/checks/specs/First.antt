@@ -2,6 +2,7 @@
 use mathlib.Core.Bool.{Bool, true, false}
 use mathlib.Core.List.{List, [], _∷_}
 use Prim.Native.Nat.{ℕ}
+use lib.Dec.{ltb}
 use lib.Ieee.{Float}
 use Rattle.checks.specs.declared.Checked.{Checked}
 use Rattle.checks.specs.declared.Checked.the-variants.{Sound, Refused}
@@ -19,3 +20,12 @@ refuse k b x = record { number = k; holds = b; reported = x }
 unfoldable pub first : List Check → Checked
 first [] = Sound
 first (c ∷ cs) = elim (c .holds) [ true ↦ Refused (c .number) (c .reported) | false ↦ first cs ]
+
+abbrev pub with-if : Bool → Check → List Check → List Check
+with-if true c cs = c ∷ cs
+with-if false c cs = cs
+
+-- those with a number below k
+unfoldable pub below : ℕ → List Check → List Check
+below k [] = []
+below k (c ∷ cs) = with-if (ltb (c .number) k) c (below k cs)

@@ -57,7 +57,7 @@ module _ (m-max : ℕ) (arg : Float) (n : ℕ) where
     first = h;
   }
 
-  cost-of : {s m i : ℕ} → Least m-max arg n s m i → s * m ≡ cost arg i
+  pub cost-of : {s m i : ℕ} → Least m-max arg n s m i → s * m ≡ cost arg i
   unfolding cost
   cost-of b = rw (b .s-is, b .m-is)
 

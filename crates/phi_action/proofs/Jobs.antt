@@ -5,11 +5,11 @@ use mathlib.Core.List.{List}
 use mathlib.Core.Option.{none, some}
 use Prim.Native.Nat.{ℕ, zero, _+_, _*_, _≤_, _<_}
 use native.Mathlib.Omega.{arith}
-use lib.ListN.{length, getD, replicate}
+use lib.ListN.{length, getD, replicate, length-replicate}
 use lib.Ieee.{Float}
 use Rattle.lists.specs.Window.{window, splice}
 use Rattle.lists.specs.Frame.{Kept}
-use Rattle.lists.proofs.Window.{length-splice, length-window, window-splice-same, splice-whole}
+use Rattle.lists.proofs.Window.{length-splice, length-window, window-splice-same, splice-whole, splice-cover}
 use Rattle.lists.proofs.Frame.{Wrote, wrote, untouched, kept-all, kept-by, kept-on, kept-wider}
 use Rattle.doubles.specs.F64.{+0}
 use Rattle.general_operator.specs.Csr.{Csr, csr, Valid}
@@ -17,7 +17,6 @@ use Rattle.csr_matvec.specs.Values.{values}
 use Rattle.generator_action.specs.Mass.{Mass, given, normalise, quotients, stored}
 use Rattle.generator_action.specs.Known.{Accepted}
 use Rattle.generator_action.proofs.Quotients.{length-normalise}
-use Rattle.checks.specs.declared.Checked.the-variants.{Sound}
 use Rattle.expmv.specs.Select.{select-s-m, M-MAX}
 use Rattle.expmv.specs.declared.Selected.{Selected}
 use Rattle.expmv.specs.declared.Selected.the-variants.{NoRow, Row}
@@ -33,8 +32,9 @@ use Rattle.phi_shift.specs.declared.PlanAnswer.{PlanAnswer}
 use Rattle.phi_shift.specs.declared.PlanAnswer.the-variants.{NoPlan, Plan}
 use Rattle.combination.specs.Checks.{no-row, quotient-need, taylor-need}
 use Rattle.phi_action.specs.Memory.{layout, Coupled}
-use Rattle.combination.specs.Call.{ends, cleared}
-use Rattle.phi_action.specs.Calls.{after-plan, soaked}
+use Rattle.combination.specs.Call.{Call, ends, cleared}
+use Rattle.phi_action.specs.Calls.{Fields, after-plan, soaked}
+use Rattle.phi_action.specs.declared.TaylorAnswer.{TaylorAnswer}
 use Rattle.phi_action.specs.declared.TaylorAnswer.the-variants.{Soaked}
 
 -- ---- the quotients
@@ -82,14 +82,42 @@ pub lined : (n d : ℕ) (b : Bool) → Lined (layout n d b)
 lined n d b = record { field-first = omega arith; then-term = omega arith; then-product = omega arith }
 
 -- ---- the output
+pub soak-long : (b : Augmented) (tau : Float) (y : List Float) (p : SweepPlan) → length y ≡ b .matrix .n + b .d → length (soaked b tau y p .fields) ≡ b .matrix .n
+unfolding soaked
+soak-long b tau y p h = length-window 0 (b .matrix .n) _ (omega (arith, run-long b tau p y h))
+
 pub field-whole : (b : Augmented) (tau : Float) (p : SweepPlan) (y out : List Float) → length y ≡ b .matrix .n + b .d → length out ≡ b .matrix .n
     → splice 0 (soaked b tau y p .fields) out ≡ soaked b tau y p .fields
-unfolding soaked
-field-whole b tau p y out h l = splice-whole _ out (length-window 0 (b .matrix .n) _ (omega (arith, run-long b tau p y h)) ∙ sym l)
+field-whole b tau p y out h l = splice-whole _ out (soak-long b tau y p h ∙ sym l)
 
 pub front : (a : Csr) (mass : Mass) (d long : ℕ) → taylor-need a mass d ≤ long → 3 * a .n + 2 * d ≤ long
 unfolding taylor-need
 front a mass d long h = omega arith
+
+-- ---- the answer
+same-end : (p : PlanAnswer) (need : ℕ) (out w₀ w₁ : List Float) (run run₁ : SweepPlan → Fields) → (p ≡ NoPlan → zero ≡ 1) → cleared need w₁ ≡ cleared need w₀ → run₁ ≡ run
+    → after-plan need out w₁ p run₁ ≡ after-plan need out w₀ p run
+unfolding after-plan
+same-end NoPlan need out w₀ w₁ run run₁ h e f = absurd (omega (arith, h refl))
+same-end (Plan p) need out w₀ w₁ run run₁ h e f = rw (e, f) refl
+
+clear-over : (need : ℕ) (y w₁ w₀ : List Float) → w₁ ≡ splice 0 y w₀ → length y ≤ need → cleared need w₁ ≡ cleared need w₀
+unfolding cleared
+clear-over need y w₁ w₀ e h =
+    let l = length-replicate need +0 in
+    ap (splice 0 (replicate need +0)) e ∙ splice-cover 0 0 (replicate need +0) y w₀ (omega arith) (omega arith)
+
+-- the first field y was written to the front of the memory: the end is that of y and of the memory before
+pub started-is : (p : PlanAnswer) (need long : ℕ) (out w₀ y : List Float) (run : List Float → SweepPlan → Fields) {w₁ : List Float} {c : Call TaylorAnswer} → (p ≡ NoPlan → zero ≡ 1)
+    → length y ≡ long
+    → long ≤ need
+    → need ≤ length w₀
+    → w₁ ≡ splice 0 y w₀
+    → c ≡ after-plan need out w₁ p (run (window 0 long w₁))
+    → c ≡ after-plan need out w₀ p (run y)
+started-is p need long out w₀ y run {w₁} h ly hn hm e f =
+    let field : window 0 long w₁ ≡ y = ap (window 0 long) e ∙ window-splice-same 0 long y w₀ ly (omega arith) in
+    f ∙ same-end p need out w₀ w₁ (run y) _ h (clear-over need y w₁ w₀ e (omega arith)) (ap run field)
 
 -- ---- a job: the places of its operands are those of `layout`
 module _
@@ -144,7 +172,7 @@ module _
         let columns : (j : ℕ) → j < c .count → getD (c .places) j 0 + l .n ≤ length vectors = rw el (cp .columns) in
         laid lined-up matrix-valid (cp .few) deep columns av-in stored-in
 
-    operator-is : operator-at l c starts cols vals vectors w₁ ≡ augmented (quotients a (given b mass)) d vectors (c .places) (c .gains) (c .count)
+    pub operator-is : operator-at l c starts cols vals vectors w₁ ≡ augmented (quotients a (given b mass)) d vectors (c .places) (c .gains) (c .count)
     operator-is = ap (λ (q : Csr). augmented q (l .d) vectors (c .places) (c .gains) (c .count)) matrix-is ∙ rw el refl
 
     t₁ : Wrote (3 * n + 2 * d) (quotient-need a (given b mass)) (stored a (given b mass)) w₀ w₁
@@ -156,6 +184,22 @@ module _
     pub plan-is : {x : PlanAnswer} → x ≡ sweep-plan M-MAX tau (matrix-at l starts cols vals w₁) norm → sweep-plan M-MAX tau (quotients a (given b mass)) norm ≡ x
     plan-is e = sym (e ∙ ap (λ (q : Csr). sweep-plan M-MAX tau q norm) matrix-is)
 
+    -- after the sweeps: any fields, and the memory before the quotients changed; what was needed is cleared
+    pub finished : (out : List Float) (run : SweepPlan → Fields) {p : SweepPlan} {applied : ℕ} {out₁ w₂ w₃ : List Float} → sweep-plan M-MAX tau (quotients a (given b mass)) norm ≡ Plan p
+        → applied ≡ run p .applied
+        → out₁ ≡ run p .fields
+        → Kept 0 (l .q) +0 w₁ w₂
+        → w₃ ≡ splice 0 (replicate need +0) w₂
+        → ends (Soaked (record { s = p .s; m = p .m; mu = p .mu; applications = applied })) out₁ w₃ ≡ after-plan need out w₀ (sweep-plan M-MAX tau (quotients a (given b mass)) norm) run
+    unfolding after-plan cleared
+    finished out run {p} {applied} {out₁} {w₂} {w₃} pl ea eo k e₃ =
+        let past : 3 * n + 2 * d + quotient-need a (given b mass) ≡ need = before-quotients a (given b mass) d ∙ sym nd in
+        let k₁ : Kept 0 need +0 w₀ w₁ = kept-by (kept-all 0 need +0 w₀) t₁ (omega arith) (omega arith) in
+        let kq : Kept 0 (3 * n + 2 * d) +0 w₁ w₂ = rw el at k in
+        let k₂ : Kept 0 need +0 w₀ w₂ = kept-on k₁ (kept-wider kq need (omega arith)) in
+        let e₃′ = e₃ ∙ k₂ .outside in
+        rw pl (λ i. ends (Soaked (record { s = p .s; m = p .m; mu = p .mu; applications = ea i })) (eo i) (e₃′ i))
+
     pub done : (out : List Float) {p : SweepPlan} {applied : ℕ} {out₁ w₂ w₃ : List Float} → length out ≡ n
         → sweep-plan M-MAX tau (quotients a (given b mass)) norm ≡ Plan p
         → applied ≡ soaked (operator-at l c starts cols vals vectors w₁) tau (window 0 (l .n + l .d) w₁) p .applied
@@ -164,7 +208,6 @@ module _
         → w₃ ≡ splice 0 (replicate need +0) w₂
         → ends (Soaked (record { s = p .s; m = p .m; mu = p .mu; applications = applied })) out₁ w₃
         ≡ after-plan need out w₀ (sweep-plan M-MAX tau (quotients a (given b mass)) norm) (soaked (augmented (quotients a (given b mass)) d vectors (c .places) (c .gains) (c .count)) tau (window 0 (n + d) w₀))
-    unfolding after-plan cleared
     done out {p} {applied} {out₁} {w₂} {w₃} lo pl ea eo k e₃ =
         let B = augmented (quotients a (given b mass)) d vectors (c .places) (c .gains) (c .count) in
         let y = window 0 (n + d) w₀ in
@@ -172,12 +215,7 @@ module _
         let ly : length y ≡ n + d = length-window 0 (n + d) w₀ (omega arith) in
         let ea′ : applied ≡ soaked B tau y p .applied = rw (operator-is, field-is) at ea in
         let eo′ : out₁ ≡ soaked B tau y p .fields = (rw (operator-is, field-is) at eo) ∙ whole p out lo ly in
-        let past : 3 * n + 2 * d + quotient-need a (given b mass) ≡ need = before-quotients a (given b mass) d ∙ sym nd in
-        let k₁ : Kept 0 need +0 w₀ w₁ = kept-by (kept-all 0 need +0 w₀) t₁ (omega arith) (omega arith) in
-        let kq : Kept 0 (3 * n + 2 * d) +0 w₁ w₂ = rw el at k in
-        let k₂ : Kept 0 need +0 w₀ w₂ = kept-on k₁ (kept-wider kq need (omega arith)) in
-        let e₃′ = e₃ ∙ k₂ .outside in
-        rw pl (λ i. ends (Soaked (record { s = p .s; m = p .m; mu = p .mu; applications = ea′ i })) (eo′ i) (e₃′ i))
+        finished out (soaked B tau y) pl ea′ eo′ k e₃
       where
         whole : (p : SweepPlan) (out : List Float) → length out ≡ n → length (window 0 (n + d) w₀) ≡ n + d
             → splice 0 (soaked (augmented (quotients a (given b mass)) d vectors (c .places) (c .gains) (c .count)) tau (window 0 (n + d) w₀) p .fields) out

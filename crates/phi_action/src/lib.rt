@@ -24,8 +24,8 @@ ghost use Rattle.phi_shift.specs.Plan.{argument, sweep-plan};
 ghost use Rattle.combination.specs.Combination.{combination-start, init-aug-vector};
 ghost use Rattle.combination.specs.Call.{ends};
 ghost use Rattle.combination.specs.Checks.{no-row, taylor-need};
-ghost use Rattle.phi_action.specs.Memory.{layout, Coupled};
-ghost use Rattle.phi_action.specs.Calls.{after-plan, soaked, phi-combination};
+ghost use Rattle.phi_action.specs.Memory.{layout, Coupled, one-column};
+ghost use Rattle.phi_action.specs.Calls.{after-plan, soaked, phi-combination, phi-action, batched, phi-action-batched};
 
 // Of an accepted job: the plan, and the products with the generator made, over all sweeps of a batch.
 pub struct TaylorReport {
@@ -263,6 +263,265 @@ pub fn phi_combination(
             tau,
             count,
             w,
+            out,
+            work,
+            norm,
+        ),
+    }
+}
+
+// An action has one column, v.
+fn one_column(eta: f64) -> Coupling
+    ensures { λ r. ⌜ r ≡ one-column eta ⌝ }
+{
+    Coupling {
+        places: [0, 0, 0],
+        gains: [eta, 1.0, 1.0],
+        count: 1,
+    }
+}
+
+// The action of a matrix that passed 1 to 11.
+fn acted(
+    n: usize,
+    starts: &[u32],
+    cols: &[u32],
+    vals: &[f64],
+    with_mass: bool,
+    mass: &[f64],
+    tau: f64,
+    k: usize,
+    v: &[f64],
+    out: &mut [f64],
+    work: &mut [f64],
+    norm: f64,
+) -> TaylorAnswer
+    requires { ⌜ Accepted (csr n (now starts) (now cols) (now vals)) (given «with_mass» (now mass)) norm ⌝ }
+    ensures { λ r. ⌜ ends r (now (out .exit)) (now (work .exit)) ≡ phi-action (csr n (now (starts .entry)) (now (cols .entry)) (now (vals .entry))) (given «with_mass» (now (mass .entry))) tau k (now (v .entry)) (now (out .entry)) (now (work .entry)) ⌝ }
+{
+    let need = taylor_need(n, 3, with_mass, vals.len());
+    let job = combination::check_action(k, tau, out.len(), n, v.len(), n, norm, work.len(), need);
+    if let Checked::Refused(number, x) = job {
+        return TaylorAnswer::Refusal(number, x);
+    }
+    let eta = pow2::eta_scaling(pow2::sup(v));
+    let b = one_column(eta.eta);
+    init_aug_vector(n, v, k, eta.inv, work);
+    soak(
+        n,
+        starts,
+        cols,
+        vals,
+        with_mass,
+        mass,
+        v,
+        out,
+        work,
+        3,
+        b,
+        tau,
+        norm,
+        need,
+    )
+}
+
+// phi_k(tau G) v.
+pub fn phi_action(
+    n: usize,
+    starts: &[u32],
+    cols: &[u32],
+    vals: &[f64],
+    with_mass: bool,
+    mass: &[f64],
+    tau: f64,
+    k: usize,
+    v: &[f64],
+    out: &mut [f64],
+    work: &mut [f64],
+) -> TaylorAnswer
+    ensures { λ r. ⌜ ends r (now (out .exit)) (now (work .exit)) ≡ phi-action (csr n (now (starts .entry)) (now (cols .entry)) (now (vals .entry))) (given «with_mass» (now (mass .entry))) tau k (now (v .entry)) (now (out .entry)) (now (work .entry)) ⌝ }
+{
+    let matrix = generator_action::check_generator(n, starts, cols, vals, with_mass, mass);
+    match matrix {
+        MatrixAnswer::Refusal(number, x) => TaylorAnswer::Refusal(number, x),
+        MatrixAnswer::Norm(norm, _) => acted(
+            n,
+            starts,
+            cols,
+            vals,
+            with_mass,
+            mass,
+            tau,
+            k,
+            v,
+            out,
+            work,
+            norm,
+        ),
+    }
+}
+
+// The sweeps of phi_0 up to phi_(count - 1), one after the other; the products of all.
+fn sweep_batch(
+    starts: &[u32],
+    cols: &[u32],
+    vals: &[f64],
+    v: &[f64],
+    out: &mut [f64],
+    work: &mut [f64],
+    l: Layout,
+    b: Coupling,
+    inv: f64,
+    count: usize,
+    tau: f64,
+    p: SweepPlan,
+) -> u64
+    requires { ⌜ Ready l b (now starts) (now cols) (now vals) (now v) (now work) ⌝ }
+    requires { ⌜ Lined l × (p .s ≤ 4294967295) × (p .m ≤ 30) × (l .d ≡ 3) ⌝ }
+    requires { ⌜ (length (now v) ≡ l .n) × (count ≤ 4) × (length (now out) ≡ count * l .n) ⌝ }
+    ensures { λ r. ⌜ r ≡ batched (operator-at l b (now (starts .entry)) (now (cols .entry)) (now (vals .entry)) (now (v .entry)) (now (work .entry))) tau (now (v .entry)) inv count p .applied ⌝ }
+    ensures { λ _. ⌜ now (out .exit) ≡ batched (operator-at l b (now (starts .entry)) (now (cols .entry)) (now (vals .entry)) (now (v .entry)) (now (work .entry))) tau (now (v .entry)) inv count p .fields ⌝ }
+    ensures { λ _. ⌜ Kept 0 (l .q) +0 (now (work .entry)) (now (work .exit)) ⌝ }
+{
+    let n = l.n;
+    let mut applied = 0u64;
+    for k in 0..count {
+        init_aug_vector(n, v, k, inv, work);
+        applied = applied + swept_out(starts, cols, vals, v, out, k * n, work, l, b, tau, p);
+    }
+    applied
+}
+
+// A batch: quotients, the plan once, the sweeps of each function; what was needed is cleared.
+fn soak_batched(
+    n: usize,
+    starts: &[u32],
+    cols: &[u32],
+    vals: &[f64],
+    with_mass: bool,
+    mass: &[f64],
+    v: &[f64],
+    out: &mut [f64],
+    work: &mut [f64],
+    b: Coupling,
+    inv: f64,
+    count: usize,
+    tau: f64,
+    norm: f64,
+    need: usize,
+) -> TaylorAnswer
+    requires { ⌜ Accepted (csr n (now starts) (now cols) (now vals)) (given «with_mass» (now mass)) norm ⌝ }
+    requires { ⌜ Coupled b n 3 (length (now v)) ⌝ }
+    requires { ⌜ (need ≡ taylor-need (csr n (now starts) (now cols) (now vals)) (given «with_mass» (now mass)) 3) × (need ≤ length (now work)) × (length (now out) ≡ count * n) ⌝ }
+    requires { ⌜ no-row (select-s-m M-MAX (argument tau norm)) ≡ false ⌝ }
+    requires { ⌜ (length (now v) ≡ n) × (count ≤ 4) ⌝ }
+    ensures { λ r. ⌜ ends r (now (out .exit)) (now (work .exit)) ≡ after-plan need (now (out .entry)) (now (work .entry)) (sweep-plan M-MAX tau (quotients (csr n (now (starts .entry)) (now (cols .entry)) (now (vals .entry))) (given «with_mass» (now (mass .entry)))) norm) (batched (augmented (quotients (csr n (now (starts .entry)) (now (cols .entry)) (now (vals .entry))) (given «with_mass» (now (mass .entry)))) 3 (now (v .entry)) (b .places) (b .gains) (b .count)) tau (now (v .entry)) inv count) ⌝ }
+{
+    let l = layout(n, 3, with_mass);
+    let q = l.q;
+    generator_action::store_quotients(n, starts, cols, vals, with_mass, mass, work, q);
+    let plan = plan_at(starts, cols, vals, work, l, tau, norm);
+    let PlanAnswer::Plan(p) = plan else {
+        return TaylorAnswer::Refusal(25, float::not_a_number());
+    };
+    let applied = sweep_batch(starts, cols, vals, v, out, work, l, b, inv, count, tau, p);
+    vectors::clear_in(work, 0, need);
+    TaylorAnswer::Soaked(TaylorReport {
+        s: p.s,
+        m: p.m,
+        mu: p.mu,
+        applications: applied,
+    })
+}
+
+// The batch of a matrix that passed 1 to 11. An index above 3 is refused before the output's length is computed.
+fn acted_batched(
+    n: usize,
+    starts: &[u32],
+    cols: &[u32],
+    vals: &[f64],
+    with_mass: bool,
+    mass: &[f64],
+    tau: f64,
+    p: usize,
+    v: &[f64],
+    out: &mut [f64],
+    work: &mut [f64],
+    norm: f64,
+) -> TaylorAnswer
+    requires { ⌜ Accepted (csr n (now starts) (now cols) (now vals)) (given «with_mass» (now mass)) norm ⌝ }
+    ensures { λ r. ⌜ ends r (now (out .exit)) (now (work .exit)) ≡ phi-action-batched (csr n (now (starts .entry)) (now (cols .entry)) (now (vals .entry))) (given «with_mass» (now (mass .entry))) tau p (now (v .entry)) (now (out .entry)) (now (work .entry)) ⌝ }
+{
+    let index = combination::check_index(p);
+    if let Checked::Refused(number, x) = index {
+        return TaylorAnswer::Refusal(number, x);
+    }
+    let count = p + 1;
+    let need = taylor_need(n, 3, with_mass, vals.len());
+    let job = combination::check_action(
+        p,
+        tau,
+        out.len(),
+        count * n,
+        v.len(),
+        n,
+        norm,
+        work.len(),
+        need,
+    );
+    if let Checked::Refused(number, x) = job {
+        return TaylorAnswer::Refusal(number, x);
+    }
+    let eta = pow2::eta_scaling(pow2::sup(v));
+    let b = one_column(eta.eta);
+    soak_batched(
+        n,
+        starts,
+        cols,
+        vals,
+        with_mass,
+        mass,
+        v,
+        out,
+        work,
+        b,
+        eta.inv,
+        count,
+        tau,
+        norm,
+        need,
+    )
+}
+
+// phi_0(tau G) v up to phi_p(tau G) v, one after the other.
+pub fn phi_action_batched(
+    n: usize,
+    starts: &[u32],
+    cols: &[u32],
+    vals: &[f64],
+    with_mass: bool,
+    mass: &[f64],
+    tau: f64,
+    p: usize,
+    v: &[f64],
+    out: &mut [f64],
+    work: &mut [f64],
+) -> TaylorAnswer
+    ensures { λ r. ⌜ ends r (now (out .exit)) (now (work .exit)) ≡ phi-action-batched (csr n (now (starts .entry)) (now (cols .entry)) (now (vals .entry))) (given «with_mass» (now (mass .entry))) tau p (now (v .entry)) (now (out .entry)) (now (work .entry)) ⌝ }
+{
+    let matrix = generator_action::check_generator(n, starts, cols, vals, with_mass, mass);
+    match matrix {
+        MatrixAnswer::Refusal(number, x) => TaylorAnswer::Refusal(number, x),
+        MatrixAnswer::Norm(norm, _) => acted_batched(
+            n,
+            starts,
+            cols,
+            vals,
+            with_mass,
+            mass,
+            tau,
+            p,
+            v,
             out,
             work,
             norm,

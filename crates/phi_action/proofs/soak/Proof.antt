@@ -2,7 +2,7 @@
 use borrow.Author.Needs.{needs}
 use native.Mathlib.Omega.{arith}
 use mathlib.Core.Path.{_∙_}
-use Rattle.phi_shift.proofs.Bounded.{plan-low}
+use Rattle.phi_shift.proofs.Bounded.{plan-bounded}
 use Rattle.phi_action.proofs.Jobs.{store-fits, long₁, matrix-valid, stored-in, lined-up, ready, plan-is, has-plan, done}
 use Rattle.phi_action.proofs.soak.Statement.{statement}
 use Rattle.phi_action.proofs.soak.Tie as tie
@@ -48,7 +48,7 @@ swept-out-requires c κs =
     let e = c .before .before .before .before .before .before .before .before .before .store-quotients .ensures in
     let el = o .layout .ensures in
     let pl = plan-is (a .n) (a .d) (a .starts .now) (a .cols .now) (a .vals .now) (a .with-mass) (a .mass .now) (a .vectors .now) (a .b) (a .tau) (a .norm) (a .need) (a .work .now) (p .0) (p .1 .0) (p .1 .1 .0 .0) (p .1 .1 .0 .1) el e (c .before .before .before .before .before .plan-at .ensures) ∙ c .before .before .before .plan .given .1 in
-    (ready (a .n) (a .d) (a .starts .now) (a .cols .now) (a .vals .now) (a .with-mass) (a .mass .now) (a .vectors .now) (a .b) (a .tau) (a .norm) (a .need) (a .work .now) (p .0) (p .1 .0) (p .1 .1 .0 .0) (p .1 .1 .0 .1) el e, (lined-up (a .n) (a .d) (a .starts .now) (a .cols .now) (a .vals .now) (a .with-mass) (a .mass .now) (a .vectors .now) (a .b) (a .tau) (a .norm) (a .need) (a .work .now) (p .0) (p .1 .0) (p .1 .1 .0 .0) (p .1 .1 .0 .1) el e, plan-low _ (a .tau) _ (a .norm) pl, rw el (omega (arith, p .1 .1 .0 .2))))
+    (ready (a .n) (a .d) (a .starts .now) (a .cols .now) (a .vals .now) (a .with-mass) (a .mass .now) (a .vectors .now) (a .b) (a .tau) (a .norm) (a .need) (a .work .now) (p .0) (p .1 .0) (p .1 .1 .0 .0) (p .1 .1 .0 .1) el e, (lined-up (a .n) (a .d) (a .starts .now) (a .cols .now) (a .vals .now) (a .with-mass) (a .mass .now) (a .vectors .now) (a .b) (a .tau) (a .norm) (a .need) (a .work .now) (p .0) (p .1 .0) (p .1 .1 .0 .0) (p .1 .1 .0 .1) el e, plan-bounded _ (a .tau) _ (a .norm) pl .within .bounded .m-most, rw el (omega (arith, p .1 .1 .0 .2))))
 
 clear-in-requires : tie.Need-clear-in-requires
 clear-in-requires c κs =
