@@ -1,1 +1,2 @@
 pub mod KrylovCall
+pub mod Memory
