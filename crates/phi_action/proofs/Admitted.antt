@@ -12,7 +12,7 @@ use borrow.Author.Tests.{eqb-true, eqb-false, not-false, ltb-false, lt-ltb}
 use Rattle.lists.specs.Window.{window, splice}
 use Rattle.lists.proofs.Bounds.{column-within}
 use Rattle.lists.proofs.Loop.{getD-tabulate}
-use Rattle.lists.proofs.Window.{length-window, window-splice-same, splice-cover}
+use Rattle.lists.proofs.Window.{length-window, window-splice-same}
 use Rattle.doubles.specs.F64.{+0}
 use Rattle.checks.specs.First.{first}
 use Rattle.checks.proofs.First.{sound-cons, sound-append, sound-on, refused-up}
@@ -31,6 +31,7 @@ use Rattle.pow2.specs.declared.Scaling.{Scaling}
 use Rattle.phi_action_helpers.specs.Augmented.{augmented}
 use Rattle.combination.specs.Combination.{vector, magnitude, eta-of, column-places, scaled-gains, combination-operator, combination-start}
 use Rattle.combination.specs.Checks.{no-row, count-checks, time-checks, length-checks, finite-checks, magnitude-checks, schedule-checks, memory-checks, vector-checks, sweep-checks, taylor-need}
+use Rattle.combination.proofs.Stored.{clear-over}
 use Rattle.phi_action.specs.Memory.{Coupled}
 use Rattle.combination.specs.Call.{Call, ends, unless-refused, cleared}
 use Rattle.phi_action.specs.declared.TaylorAnswer.{TaylorAnswer}
@@ -121,12 +122,6 @@ unfolding after-plan
 same-end NoPlan need out w₀ w₁ run run₁ h e f = absurd (omega (arith, h refl))
 same-end (Plan p) need out w₀ w₁ run run₁ h e f = rw (e, f) refl
 
-clear-over : (need : ℕ) (y w₁ w₀ : List Float) → w₁ ≡ splice 0 y w₀ → length y ≤ need → cleared need w₁ ≡ cleared need w₀
-unfolding cleared
-clear-over need y w₁ w₀ e h =
-    let l = length-replicate need +0 in
-    ap (splice 0 (replicate need +0)) e ∙ splice-cover 0 0 (replicate need +0) y w₀ (omega arith) (omega arith)
-
 pub refused-matrix : (a : Csr) (mass : Mass) (tau : Float) (count : ℕ) (w out w₀ : List Float) {k : ℕ} {x : Float} → Refused k x ≡ first (generator-checks a mass)
     → ends (Refusal k x) out w₀ ≡ phi-combination a mass tau count w out w₀
 unfolding phi-combination combination-checks unless-refused
@@ -165,7 +160,7 @@ module _ (a : Csr) (mass : Mass) (tau : Float) (count : ℕ) (w out w₀ : List 
         let ly = length-start (a .n) w d (eta .inv) hw in
         let B = augmented q d w (column-places (a .n) d) (scaled-gains (a .n) w tau d (eta .eta)) d in
         let field : window 0 (a .n + d) w₁ ≡ y = ap (window 0 (a .n + d)) e₁ ∙ window-splice-same 0 (a .n + d) y w₀ ly (omega arith) in
-        let z : cleared need w₁ ≡ cleared need w₀ = clear-over need y w₁ w₀ e₁ (omega arith) in
+        let z : cleared need w₁ ≡ cleared need w₀ = clear-over need 0 y w₀ e₁ (omega arith) in
         f
         ∙ same-end (sweep-plan M-MAX tau q norm) need out w₀ w₁ (soaked B tau y) _ (has-plan tau q norm row) z (ap (soaked B tau) field)
         ∙ rw (← told, e, ← en, ← nd, ← ee, quotients-rows a mass) refl

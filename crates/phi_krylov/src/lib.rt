@@ -1,8 +1,11 @@
 // Krylov: the combination by adaptive substeps.
 use arnoldi::Krylov;
 use checks::Checked;
+use phi_action::TaylorAnswer;
+use phi_action::TaylorReport;
 use phi_action_helpers::Layout;
 use phi_krylov_arnoldi::KrylovPhiReport;
+use phi_krylov_arnoldi::RunAnswer;
 ghost use mathlib.Core.Path.{_≡_};
 ghost use mathlib.Core.Bool.{_&&_, _||_};
 ghost use mathlib.Core.List.{List};
@@ -10,13 +13,16 @@ ghost use Prim.Native.Nat.{ℕ, _+_, _*_, _≤_};
 ghost use lib.Dec.{ltb};
 ghost use lib.ListN.{length};
 ghost use lib.Ieee.{Float};
+ghost use Rattle.lists.specs.Window.{splice};
 ghost use Rattle.doubles.specs.F64.{_⋖_, +0, 1f};
 ghost use Rattle.checks.specs.First.{first};
 ghost use Rattle.general_operator.specs.Csr.{csr};
 ghost use Rattle.generator_action.specs.Mass.{given};
+ghost use Rattle.combination.specs.Combination.{combination-start};
 ghost use Rattle.phi_krylov_arnoldi.specs.Run.{clamp-m};
 ghost use Rattle.phi_krylov.specs.KrylovCall.{bound, option-checks, bound-checks, run-checks, krylov-need};
-ghost use Rattle.phi_krylov.specs.Memory.{layout, krylov};
+ghost use Rattle.phi_krylov.specs.Combine.{of-taylor, of-krylov};
+ghost use Rattle.phi_krylov.specs.Memory.{layout, krylov, answer-of};
 
 // The accuracy wanted relative to the start's norm, the Krylov dimension, and the limit of substeps.
 pub struct KrylovPhiOptions {
@@ -35,6 +41,13 @@ pub enum KrylovAnswer {
 pub enum PhiSolver {
     Taylor,
     Krylov(KrylovPhiOptions),
+}
+
+// A refusal's number and double, or the report of the evaluator used.
+pub enum PhiAnswer {
+    Refusal(u32, f64),
+    Taylor(TaylorReport),
+    Krylov(KrylovPhiReport),
 }
 
 // M: m clamped to 2 .. max(2, len).
@@ -161,5 +174,41 @@ fn krylov(n: usize, d: usize, m: usize, tau: f64, anorm: f64, tol: f64) -> Krylo
         tau: tau,
         anorm: anorm,
         tol: tol,
+    }
+}
+
+// The first field from place `at` of the lent memory on.
+fn start_in(n: usize, w: &[f64], d: usize, inv: f64, work: &mut [f64], at: usize)
+    requires { ⌜ (n ≤ length (now w)) × (at + (n + d) ≤ length (now work)) ⌝ }
+    ensures { λ _. ⌜ now (work .exit) ≡ splice at (combination-start n (now (w .entry)) d inv) (now (work .entry)) ⌝ }
+{
+    let to = at + (n + d);
+    phi_action::combination_start(n, w, d, inv, &mut work[at..to]);
+}
+
+fn answer_of(end: RunAnswer) -> KrylovAnswer
+    ensures { λ r. ⌜ r ≡ answer-of end ⌝ }
+{
+    match end {
+        RunAnswer::Finished(_, report) => KrylovAnswer::Soaked(report),
+        RunAnswer::Refused(number, x, _, _) => KrylovAnswer::Refusal(number, x),
+    }
+}
+
+fn of_taylor(answer: TaylorAnswer) -> PhiAnswer
+    ensures { λ r. ⌜ r ≡ of-taylor answer ⌝ }
+{
+    match answer {
+        TaylorAnswer::Refusal(k, x) => PhiAnswer::Refusal(k, x),
+        TaylorAnswer::Soaked(report) => PhiAnswer::Taylor(report),
+    }
+}
+
+fn of_krylov(answer: KrylovAnswer) -> PhiAnswer
+    ensures { λ r. ⌜ r ≡ of-krylov answer ⌝ }
+{
+    match answer {
+        KrylovAnswer::Refusal(k, x) => PhiAnswer::Refusal(k, x),
+        KrylovAnswer::Soaked(report) => PhiAnswer::Krylov(report),
     }
 }

@@ -1,5 +1,4 @@
 -- `phi_krylov::bound` meets its contract. Assumes nothing.
-use borrow.Author.Needs.{needs}
 use mathlib.Core.Path.{refl}
 use Rattle.phi_krylov.specs.KrylovCall.{bound}
 use Rattle.phi_krylov.proofs.bound.Statement.{statement}

@@ -1,5 +1,4 @@
 -- `phi_krylov::clamp_m` meets its contract. Assumes nothing.
-use borrow.Author.Needs.{needs}
 use Rattle.phi_krylov.proofs.Places.{clamp-low, clamp-short, clamp-in, clamp-high}
 use Rattle.phi_krylov.proofs.clamp_m.Statement.{statement}
 use Rattle.phi_krylov.proofs.clamp_m.Tie as tie

@@ -1,5 +1,4 @@
 -- `phi_krylov::in_unit` meets its contract. Assumes nothing.
-use borrow.Author.Needs.{needs}
 use Rattle.phi_krylov.proofs.in_unit.Statement.{statement}
 use Rattle.phi_krylov.proofs.in_unit.Tie as tie
 

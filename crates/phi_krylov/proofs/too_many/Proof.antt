@@ -1,5 +1,4 @@
 -- `phi_krylov::too_many` meets its contract. Assumes nothing.
-use borrow.Author.Needs.{needs}
 use borrow.Author.Tests.{lt-ltb, le-ltb}
 use Rattle.phi_krylov.proofs.too_many.Statement.{statement}
 use Rattle.phi_krylov.proofs.too_many.Tie as tie
