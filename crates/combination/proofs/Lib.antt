@@ -1,2 +1,3 @@
 pub mod Weights
 pub mod Ends
+pub mod Stored

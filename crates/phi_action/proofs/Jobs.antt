@@ -2,21 +2,17 @@
 use mathlib.Core.Path.{_≡_, refl, sym, ap, _∙_}
 use mathlib.Core.Bool.{Bool, true, false}
 use mathlib.Core.List.{List}
-use mathlib.Core.Option.{none, some}
-use Prim.Native.Nat.{ℕ, zero, _+_, _*_, _≤_, _<_}
+use Prim.Native.Nat.{ℕ, zero, _+_, _*_, _≤_}
 use native.Mathlib.Omega.{arith}
-use lib.ListN.{length, getD, replicate, length-replicate}
+use lib.ListN.{length, replicate}
 use lib.Ieee.{Float}
 use Rattle.lists.specs.Window.{window, splice}
 use Rattle.lists.specs.Frame.{Kept}
-use Rattle.lists.proofs.Window.{length-splice, length-window, window-splice-same, splice-whole, splice-cover}
-use Rattle.lists.proofs.Frame.{Wrote, wrote, untouched, kept-all, kept-by, kept-on, kept-wider}
+use Rattle.lists.proofs.Window.{length-window, window-splice-same, splice-whole}
 use Rattle.doubles.specs.F64.{+0}
 use Rattle.general_operator.specs.Csr.{Csr, csr, Valid}
-use Rattle.csr_matvec.specs.Values.{values}
-use Rattle.generator_action.specs.Mass.{Mass, given, normalise, quotients, stored}
+use Rattle.generator_action.specs.Mass.{Mass, given, quotients, stored}
 use Rattle.generator_action.specs.Known.{Accepted}
-use Rattle.generator_action.proofs.Quotients.{length-normalise}
 use Rattle.expmv.specs.Select.{select-s-m, M-MAX}
 use Rattle.expmv.specs.declared.Selected.{Selected}
 use Rattle.expmv.specs.declared.Selected.the-variants.{NoRow, Row}
@@ -25,48 +21,19 @@ use Rattle.phi_action_helpers.specs.declared.Coupling.{Coupling}
 use Rattle.phi_action_helpers.specs.declared.Layout.{Layout}
 use Rattle.phi_action_helpers.specs.Augmented.{Augmented, augmented}
 use Rattle.phi_action_helpers.specs.Laid.{Ready, Lined, matrix-at, operator-at}
-use Rattle.phi_action_helpers.proofs.Sweeps.{laid}
 use Rattle.phi_action_helpers.proofs.Counts.{run-long}
 use Rattle.phi_shift.specs.Plan.{argument, plan-of, sweep-plan}
 use Rattle.phi_shift.specs.declared.PlanAnswer.{PlanAnswer}
 use Rattle.phi_shift.specs.declared.PlanAnswer.the-variants.{NoPlan, Plan}
+pub use Rattle.combination.proofs.Stored.{quotients-rows}
+use Rattle.combination.proofs.Stored.{Last, clear-over}
+use Rattle.combination.proofs.Stored as job
 use Rattle.combination.specs.Checks.{no-row, quotient-need, taylor-need}
 use Rattle.phi_action.specs.Memory.{layout, Coupled}
 use Rattle.combination.specs.Call.{Call, ends, cleared}
 use Rattle.phi_action.specs.Calls.{Fields, after-plan, soaked}
 use Rattle.phi_action.specs.declared.TaylorAnswer.{TaylorAnswer}
 use Rattle.phi_action.specs.declared.TaylorAnswer.the-variants.{Soaked}
-
--- ---- the quotients
-pub length-stored : (a : Csr) (b : Bool) (mass : List Float) → length (stored a (given b mass)) ≡ quotient-need a (given b mass)
-unfolding stored quotient-need
-length-stored a true mass = length-normalise a mass
-length-stored a false mass = refl
-
-pub quotients-rows : (a : Csr) (mass : Mass) → quotients a mass .n ≡ a .n
-unfolding quotients normalise
-quotients-rows a none = refl
-quotients-rows a (some mass) = refl
-
--- with a mass they need what is left
-pub room : (a : Csr) (b : Bool) (mass : List Float) (d long : ℕ) → taylor-need a (given b mass) d ≤ long → b ≡ true → 3 * a .n + 2 * d + length (a .entries) ≤ long
-unfolding taylor-need quotient-need
-room a true mass d long h e = h
-room a false mass d long h e = let z : zero ≡ 1 = cc in absurd (omega (arith, z))
-
-pub before-quotients : (a : Csr) (mass : Mass) (d : ℕ) → 3 * a .n + 2 * d + quotient-need a mass ≡ taylor-need a mass d
-unfolding taylor-need
-before-quotients a mass d = refl
-
-module _ (n : ℕ) (starts cols : List ℕ) (vals : List Float) (b : Bool) (mass : List Float) (q : ℕ) (w₀ : List Float) (fits : b ≡ true → q + length vals ≤ length w₀) where
-  pub quotients-stored : csr n starts cols (values b q vals (splice q (stored (csr n starts cols vals) (given b mass)) w₀)) ≡ quotients (csr n starts cols vals) (given b mass)
-  unfolding values stored quotients normalise
-  quotients-stored = go b fits
-    where
-      go : (t : Bool) → (t ≡ true → q + length vals ≤ length w₀)
-          → csr n starts cols (values t q vals (splice q (stored (csr n starts cols vals) (given t mass)) w₀)) ≡ quotients (csr n starts cols vals) (given t mass)
-      go true h = ap (csr n starts cols) (window-splice-same q (length vals) _ w₀ (length-normalise (csr n starts cols vals) mass) (h refl))
-      go false h = refl
 
 -- ---- the plan
 pub has-plan : (tau : Float) (q : Csr) (norm : Float) → no-row (select-s-m M-MAX (argument tau norm)) ≡ false → sweep-plan M-MAX tau q norm ≡ NoPlan → zero ≡ 1
@@ -101,12 +68,6 @@ unfolding after-plan
 same-end NoPlan need out w₀ w₁ run run₁ h e f = absurd (omega (arith, h refl))
 same-end (Plan p) need out w₀ w₁ run run₁ h e f = rw (e, f) refl
 
-clear-over : (need : ℕ) (y w₁ w₀ : List Float) → w₁ ≡ splice 0 y w₀ → length y ≤ need → cleared need w₁ ≡ cleared need w₀
-unfolding cleared
-clear-over need y w₁ w₀ e h =
-    let l = length-replicate need +0 in
-    ap (splice 0 (replicate need +0)) e ∙ splice-cover 0 0 (replicate need +0) y w₀ (omega arith) (omega arith)
-
 -- the first field y was written to the front of the memory: the end is that of y and of the memory before
 pub started-is : (p : PlanAnswer) (need long : ℕ) (out w₀ y : List Float) (run : List Float → SweepPlan → Fields) {w₁ : List Float} {c : Call TaylorAnswer} → (p ≡ NoPlan → zero ≡ 1)
     → length y ≡ long
@@ -117,7 +78,11 @@ pub started-is : (p : PlanAnswer) (need long : ℕ) (out w₀ y : List Float) (r
     → c ≡ after-plan need out w₀ p (run y)
 started-is p need long out w₀ y run {w₁} h ly hn hm e f =
     let field : window 0 long w₁ ≡ y = ap (window 0 long) e ∙ window-splice-same 0 long y w₀ ly (omega arith) in
-    f ∙ same-end p need out w₀ w₁ (run y) _ h (clear-over need y w₁ w₀ e (omega arith)) (ap run field)
+    f ∙ same-end p need out w₀ w₁ (run y) _ h (clear-over need 0 y w₀ e (omega arith)) (ap run field)
+
+before-quotients : (a : Csr) (mass : Mass) (d : ℕ) → 3 * a .n + 2 * d + quotient-need a mass ≡ taylor-need a mass d
+unfolding taylor-need
+before-quotients a mass d = refl
 
 -- ---- a job: the places of its operands are those of `layout`
 module _
@@ -139,50 +104,36 @@ module _
   abbrev a : Csr
   a = csr n starts cols vals
 
-  enough : taylor-need a (given b mass) d ≤ length w₀
-  enough = rw (← nd) rm
+  last : Last l a d b mass need
+  last = rw el (record { rows = refl; chain = refl; given-mass = refl; behind = before-quotients a (given b mass) d ∙ sym nd })
 
   pub store-fits : b ≡ true → l .q + length vals ≤ length w₀
-  store-fits t = rw el (room a b mass d (length w₀) enough t)
+  store-fits = job.store-fits n d starts cols vals b mass norm need w₀ acc rm last
 
   module _ {w₁ : List Float} (e₁ : w₁ ≡ splice (l .q) (stored a (given b mass)) w₀) where
-    at-q : w₁ ≡ splice (3 * n + 2 * d) (stored a (given b mass)) w₀
-    at-q = rw el at e₁
-
     pub long₁ : length w₁ ≡ length w₀
-    long₁ = ap length at-q ∙ length-splice _ _ w₀
-
-    pub matrix-is : matrix-at l starts cols vals w₁ ≡ quotients a (given b mass)
-    matrix-is = rw (at-q, el) (quotients-stored n starts cols vals b mass (3 * n + 2 * d) w₀ (room a b mass d (length w₀) enough))
+    long₁ = job.long₁ n d starts cols vals b mass norm need w₀ acc rm last e₁
 
     pub matrix-valid : Valid (matrix-at l starts cols vals w₁)
-    matrix-valid = rw matrix-is (acc .quotients-are)
+    matrix-valid = job.matrix-valid n d starts cols vals b mass norm need w₀ acc rm last e₁
 
     pub stored-in : l .mass ≡ true → l .q + length vals ≤ length w₁
-    stored-in t = rw long₁ (store-fits (sym (ap (λ (x : Layout). x .mass) el) ∙ t))
+    stored-in = job.stored-in n d starts cols vals b mass norm need w₀ acc rm last e₁
 
     pub lined-up : Lined l
     lined-up = rw el (lined n d b)
 
     pub ready : Ready l c starts cols vals vectors w₁
-    ready =
-        let f = front a (given b mass) d (length w₀) enough in
-        let av-in : l .av + l .n ≤ length w₁ = rw (long₁, el) (omega (arith, f)) in
-        let deep : c .count ≤ l .d = rw el (cp .chained) in
-        let columns : (j : ℕ) → j < c .count → getD (c .places) j 0 + l .n ≤ length vectors = rw el (cp .columns) in
-        laid lined-up matrix-valid (cp .few) deep columns av-in stored-in
+    ready = job.ready n d starts cols vals b mass norm need w₀ acc rm last e₁ c vectors lined-up (cp .few) (cp .chained) (cp .columns)
 
     pub operator-is : operator-at l c starts cols vals vectors w₁ ≡ augmented (quotients a (given b mass)) d vectors (c .places) (c .gains) (c .count)
-    operator-is = ap (λ (q : Csr). augmented q (l .d) vectors (c .places) (c .gains) (c .count)) matrix-is ∙ rw el refl
-
-    t₁ : Wrote (3 * n + 2 * d) (quotient-need a (given b mass)) (stored a (given b mass)) w₀ w₁
-    t₁ = wrote _ _ _ w₀ w₁ (length-stored a b mass) at-q
+    operator-is = job.operator-is n d starts cols vals b mass norm need w₀ acc rm last e₁ c vectors
 
     field-is : window 0 (l .n + l .d) w₁ ≡ window 0 (n + d) w₀
-    field-is = rw el (untouched t₁ 0 (n + d) (omega arith))
+    field-is = job.front-is n d starts cols vals b mass norm need w₀ acc rm last e₁ 0 _ (rw el (omega arith)) ∙ rw el refl
 
     pub plan-is : {x : PlanAnswer} → x ≡ sweep-plan M-MAX tau (matrix-at l starts cols vals w₁) norm → sweep-plan M-MAX tau (quotients a (given b mass)) norm ≡ x
-    plan-is e = sym (e ∙ ap (λ (q : Csr). sweep-plan M-MAX tau q norm) matrix-is)
+    plan-is e = sym (e ∙ ap (λ (q : Csr). sweep-plan M-MAX tau q norm) (job.matrix-is n d starts cols vals b mass norm need w₀ acc rm last e₁))
 
     -- after the sweeps: any fields, and the memory before the quotients changed; what was needed is cleared
     pub finished : (out : List Float) (run : SweepPlan → Fields) {p : SweepPlan} {applied : ℕ} {out₁ w₂ w₃ : List Float} → sweep-plan M-MAX tau (quotients a (given b mass)) norm ≡ Plan p
@@ -193,11 +144,7 @@ module _
         → ends (Soaked (record { s = p .s; m = p .m; mu = p .mu; applications = applied })) out₁ w₃ ≡ after-plan need out w₀ (sweep-plan M-MAX tau (quotients a (given b mass)) norm) run
     unfolding after-plan cleared
     finished out run {p} {applied} {out₁} {w₂} {w₃} pl ea eo k e₃ =
-        let past : 3 * n + 2 * d + quotient-need a (given b mass) ≡ need = before-quotients a (given b mass) d ∙ sym nd in
-        let k₁ : Kept 0 need +0 w₀ w₁ = kept-by (kept-all 0 need +0 w₀) t₁ (omega arith) (omega arith) in
-        let kq : Kept 0 (3 * n + 2 * d) +0 w₁ w₂ = rw el at k in
-        let k₂ : Kept 0 need +0 w₀ w₂ = kept-on k₁ (kept-wider kq need (omega arith)) in
-        let e₃′ = e₃ ∙ k₂ .outside in
+        let e₃′ = job.cleared-is n d starts cols vals b mass norm need w₀ acc rm last e₁ k e₃ in
         rw pl (λ i. ends (Soaked (record { s = p .s; m = p .m; mu = p .mu; applications = ea i })) (eo i) (e₃′ i))
 
     pub done : (out : List Float) {p : SweepPlan} {applied : ℕ} {out₁ w₂ w₃ : List Float} → length out ≡ n
@@ -211,7 +158,7 @@ module _
     done out {p} {applied} {out₁} {w₂} {w₃} lo pl ea eo k e₃ =
         let B = augmented (quotients a (given b mass)) d vectors (c .places) (c .gains) (c .count) in
         let y = window 0 (n + d) w₀ in
-        let f = front a (given b mass) d (length w₀) enough in
+        let f = front a (given b mass) d (length w₀) (rw (← nd) rm) in
         let ly : length y ≡ n + d = length-window 0 (n + d) w₀ (omega arith) in
         let ea′ : applied ≡ soaked B tau y p .applied = rw (operator-is, field-is) at ea in
         let eo′ : out₁ ≡ soaked B tau y p .fields = (rw (operator-is, field-is) at eo) ∙ whole p out lo ly in

@@ -67,7 +67,7 @@ fn taylor_need(n: usize, d: usize, with_mass: bool, entries: usize) -> usize
 }
 
 // w_0, then the chain: zeros, and 1 / eta at its end.
-fn combination_start(n: usize, w: &[f64], d: usize, inv: f64, work: &mut [f64])
+pub fn combination_start(n: usize, w: &[f64], d: usize, inv: f64, work: &mut [f64])
     requires { ⌜ (n ≤ length (now w)) × (n + d ≤ length (now work)) ⌝ }
     ensures { λ _. ⌜ now (work .exit) ≡ splice 0 (combination-start n (now (w .entry)) d inv) (now (work .entry)) ⌝ }
 {

@@ -34,6 +34,12 @@ short : phi-combination-krylov empty none 1f 2 (+0 ∷ +0 ∷ []) (options tenth
 unfolding open-KrylovCall
 short = refl
 
+-- a tolerance that is no number: 18
+no-tolerance : phi-combination-krylov empty none 1f 2 (+0 ∷ +0 ∷ []) (options nan 30 100000) (nat 7 ∷ []) (replicate 28 (nat 9))
+    ≡ ends (Refusal 18 nan) (nat 7 ∷ []) (replicate 28 (nat 9))
+unfolding open-KrylovCall
+no-tolerance = refl
+
 abbrev four : Csr
 four =
     csr 4 (0 ∷ 1 ∷ 4 ∷ 7 ∷ 9 ∷ []) (0 ∷ 0 ∷ 1 ∷ 3 ∷ 1 ∷ 2 ∷ 3 ∷ 0 ∷ 1 ∷ [])

@@ -36,8 +36,12 @@ option-checks o M =
     ∷ refuse 20 (ltb 128 M || ltb 1000000 (o .«max_substeps»)) nan
     ∷ []
 
-unfoldable pub bound-checks : Float → Float → List Check
-bound-checks norm tau = refuse 24 (not (is-finite (bound tau norm))) (bound tau norm) ∷ []
+unfoldable pub bound-checks : Float → List Check
+bound-checks anorm = refuse 24 (not (is-finite anorm)) anorm ∷ []
+
+-- 21 to 26
+unfoldable pub run-checks : ℕ → Float → ℕ → List Float → Float → ℕ → ℕ → List Check
+run-checks n tau d w anorm memory need = magnitude-checks n w tau d ++ (bound-checks anorm ++ memory-checks memory need)
 
 -- n + (M + 3)(n + d) + (M + 2) squared, and the entries with a mass
 unfoldable pub krylov-need : Csr → Mass → ℕ → ℕ → ℕ
@@ -50,9 +54,7 @@ krylov-checks a mass tau count w o output memory =
     generator-checks a mass
     ++ (vector-checks (a .n) tau count w output
     ++ (option-checks o M
-    ++ (magnitude-checks (a .n) w tau d
-    ++ (bound-checks (row-sum-norm (quotients a mass)) tau
-    ++ memory-checks memory (krylov-need a mass d M)))))
+    ++ run-checks (a .n) tau d w (bound tau (row-sum-norm (quotients a mass))) memory (krylov-need a mass d M)))
 
 -- a run leaves its field, the last accepted one where it was refused, and clears what it needed
 unfoldable pub after-run : ℕ → ℕ → List Float → End → Call KrylovAnswer
@@ -70,5 +72,5 @@ phi-combination-krylov a mass tau count w o output memory =
 
 -- to compute: a line `unfolding open-KrylovCall` opens every definition of this file and of those below it
 unfoldable pub open-KrylovCall : Unit {0}
-unfolding bound dimension option-checks bound-checks krylov-need krylov-checks after-run phi-combination-krylov open-Run open-Calls
+unfolding bound dimension option-checks bound-checks run-checks krylov-need krylov-checks after-run phi-combination-krylov open-Run open-Calls
 open-KrylovCall = tt

@@ -1,1 +1,3 @@
 pub mod KrylovCall
+pub mod Memory
+pub mod Combine

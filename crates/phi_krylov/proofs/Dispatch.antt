@@ -1,0 +1,31 @@
+-- The answer of the chosen evaluator. Assumes nothing.
+use mathlib.Core.Path.{_≡_, ap, _∙_}
+use mathlib.Core.List.{List}
+use Prim.Native.Nat.{ℕ}
+use lib.Ieee.{Float}
+use Rattle.general_operator.specs.Csr.{Csr}
+use Rattle.generator_action.specs.Mass.{Mass}
+use Rattle.combination.specs.Call.{Call, ends}
+use Rattle.phi_action.specs.Calls.{phi-combination}
+use Rattle.phi_action.specs.declared.TaylorAnswer.{TaylorAnswer}
+use Rattle.phi_krylov.specs.KrylovCall.{phi-combination-krylov}
+use Rattle.phi_krylov.specs.Combine.{of-taylor, of-krylov, answering, combine}
+use Rattle.phi_krylov.specs.declared.KrylovAnswer.{KrylovAnswer}
+use Rattle.phi_krylov.specs.declared.KrylovPhiOptions.{KrylovPhiOptions}
+use Rattle.phi_krylov.specs.declared.PhiAnswer.{PhiAnswer}
+use Rattle.phi_krylov.specs.declared.PhiSolver.{PhiSolver}
+use Rattle.phi_krylov.specs.declared.PhiSolver.the-variants.{Taylor, Krylov}
+
+answered : {A B : Type 0} (f : A → B) (x : A) {r : B} {out₁ w₁ : List Float} {c : Call A} → r ≡ f x → ends x out₁ w₁ ≡ c → ends r out₁ w₁ ≡ answering f c
+unfolding answering
+answered f x {r} {out₁} {w₁} {c} er ec = (λ i. ends (er i) out₁ w₁) ∙ ap (answering f) ec
+
+module _ (a : Csr) (mass : Mass) (tau : Float) (count : ℕ) (w out w₀ : List Float) {s : PhiSolver} {r : PhiAnswer} {out₁ w₁ : List Float} where
+  pub by-taylor : {x : TaylorAnswer} → s ≡ Taylor → r ≡ of-taylor x → ends x out₁ w₁ ≡ phi-combination a mass tau count w out w₀ → ends r out₁ w₁ ≡ combine s a mass tau count w out w₀
+  unfolding combine
+  by-taylor {x} es er ec = rw es (answered of-taylor x er ec)
+
+  pub by-krylov : {o : KrylovPhiOptions} {x : KrylovAnswer} → s ≡ Krylov o → r ≡ of-krylov x → ends x out₁ w₁ ≡ phi-combination-krylov a mass tau count w o out w₀
+      → ends r out₁ w₁ ≡ combine s a mass tau count w out w₀
+  unfolding combine
+  by-krylov {o} {x} es er ec = rw es (answered of-krylov x er ec)

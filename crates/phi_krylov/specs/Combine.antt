@@ -1,0 +1,33 @@
+-- One combination by the chosen evaluator (phi_krylov.rs, `combine`). Definitions only.
+use mathlib.Core.List.{List}
+use Prim.Native.Nat.{ℕ}
+use lib.Ieee.{Float}
+use Rattle.general_operator.specs.Csr.{Csr}
+use Rattle.generator_action.specs.Mass.{Mass}
+use Rattle.combination.specs.Call.{Call, ends}
+use Rattle.phi_action.specs.Calls.{phi-combination}
+use Rattle.phi_action.specs.declared.TaylorAnswer.{TaylorAnswer}
+use Rattle.phi_action.specs.declared.TaylorAnswer.the-variants as taylor
+use Rattle.phi_krylov.specs.KrylovCall.{phi-combination-krylov}
+use Rattle.phi_krylov.specs.declared.KrylovAnswer.{KrylovAnswer}
+use Rattle.phi_krylov.specs.declared.KrylovAnswer.the-variants as krylov
+use Rattle.phi_krylov.specs.declared.PhiSolver.{PhiSolver}
+use Rattle.phi_krylov.specs.declared.PhiSolver.the-variants as solver
+use Rattle.phi_krylov.specs.declared.PhiAnswer.{PhiAnswer}
+use Rattle.phi_krylov.specs.declared.PhiAnswer.the-variants.{Refusal, Taylor, Krylov}
+
+unfoldable pub of-taylor : TaylorAnswer → PhiAnswer
+of-taylor (taylor.Refusal k x) = Refusal k x
+of-taylor (taylor.Soaked r) = Taylor r
+
+unfoldable pub of-krylov : KrylovAnswer → PhiAnswer
+of-krylov (krylov.Refusal k x) = Refusal k x
+of-krylov (krylov.Soaked r) = Krylov r
+
+-- a call with its answer put differently
+unfoldable pub answering : {A B : Type 0} → (A → B) → Call A → Call B
+answering f c = ends (f (c .answer)) (c .output) (c .memory)
+
+unfoldable pub combine : PhiSolver → Csr → Mass → Float → ℕ → List Float → List Float → List Float → Call PhiAnswer
+combine solver.Taylor a mass tau count w output memory = answering of-taylor (phi-combination a mass tau count w output memory)
+combine (solver.Krylov o) a mass tau count w output memory = answering of-krylov (phi-combination-krylov a mass tau count w o output memory)
