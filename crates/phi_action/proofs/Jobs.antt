@@ -31,7 +31,7 @@ use Rattle.combination.proofs.Stored as job
 use Rattle.combination.specs.Checks.{no-row, quotient-need, taylor-need}
 use Rattle.phi_action.specs.Memory.{layout, Coupled}
 use Rattle.combination.specs.Call.{Call, ends, cleared}
-use Rattle.phi_action.specs.Calls.{Fields, after-plan, soaked}
+use Rattle.phi_action.specs.Calls.{Fields, after-plan, report, soaked}
 use Rattle.phi_action.specs.declared.TaylorAnswer.{TaylorAnswer}
 use Rattle.phi_action.specs.declared.TaylorAnswer.the-variants.{Soaked}
 
@@ -136,33 +136,35 @@ module _
     plan-is e = sym (e ∙ ap (λ (q : Csr). sweep-plan M-MAX tau q norm) (job.matrix-is n d starts cols vals b mass norm need w₀ acc rm last e₁))
 
     -- after the sweeps: any fields, and the memory before the quotients changed; what was needed is cleared
-    pub finished : (out : List Float) (run : SweepPlan → Fields) {p : SweepPlan} {applied : ℕ} {out₁ w₂ w₃ : List Float} → sweep-plan M-MAX tau (quotients a (given b mass)) norm ≡ Plan p
+    pub finished : (out : List Float) (run : SweepPlan → Fields) {p : SweepPlan} {applied : ℕ} {x : TaylorAnswer} {out₁ w₂ w₃ : List Float} → sweep-plan M-MAX tau (quotients a (given b mass)) norm ≡ Plan p
         → applied ≡ run p .applied
         → out₁ ≡ run p .fields
         → Kept 0 (l .q) +0 w₁ w₂
-        → w₃ ≡ splice 0 (replicate need +0) w₂
-        → ends (Soaked (record { s = p .s; m = p .m; mu = p .mu; applications = applied })) out₁ w₃ ≡ after-plan need out w₀ (sweep-plan M-MAX tau (quotients a (given b mass)) norm) run
+        → x ≡ report p applied
+        → w₃ ≡ cleared need w₂
+        → ends x out₁ w₃ ≡ after-plan need out w₀ (sweep-plan M-MAX tau (quotients a (given b mass)) norm) run
     unfolding after-plan cleared
-    finished out run {p} {applied} {out₁} {w₂} {w₃} pl ea eo k e₃ =
+    finished out run {p} {applied} {x} {out₁} {w₂} {w₃} pl ea eo k ex e₃ =
         let e₃′ = job.cleared-is n d starts cols vals b mass norm need w₀ acc rm last e₁ k e₃ in
-        rw pl (λ i. ends (Soaked (record { s = p .s; m = p .m; mu = p .mu; applications = ea i })) (eo i) (e₃′ i))
+        rw (pl, ex) (λ i. ends (report p (ea i)) (eo i) (e₃′ i))
 
-    pub done : (out : List Float) {p : SweepPlan} {applied : ℕ} {out₁ w₂ w₃ : List Float} → length out ≡ n
+    pub done : (out : List Float) {p : SweepPlan} {applied : ℕ} {x : TaylorAnswer} {out₁ w₂ w₃ : List Float} → length out ≡ n
         → sweep-plan M-MAX tau (quotients a (given b mass)) norm ≡ Plan p
         → applied ≡ soaked (operator-at l c starts cols vals vectors w₁) tau (window 0 (l .n + l .d) w₁) p .applied
         → out₁ ≡ splice 0 (soaked (operator-at l c starts cols vals vectors w₁) tau (window 0 (l .n + l .d) w₁) p .fields) out
         → Kept 0 (l .q) +0 w₁ w₂
-        → w₃ ≡ splice 0 (replicate need +0) w₂
-        → ends (Soaked (record { s = p .s; m = p .m; mu = p .mu; applications = applied })) out₁ w₃
+        → x ≡ report p applied
+        → w₃ ≡ cleared need w₂
+        → ends x out₁ w₃
         ≡ after-plan need out w₀ (sweep-plan M-MAX tau (quotients a (given b mass)) norm) (soaked (augmented (quotients a (given b mass)) d vectors (c .places) (c .gains) (c .count)) tau (window 0 (n + d) w₀))
-    done out {p} {applied} {out₁} {w₂} {w₃} lo pl ea eo k e₃ =
+    done out {p} {applied} {out₁ = out₁} lo pl ea eo k ex e₃ =
         let B = augmented (quotients a (given b mass)) d vectors (c .places) (c .gains) (c .count) in
         let y = window 0 (n + d) w₀ in
         let f = front a (given b mass) d (length w₀) (rw (← nd) rm) in
         let ly : length y ≡ n + d = length-window 0 (n + d) w₀ (omega arith) in
         let ea′ : applied ≡ soaked B tau y p .applied = rw (operator-is, field-is) at ea in
         let eo′ : out₁ ≡ soaked B tau y p .fields = (rw (operator-is, field-is) at eo) ∙ whole p out lo ly in
-        finished out (soaked B tau y) pl ea′ eo′ k e₃
+        finished out (soaked B tau y) pl ea′ eo′ k ex e₃
       where
         whole : (p : SweepPlan) (out : List Float) → length out ≡ n → length (window 0 (n + d) w₀) ≡ n + d
             → splice 0 (soaked (augmented (quotients a (given b mass)) d vectors (c .places) (c .gains) (c .count)) tau (window 0 (n + d) w₀) p .fields) out

@@ -22,10 +22,10 @@ ghost use Rattle.phi_action_helpers.specs.Augmented.{augmented};
 ghost use Rattle.phi_action_helpers.specs.Laid.{matrix-at, operator-at, Ready, Lined};
 ghost use Rattle.phi_shift.specs.Plan.{argument, sweep-plan};
 ghost use Rattle.combination.specs.Combination.{combination-start, init-aug-vector};
-ghost use Rattle.combination.specs.Call.{ends};
+ghost use Rattle.combination.specs.Call.{ends, cleared};
 ghost use Rattle.combination.specs.Checks.{no-row, taylor-need};
 ghost use Rattle.phi_action.specs.Memory.{layout, Coupled, one-column};
-ghost use Rattle.phi_action.specs.Calls.{after-plan, soaked, phi-combination, phi-action, batched, phi-action-batched};
+ghost use Rattle.phi_action.specs.Calls.{after-plan, report, soaked, phi-combination, phi-action, batched, phi-action-batched};
 
 // Of an accepted job: the plan, and the products with the generator made, over all sweeps of a batch.
 pub struct TaylorReport {
@@ -141,7 +141,22 @@ fn swept_out(
     applied
 }
 
-// A job whose first field stands at the front of the lent memory: quotients, plan, sweeps; what was needed is cleared.
+// The report; what was needed is cleared.
+fn finish(work: &mut [f64], need: usize, p: SweepPlan, applied: u64) -> TaylorAnswer
+    requires { ⌜ need ≤ length (now work) ⌝ }
+    ensures { λ r. ⌜ r ≡ report p applied ⌝ }
+    ensures { λ _. ⌜ now (work .exit) ≡ cleared need (now (work .entry)) ⌝ }
+{
+    vectors::clear_in(work, 0, need);
+    TaylorAnswer::Soaked(TaylorReport {
+        s: p.s,
+        m: p.m,
+        mu: p.mu,
+        applications: applied,
+    })
+}
+
+// A job whose first field stands at the front of the lent memory: quotients, plan, sweeps.
 fn soak(
     n: usize,
     starts: &[u32],
@@ -172,13 +187,7 @@ fn soak(
         return TaylorAnswer::Refusal(25, float::not_a_number());
     };
     let applied = swept_out(starts, cols, vals, vectors, out, 0, work, l, b, tau, p);
-    vectors::clear_in(work, 0, need);
-    TaylorAnswer::Soaked(TaylorReport {
-        s: p.s,
-        m: p.m,
-        mu: p.mu,
-        applications: applied,
-    })
+    finish(work, need, p, applied)
 }
 
 // The combination of a matrix that passed 1 to 11.
@@ -392,7 +401,7 @@ fn sweep_batch(
     applied
 }
 
-// A batch: quotients, the plan once, the sweeps of each function; what was needed is cleared.
+// A batch: quotients, the plan once, the sweeps of each function.
 fn soak_batched(
     n: usize,
     starts: &[u32],
@@ -425,13 +434,7 @@ fn soak_batched(
         return TaylorAnswer::Refusal(25, float::not_a_number());
     };
     let applied = sweep_batch(starts, cols, vals, v, out, work, l, b, inv, count, tau, p);
-    vectors::clear_in(work, 0, need);
-    TaylorAnswer::Soaked(TaylorReport {
-        s: p.s,
-        m: p.m,
-        mu: p.mu,
-        applications: applied,
-    })
+    finish(work, need, p, applied)
 }
 
 // The batch of a matrix that passed 1 to 11. An index above 3 is refused before the output's length is computed.

@@ -39,8 +39,8 @@ sweep-batch-requires c κs =
     let b = plan-bounded _ (a .tau) _ (a .norm) pl .within .bounded in
     (ready (a .n) 3 (a .starts .now) (a .cols .now) (a .vals .now) (a .with-mass) (a .mass .now) (a .v .now) (a .b) (a .tau) (a .norm) (a .need) (a .work .now) (p .0) (p .1 .0) (p .1 .1 .0 .0) (p .1 .1 .0 .1) (c .before .before .before .before .before .before .before .before .before .before .before .layout .ensures) e, ((lined-up (a .n) 3 (a .starts .now) (a .cols .now) (a .vals .now) (a .with-mass) (a .mass .now) (a .v .now) (a .b) (a .tau) (a .norm) (a .need) (a .work .now) (p .0) (p .1 .0) (p .1 .1 .0 .0) (p .1 .1 .0 .1) (c .before .before .before .before .before .before .before .before .before .before .before .layout .ensures) e, b .s-most, b .m-most, rw el refl), rw el (p .1 .1 .1 .1 .0, p .1 .1 .1 .1 .1, p .1 .1 .0 .2)))
 
-clear-in-requires : tie.Need-clear-in-requires
-clear-in-requires c κs =
+finish-requires : tie.Need-finish-requires
+finish-requires c κs =
     let a = c .before .before .before .before .before .before .before .before .before .before .before .before .before .before .before .before .before .before .before .before .before .before .before .before .before .args in
     let p = c .before .before .before .before .before .before .before .before .before .before .before .before .before .before .before .before .before .before .before .before .before .before .before .before .before .pre in
     omega (arith, p .1 .1 .0 .1, c .before .before .before .before .before .sweep-batch .ensures .1 .1 .long, long₁ (a .n) 3 (a .starts .now) (a .cols .now) (a .vals .now) (a .with-mass) (a .mass .now) (a .v .now) (a .b) (a .tau) (a .norm) (a .need) (a .work .now) (p .0) (p .1 .0) (p .1 .1 .0 .0) (p .1 .1 .0 .1) (c .before .before .before .before .before .before .before .before .before .before .before .before .before .before .before .before .before .layout .ensures) (c .before .before .before .before .before .before .before .before .before .before .before .before .before .before .before .store-quotients .ensures))
@@ -52,8 +52,9 @@ returns-2 c =
     let e = (c .before .before .before .before .before .before .before .before .before .before .before .before .before .before .before .before .before .before .store-quotients .ensures) in
     let pl = plan-is (a .n) 3 (a .starts .now) (a .cols .now) (a .vals .now) (a .with-mass) (a .mass .now) (a .v .now) (a .b) (a .tau) (a .norm) (a .need) (a .work .now) (p .0) (p .1 .0) (p .1 .1 .0 .0) (p .1 .1 .0 .1) (c .before .before .before .before .before .before .before .before .before .before .before .before .before .before .before .before .before .before .before .before .layout .ensures) e (c .before .before .before .before .before .before .before .before .before .before .before .before .before .before .plan-at .ensures) ∙ c .before .before .before .before .before .before .before .before .before .before .before .before .plan .given .1 in
     let r = c .before .before .before .before .before .before .before .before .sweep-batch .ensures in
+    let f = c .before .before .finish .ensures in
     let is = operator-is (a .n) 3 (a .starts .now) (a .cols .now) (a .vals .now) (a .with-mass) (a .mass .now) (a .v .now) (a .b) (a .tau) (a .norm) (a .need) (a .work .now) (p .0) (p .1 .0) (p .1 .1 .0 .0) (p .1 .1 .0 .1) (c .before .before .before .before .before .before .before .before .before .before .before .before .before .before .before .before .before .before .before .before .layout .ensures) e in
-    finished (a .n) 3 (a .starts .now) (a .cols .now) (a .vals .now) (a .with-mass) (a .mass .now) (a .v .now) (a .b) (a .tau) (a .norm) (a .need) (a .work .now) (p .0) (p .1 .0) (p .1 .1 .0 .0) (p .1 .1 .0 .1) (c .before .before .before .before .before .before .before .before .before .before .before .before .before .before .before .before .before .before .before .before .layout .ensures) e (a .out .now) _ pl (rw is at (r .0)) (rw is at (r .1 .0)) (r .1 .1) (c .before .before .clear-in .ensures)
+    finished (a .n) 3 (a .starts .now) (a .cols .now) (a .vals .now) (a .with-mass) (a .mass .now) (a .v .now) (a .b) (a .tau) (a .norm) (a .need) (a .work .now) (p .0) (p .1 .0) (p .1 .1 .0 .0) (p .1 .1 .0 .1) (c .before .before .before .before .before .before .before .before .before .before .before .before .before .before .before .before .before .before .before .before .layout .ensures) e (a .out .now) _ pl (rw is at (r .0)) (rw is at (r .1 .0)) (r .1 .1) (f .0) (f .1)
 
 pub soak-batched-spec : {M : Type 1} → statement M
 soak-batched-spec =
@@ -68,7 +69,7 @@ soak-batched-spec =
     (λ c. search needs)
     returns
     sweep-batch-requires
-    clear-in-requires
+    finish-requires
     (λ c. search needs)
     (λ c. search needs)
     returns-2)
