@@ -35,7 +35,6 @@ use Rattle.phi_action.specs.Memory.{layout, Coupled}
 use Rattle.combination.specs.Call.{Call, ends, cleared}
 use Rattle.phi_action.specs.Calls.{Fields, after-plan, report, soaked}
 use Rattle.phi_action.specs.declared.TaylorAnswer.{TaylorAnswer}
-use Rattle.phi_action.specs.declared.TaylorAnswer.the-variants.{Soaked}
 
 -- ---- the quotients
 pub length-stored : (a : Csr) (b : Bool) (mass : List Float) → length (stored a (given b mass)) ≡ quotient-need a (given b mass)
