@@ -33,7 +33,6 @@ use Rattle.phi_action.specs.Memory.{layout, Coupled}
 use Rattle.combination.specs.Call.{Call, ends, cleared}
 use Rattle.phi_action.specs.Calls.{Fields, after-plan, report, soaked}
 use Rattle.phi_action.specs.declared.TaylorAnswer.{TaylorAnswer}
-use Rattle.phi_action.specs.declared.TaylorAnswer.the-variants.{Soaked}
 
 -- ---- the plan
 pub has-plan : (tau : Float) (q : Csr) (norm : Float) → no-row (select-s-m M-MAX (argument tau norm)) ≡ false → sweep-plan M-MAX tau q norm ≡ NoPlan → zero ≡ 1

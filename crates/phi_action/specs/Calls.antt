@@ -1,7 +1,6 @@
 -- Whole calls: the answer, and what the output and the working memory hold at the end (phi_action.rs, `phi_combination`, `phi_action`,
 -- `phi_action_batched`). Definitions only.
-use mathlib.Core.Bool.{Bool, true, false}
-use mathlib.Core.List.{List, [], _∷_, _++_}
+use mathlib.Core.List.{List, [], _++_}
 use Prim.Native.Nat.{ℕ, suc, _+_, _-_, _*_}
 use lib.ListN.{length}
 use lib.Ieee.{Float, nan}
@@ -13,15 +12,14 @@ use Rattle.generator_action.specs.Mass.{Mass, quotients, generator-checks, open
 use Rattle.expmv.specs.Select.{M-MAX}
 use Rattle.pow2.specs.Pow2.{sup, eta-scaling}
 use Rattle.phi_action_helpers.specs.Augmented.{Augmented}
-use Rattle.phi_action_helpers.specs.Sweeps.{Swept, run-sweeps}
+use Rattle.phi_action_helpers.specs.Sweeps.{run-sweeps}
 use Rattle.phi_action_helpers.specs.declared.SweepPlan.{SweepPlan}
 use Rattle.phi_shift.specs.Plan.{sweep-plan}
 use Rattle.phi_shift.specs.declared.PlanAnswer.{PlanAnswer}
 use Rattle.phi_shift.specs.declared.PlanAnswer.the-variants.{NoPlan, Plan}
-use Rattle.phi_action.specs.declared.TaylorReport.{TaylorReport}
 use Rattle.phi_action.specs.declared.TaylorAnswer.{TaylorAnswer}
 use Rattle.phi_action.specs.declared.TaylorAnswer.the-variants.{Refusal, Soaked}
-use Rattle.combination.specs.Combination.{vector, eta-of, combination-operator, combination-start, action-operator, init-aug-vector}
+use Rattle.combination.specs.Combination.{eta-of, combination-operator, combination-start, action-operator, init-aug-vector}
 use Rattle.combination.specs.Call.{Call, ends, unless-refused, cleared, open-Call}
 use Rattle.combination.specs.Checks.{vector-checks, sweep-checks, job-checks, taylor-need, open-Checks}
 

@@ -8,7 +8,6 @@ use native.Mathlib.Nat.{le-refl}
 use Rattle.lists.proofs.Window.{length-splice}
 use Rattle.general_operator.specs.Csr.{csr}
 use Rattle.generator_action.specs.Mass.{given}
-use Rattle.combination.specs.Combination.{eta-of}
 use Rattle.phi_action.proofs.Admitted.{vectors-known, vectors-fill, first-vector, coupled-in, eta-is, enough, sweeps-known, refused-vectors, refused-sweeps, combined-is}
 use Rattle.phi_action.proofs.combined.Statement.{statement}
 use Rattle.phi_action.proofs.combined.Tie as tie
