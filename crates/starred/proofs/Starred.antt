@@ -1,9 +1,10 @@
 -- The boundary jobs that document 01 marks with a star: one table, and the theorem that the definitions give what it says. Assumes nothing.
 use mathlib.Core.Bool.{false}
-use mathlib.Core.List.{List, [], _∷_, map}
+use mathlib.Core.List.{List, [], _∷_, _++_, map}
 use mathlib.Core.Option.{none, some}
 use mathlib.Core.Path.{_≡_, refl}
 use Prim.Native.Nat.{ℕ}
+use lib.ListN.{replicate}
 use lib.Ieee.{Float, nan, neg, binary64, round}
 use Rattle.doubles.specs.F64.{_⊗_, nat, 1f, 2f, +0}
 use Rattle.pow2.specs.Pow2.{eta-scaling, open-Pow2}
@@ -16,6 +17,10 @@ use Rattle.csr_shift.specs.Shift.{negated-csr-shift}
 use Rattle.csr_shift.specs.declared.Shift.{Shift}
 use Rattle.csr_shift.specs.declared.Shift.the-variants.{Unshifted, By}
 use Rattle.phi_shift.specs.Plan.{argument, shifted-bound, open-Plan}
+use Rattle.phi_krylov.specs.KrylovCall.{phi-combination-krylov, open-KrylovCall}
+use Rattle.phi_krylov.specs.declared.KrylovPhiOptions.{KrylovPhiOptions}
+use Rattle.phi_krylov.specs.declared.KrylovAnswer.{KrylovAnswer}
+use Rattle.phi_krylov.specs.declared.KrylovAnswer.the-variants.{Refusal, Soaked}
 
 -- a / b as a double
 unfoldable ratio : ℕ → ℕ → Float
@@ -47,6 +52,19 @@ exchange = two-rows +0 1f
 abbrev two : Csr
 two = csr 1 (0 ∷ 1 ∷ []) (0 ∷ []) (2f ∷ [])
 
+-- one row without entries
+abbrev empty : Csr
+empty = csr 1 (0 ∷ 0 ∷ []) [] []
+
+-- tol 1e-10, m 30, at most 100,000 substeps
+abbrev options : KrylovPhiOptions
+options = record { tol = ratio 1 10000000000; m = 30; «max_substeps» = 100000 }
+
+-- substeps, applications, rejections, estimate; of a refusal its number and double
+abbrev told : KrylovAnswer → List Float
+told (Soaked r) = nat (r .substeps) ∷ nat (r .matvecs) ∷ nat (r .rejected) ∷ r .«est_error» ∷ []
+told (Refusal k x) = nat k ∷ x ∷ []
+
 data Job : Type 0 where
   Eta : Float → Job
   Round2 : Float → Job
@@ -55,6 +73,7 @@ data Job : Type 0 where
   Product : Csr → Mass → List Float → Job
   Shifts : Csr → Job
   Arguments : Float → Csr → Job
+  Krylov : Csr → Float → ℕ → List Float → KrylovPhiOptions → Job
 
 unfoldable answer : Job → List Float
 answer (Eta x) = eta-scaling x .eta ∷ eta-scaling x .inv ∷ []
@@ -64,6 +83,9 @@ answer (Dot x y) = dot x y ∷ []
 answer (Product a mass x) = apply-generator (quotients a mass) x
 answer (Shifts q) = shift-and-norm (negated-csr-shift q (row-sum-norm q))
 answer (Arguments tau q) = argument tau (row-sum-norm q) ∷ shifted-argument tau (negated-csr-shift q (row-sum-norm q))
+answer (Krylov a tau count w o) =
+    let c = phi-combination-krylov a none tau count w o (replicate (a .n) (nat 7)) (replicate 100 (nat 9)) in
+    told (c .answer) ++ c .output
 
 record Case : Type 0 where
   job : Job
@@ -87,8 +109,10 @@ table =
     ∷ record { job = Shifts laplace; is = neg (nat 2) ∷ nat 1 ∷ [] }
     ∷ record { job = Arguments (nat 1) laplace; is = nat 10 ∷ nat 8 ∷ [] }
     ∷ record { job = Shifts exchange; is = [] }
+    ∷ record { job = Krylov empty 1f 2 (+0 ∷ +0 ∷ []) options; is = nat 1 ∷ nat 1 ∷ nat 0 ∷ ratio 1 2251799813685248 ∷ +0 ∷ [] }
+    ∷ record { job = Krylov empty 1f 1 (neg +0 ∷ []) options; is = nat 0 ∷ nat 0 ∷ nat 0 ∷ +0 ∷ neg +0 ∷ [] }
     ∷ []
 
 starred : map (λ (c : Case). answer (c .job)) table ≡ map (λ (c : Case). c .is) table
-unfolding table answer ratio open-Pow2 open-Power open-Rounded open-Vectors open-Mass open-Plan
+unfolding table answer ratio open-Pow2 open-Power open-Rounded open-Vectors open-Mass open-Plan open-KrylovCall
 starred = refl
