@@ -1,0 +1,236 @@
+//! A job for one of the four calls, its answer, and the text form of both.
+//!
+//! One job is one line of `key=value` words in any order; a list is its elements with commas between, an empty list
+//! is nothing; a double is the 16 hexadecimal digits of its bits. Lines that are empty or start with `#` are skipped.
+//!
+//! | key | value |
+//! |---|---|
+//! | call | `combination`, `krylov`, `action` or `batched` |
+//! | n | rows |
+//! | starts, cols | lists of u32 |
+//! | vals | list of doubles |
+//! | mass | list of doubles, or `none` |
+//! | tau | double |
+//! | count | vectors of `combination` and `krylov`; the index k of `action`, the last index p of `batched` |
+//! | w | list of doubles: the vectors in one, or v |
+//! | tol, m, limit | of `krylov` alone: double, number, number |
+//! | out, work | the lengths of output and working memory |
+//!
+//! Before a call, element i of the output holds [`mark`] i, element i of the working memory `mark` (2^32 + i).
+
+#[derive(Clone, Copy, Debug, PartialEq)]
+pub enum Call {
+    Combination,
+    Krylov { tol: f64, m: usize, limit: usize },
+    Action,
+    Batched,
+}
+
+#[derive(Clone, Debug, PartialEq)]
+pub struct Job {
+    pub call: Call,
+    pub n: usize,
+    pub starts: Vec<u32>,
+    pub cols: Vec<u32>,
+    pub vals: Vec<f64>,
+    pub mass: Option<Vec<f64>>,
+    pub tau: f64,
+    /// The number of vectors, or the index of an action.
+    pub count: usize,
+    pub w: Vec<f64>,
+    pub out: usize,
+    pub work: usize,
+}
+
+/// `number` is 0 or a refusal's; `value` mu, the estimated error or the refusal's double; `counts` are s, m and
+/// applications of Taylor, applications, substeps and rejections of Krylov, and zeros of a refusal.
+#[derive(Clone, Debug)]
+pub struct Answer {
+    pub number: u32,
+    pub value: f64,
+    pub counts: [u64; 3],
+    pub out: Vec<f64>,
+    pub work: Vec<f64>,
+}
+
+/// What an element holds that no call has written: a finite double no job computes.
+pub fn mark(i: usize) -> f64 {
+    f64::from_bits(0x5a5a_0000_0000_0000 + i as u64)
+}
+
+/// All NaNs count as one value.
+pub fn bits(x: f64) -> u64 {
+    if x.is_nan() {
+        0x7ff8_0000_0000_0000
+    } else {
+        x.to_bits()
+    }
+}
+
+impl Job {
+    /// d: vectors less one, 3 for the two action calls.
+    pub fn degree(&self) -> usize {
+        match self.call {
+            Call::Combination | Call::Krylov { .. } => self.count.saturating_sub(1),
+            Call::Action | Call::Batched => 3,
+        }
+    }
+
+    /// M: m clamped to 2..max(2, n + d).
+    pub fn dimension(&self) -> usize {
+        match self.call {
+            Call::Krylov { m, .. } => m.clamp(2, (self.n + self.degree()).max(2)),
+            _ => 0,
+        }
+    }
+
+    /// The working memory that the job needs (document 01, 'What must change shape').
+    pub fn need(&self) -> usize {
+        let (n, d, m) = (self.n, self.degree(), self.dimension());
+        let columns = match self.call {
+            Call::Krylov { .. } => n + (m + 3) * (n + d) + (m + 2) * (m + 2),
+            _ => 3 * n + 2 * d,
+        };
+        columns + if self.mass.is_some() { self.vals.len() } else { 0 }
+    }
+
+    /// How long the output has to be.
+    pub fn output(&self) -> usize {
+        match self.call {
+            Call::Batched => (self.count + 1) * self.n,
+            _ => self.n,
+        }
+    }
+
+    /// How long the vectors have to be.
+    pub fn vectors(&self) -> usize {
+        match self.call {
+            Call::Combination | Call::Krylov { .. } => self.count * self.n,
+            _ => self.n,
+        }
+    }
+
+    pub fn marked_out(&self) -> Vec<f64> {
+        (0..self.out).map(mark).collect()
+    }
+
+    pub fn marked_work(&self) -> Vec<f64> {
+        (0..self.work).map(|i| mark((1 << 32) + i)).collect()
+    }
+
+    /// The answer of a refusal that changes no lent memory.
+    pub fn refused(&self, number: u32, value: f64) -> Answer {
+        Answer { number, value, counts: [0; 3], out: self.marked_out(), work: self.marked_work() }
+    }
+
+    pub fn print(&self) -> String {
+        let (call, options) = match self.call {
+            Call::Combination => ("combination", String::new()),
+            Call::Krylov { tol, m, limit } => ("krylov", format!(" tol={} m={m} limit={limit}", double(&tol))),
+            Call::Action => ("action", String::new()),
+            Call::Batched => ("batched", String::new()),
+        };
+        let mass = self.mass.as_ref().map_or("none".into(), |m| doubles(m));
+        format!(
+            "call={call} n={} starts={} cols={} vals={} mass={mass} tau={} count={} w={}{options} out={} work={}",
+            self.n,
+            list(&self.starts, u32::to_string),
+            list(&self.cols, u32::to_string),
+            doubles(&self.vals),
+            double(&self.tau),
+            self.count,
+            doubles(&self.w),
+            self.out,
+            self.work
+        )
+    }
+
+    pub fn parse(line: &str) -> Result<Job, String> {
+        let words: Vec<(&str, &str)> =
+            line.split_whitespace().map(|w| w.split_once('=').ok_or(format!("no '=' in {w}"))).collect::<Result<_, _>>()?;
+        let get = |key: &str| words.iter().find(|w| w.0 == key).map(|w| w.1).ok_or(format!("no {key}="));
+        let number = |key: &str| get(key)?.parse::<usize>().map_err(|e| format!("{key}: {e}"));
+        let call = match get("call")? {
+            "combination" => Call::Combination,
+            "action" => Call::Action,
+            "batched" => Call::Batched,
+            "krylov" => Call::Krylov { tol: read_double(get("tol")?)?, m: number("m")?, limit: number("limit")? },
+            other => return Err(format!("no call {other}")),
+        };
+        Ok(Job {
+            call,
+            n: number("n")?,
+            starts: read_list(get("starts")?, read_u32)?,
+            cols: read_list(get("cols")?, read_u32)?,
+            vals: read_list(get("vals")?, read_double)?,
+            mass: match get("mass")? {
+                "none" => None,
+                m => Some(read_list(m, read_double)?),
+            },
+            tau: read_double(get("tau")?)?,
+            count: number("count")?,
+            w: read_list(get("w")?, read_double)?,
+            out: number("out")?,
+            work: number("work")?,
+        })
+    }
+}
+
+impl Answer {
+    pub fn print(&self) -> String {
+        let [a, b, c] = self.counts;
+        format!("number={} value={} counts={a},{b},{c} out={} work={}", self.number, double(&self.value), doubles(&self.out), doubles(&self.work))
+    }
+
+    /// Which parts differ, bit for bit; none if the answers are the same.
+    pub fn differs(&self, other: &Answer) -> Vec<&'static str> {
+        let same = |a: &[f64], b: &[f64]| a.len() == b.len() && a.iter().zip(b).all(|(x, y)| bits(*x) == bits(*y));
+        let mut parts = vec![];
+        if self.number != other.number {
+            parts.push("number");
+        }
+        if bits(self.value) != bits(other.value) {
+            parts.push("value");
+        }
+        if self.counts != other.counts {
+            parts.push("counts");
+        }
+        if !same(&self.out, &other.out) {
+            parts.push("out");
+        }
+        if !same(&self.work, &other.work) {
+            parts.push("work");
+        }
+        parts
+    }
+}
+
+fn double(x: &f64) -> String {
+    format!("{:016x}", bits(*x))
+}
+
+fn doubles(xs: &[f64]) -> String {
+    list(xs, double)
+}
+
+fn list<T>(xs: &[T], one: impl Fn(&T) -> String) -> String {
+    xs.iter().map(one).collect::<Vec<_>>().join(",")
+}
+
+fn read_list<T>(text: &str, one: impl Fn(&str) -> Result<T, String>) -> Result<Vec<T>, String> {
+    if text.is_empty() {
+        return Ok(vec![]);
+    }
+    text.split(',').map(one).collect()
+}
+
+fn read_u32(text: &str) -> Result<u32, String> {
+    text.parse().map_err(|e| format!("{text}: {e}"))
+}
+
+fn read_double(text: &str) -> Result<f64, String> {
+    if text.len() != 16 {
+        return Err(format!("{text}: not 16 hexadecimal digits"));
+    }
+    u64::from_str_radix(text, 16).map(f64::from_bits).map_err(|e| format!("{text}: {e}"))
+}

@@ -1,0 +1,56 @@
+//! What a run of the transcribed Rust does: paths taken and cost.
+
+use std::cell::{Cell, RefCell};
+use std::collections::BTreeMap;
+
+thread_local! {
+    static HITS: RefCell<BTreeMap<&'static str, u64>> = const { RefCell::new(BTreeMap::new()) };
+    static LEFT: Cell<u64> = const { Cell::new(u64::MAX) };
+}
+
+/// The payload of the unwinding that ends a run above its cost.
+pub struct Costly;
+
+pub fn hit(path: &'static str) {
+    HITS.with(|h| *h.borrow_mut().entry(path).or_default() += 1);
+}
+
+/// The paths taken since the last call of this function.
+pub fn take_hits() -> BTreeMap<&'static str, u64> {
+    HITS.take()
+}
+
+/// Sets what a run may cost.
+pub fn allow(cost: u64) {
+    LEFT.with(|l| l.set(cost));
+}
+
+/// Ends the run where its cost is spent.
+pub fn spend(cost: u64) {
+    LEFT.with(|l| match l.get().checked_sub(cost) {
+        Some(rest) => l.set(rest),
+        None => std::panic::resume_unwind(Box::new(Costly)),
+    });
+}
+
+pub fn first(x: f64) -> f64 {
+    let t = crate::transcribed::round2(x);
+    if t.is_nan() {
+        hit("first length NaN");
+    }
+    t
+}
+
+pub fn proposal(t: f64) -> f64 {
+    if t.is_nan() {
+        hit("proposal NaN");
+    }
+    t
+}
+
+pub fn retry(t: f64) -> f64 {
+    if t.is_nan() {
+        hit("retry NaN");
+    }
+    t
+}

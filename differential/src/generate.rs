@@ -1,0 +1,378 @@
+//! Jobs: every short matrix, random jobs, jobs around the boundaries, and damaged copies of good ones.
+//! At most 64 rows, 512 entries and 4,096 doubles of working memory.
+
+use jobs::{Call, Job};
+
+use crate::random::Random;
+
+pub const ROWS: usize = 64;
+pub const ENTRIES: usize = 512;
+pub const WORK: usize = 4096;
+
+#[derive(Clone, Copy, PartialEq)]
+pub enum Kind {
+    Combination,
+    Krylov,
+    Action,
+    Batched,
+}
+
+pub const KINDS: [Kind; 4] = [Kind::Combination, Kind::Krylov, Kind::Action, Kind::Batched];
+
+/// Radii of the plan (expmv.rs, `THETA_M`): arguments near s of them are boundaries.
+const THETA: [f64; 8] = [1.091, 1.260, 1.438, 2.429, 3.540, 0.6411, 9.305e-1, 2.996e-1];
+
+const SPECIAL: [f64; 20] = [
+    0.0,
+    -0.0,
+    1.0,
+    -1.0,
+    0.5,
+    5e-324,
+    -5e-324,
+    f64::MIN_POSITIVE,
+    2.225_073_858_507_201e-308,
+    f64::EPSILON,
+    1e-300,
+    1e-160,
+    1e154,
+    1e160,
+    1e300,
+    f64::MAX,
+    f64::MIN,
+    f64::INFINITY,
+    f64::NEG_INFINITY,
+    f64::NAN,
+];
+
+/// How many jobs [`short`] numbers.
+pub const SHORT: usize = 3 * 40 * 13 * 13;
+
+/// Every matrix of at most two rows, three row starts, two columns and two entries of a few values each.
+pub fn short(kind: Kind, index: usize) -> Job {
+    let (n, rest) = (index % 3, index / 3);
+    let (starts, rest) = (word(rest % 40, 3), rest / 40);
+    let (cols, vals) = (word(rest % 13, 2), word(rest / 13, 2));
+    let vals = vals.iter().map(|&v| [-2.0, 3.0, f64::NAN][v as usize]).collect();
+    let mut job = Job { call: call_of(kind, &mut Random(index as u64)), n, starts, cols, vals, mass: None, tau: 0.75, count: 1, w: vec![], out: 0, work: 0 };
+    job.w = (0..job.vectors()).map(|i| 1.5 - i as f64).collect();
+    job.out = job.output();
+    job.work = job.need();
+    job
+}
+
+/// The index-th word of digits 0, 1 and 2, shorter ones first.
+fn word(mut index: usize, longest: u32) -> Vec<u32> {
+    for length in 0..=longest {
+        let words = 3_usize.pow(length);
+        if index < words {
+            return (0..length).map(|i| (index / 3_usize.pow(i) % 3) as u32).collect();
+        }
+        index -= words;
+    }
+    unreachable!()
+}
+
+/// A random job.
+pub fn random(kind: Kind, r: &mut Random) -> Job {
+    let mut job = match r.below(20) {
+        0 => at_plan_boundary(kind, r),
+        1 => at_overflow(kind, r),
+        2 if kind == Kind::Krylov => decaying(r),
+        3 if kind == Kind::Krylov => huge(r),
+        4 if kind == Kind::Krylov => hard(r),
+        _ => good(kind, r),
+    };
+    if r.once_in(3) {
+        for _ in 0..r.from_to(1, 3) {
+            damage(&mut job, r);
+        }
+    }
+    job
+}
+
+fn call_of(kind: Kind, r: &mut Random) -> Call {
+    match kind {
+        Kind::Combination => Call::Combination,
+        Kind::Action => Call::Action,
+        Kind::Batched => Call::Batched,
+        Kind::Krylov => Call::Krylov {
+            tol: r.pick(&[1e-10, 1e-10, 1e-6, 1e-3, 0.5, 1e-14, 1e-15, 1e-30]),
+            m: r.pick(&[30, 30, 20, 10, 7, 5, 4, 3, 2, 2, 1, 0, 1000]),
+            limit: r.pick(&[1, 2, 3, 10, 100, 1000, 100_000]),
+        },
+    }
+}
+
+/// A modest number, seldom one far from 1, more seldom a special one.
+fn number(r: &mut Random) -> f64 {
+    let unit = 2.0 * r.unit() - 1.0;
+    match r.below(40) {
+        0..=11 => r.from_to(-4, 4) as f64,
+        12..=34 => unit * [1.0, 3.0, 10.0][r.below(3)],
+        35..=37 => unit * 2.0_f64.powi(r.from_to(-40, 40) as i32),
+        38 => unit * 2.0_f64.powi(r.from_to(-300, 300) as i32),
+        _ => r.pick(&SPECIAL[..14]),
+    }
+}
+
+fn rows(r: &mut Random) -> usize {
+    match r.below(10) {
+        0..=5 => r.from_to(1, 4) as usize,
+        6..=8 => r.from_to(5, 16) as usize,
+        _ => r.from_to(17, ROWS as i64) as usize,
+    }
+}
+
+/// Row starts, columns and entries of n rows.
+fn matrix(n: usize, r: &mut Random) -> (Vec<u32>, Vec<u32>, Vec<f64>) {
+    let (mut starts, mut cols, mut vals) = (vec![], vec![], vec![]);
+    let shape = r.below(8);
+    if shape == 0 && r.once_in(2) {
+        // entries before the first row belong to no row
+        for _ in 0..r.from_to(1, 3) {
+            cols.push(r.below(n) as u32);
+            vals.push(number(r));
+        }
+    }
+    let scale = if r.once_in(4) { 2.0_f64.powi(r.from_to(-6, 6) as i32) } else { 1.0 };
+    for i in 0..n {
+        starts.push(vals.len() as u32);
+        let mut put = |c: usize, v: f64| {
+            cols.push(c as u32);
+            vals.push(v * scale);
+        };
+        match shape {
+            // diffusion along a line
+            1 | 2 => {
+                let k = 0.5 + r.unit();
+                if i > 0 {
+                    put(i - 1, -k);
+                }
+                put(i, 2.0 * k);
+                if i + 1 < n {
+                    put(i + 1, -k);
+                }
+            }
+            3 => put(i, number(r)),
+            4 if i + 1 < n => put(i + 1, number(r)),
+            4 => {}
+            5 if n <= 16 => (0..n).for_each(|c| put(c, number(r))),
+            6 => {}
+            _ => (0..r.below(5).min(ENTRIES / n - 1)).for_each(|_| put(r.below(n), number(r))),
+        }
+    }
+    starts.push(vals.len() as u32);
+    (starts, cols, vals)
+}
+
+fn norm(job: &Job) -> f64 {
+    let mass = |i: usize| job.mass.as_ref().map_or(1.0, |m| m[i]);
+    (0..job.n)
+        .map(|i| job.vals[job.starts[i] as usize..job.starts[i + 1] as usize].iter().map(|v| (v / mass(i)).abs()).sum())
+        .fold(0.0, f64::max)
+}
+
+/// A job that is mostly accepted, at tau x norm up to some hundreds.
+fn good(kind: Kind, r: &mut Random) -> Job {
+    let n = rows(r);
+    let (starts, cols, vals) = matrix(n, r);
+    let mass = r.once_in(3).then(|| (0..n).map(|_| 2.0_f64.powi(r.from_to(-3, 3) as i32) * (0.5 + r.unit())).collect());
+    let count = match kind {
+        Kind::Combination | Kind::Krylov => r.from_to(1, 4),
+        _ => r.from_to(0, 3),
+    } as usize;
+    let mut job = Job { call: call_of(kind, r), n, starts, cols, vals, mass, tau: 1.0, count, w: vec![], out: 0, work: 0 };
+    let norm = norm(&job);
+    job.tau = match r.below(12) {
+        0 => 0.0,
+        1 => r.pick(&[-0.0, 5e-324, 1e-300, f64::EPSILON]),
+        2..=4 => r.from_to(1, 8) as f64 / 4.0,
+        _ => 10.0_f64.powf(4.5 * r.unit() - 2.0) / if norm > 0.0 && norm.is_finite() { norm } else { 1.0 },
+    };
+    fill(&mut job, r);
+    job
+}
+
+/// Vectors, output and working memory for a job that has the rest.
+fn fill(job: &mut Job, r: &mut Random) {
+    job.w.clear();
+    while job.w.len() < job.vectors() {
+        let scale = if r.once_in(5) { 2.0_f64.powi(r.from_to(-60, 60) as i32) } else { 1.0 };
+        let shape = r.below(8);
+        for _ in 0..job.n {
+            job.w.push(match shape {
+                0 => 0.0,
+                1 => -0.0,
+                2 => scale,
+                _ => number(r) * scale,
+            });
+        }
+    }
+    job.out = job.output();
+    while job.need() > WORK {
+        let Call::Krylov { m, .. } = &mut job.call else { unreachable!() };
+        *m = (*m).min(2 * ROWS) / 2;
+    }
+    job.work = job.need() + if r.once_in(3) { r.below(6) } else { 0 };
+}
+
+/// One row, and an argument within some units of s radii.
+fn at_plan_boundary(kind: Kind, r: &mut Random) -> Job {
+    let mut job = good(kind, r);
+    let a = r.pick(&[1.0, 2.0, -3.0, 0.7, 1e-3]);
+    job.n = 1;
+    job.starts = vec![0, 1];
+    job.cols = vec![0];
+    job.vals = vec![a];
+    job.mass = None;
+    let argument = r.pick(&THETA) * r.from_to(1, 40) as f64;
+    job.tau = f64::from_bits((((argument / 2.0 - 2.0) / a).abs().to_bits() as i64 + r.from_to(-3, 3)).max(0) as u64);
+    if r.once_in(8) {
+        // 4,294,967,295 sweeps and more
+        job.tau = 1.6e10 * (1.0 + r.unit()) / a.abs();
+    }
+    fill(&mut job, r);
+    job
+}
+
+/// Vectors, tau and entries so large that sums and products overflow, or so small that the scaling does.
+fn at_overflow(kind: Kind, r: &mut Random) -> Job {
+    let mut job = good(kind, r);
+    match r.below(4) {
+        0 => {
+            let top = r.pick(&[1e308, 1e300, 1e200, 1e154, 1e100]);
+            job.w.iter_mut().for_each(|x| *x *= top);
+            job.tau = r.pick(&[1.0, 2.0, 1e2, 1e8, 1e154]);
+            job.vals.iter_mut().for_each(|x| *x /= job.tau);
+        }
+        1 => {
+            job.w.iter_mut().for_each(|x| *x *= 1e-300);
+            job.tau = r.pick(&[1e3, 1e10, 1e60, 1e100, 1e200]);
+            job.vals.iter_mut().for_each(|x| *x /= job.tau);
+        }
+        2 => {
+            job.vals.iter_mut().for_each(|x| *x *= 1e307);
+            job.tau = r.pick(&[1.0, 1e-300, 1e-307, 10.0, 1e-308]);
+        }
+        _ => job.tau *= r.pick(&[1e9, 1e10, 1e12, 1e300, 1e308]),
+    }
+    job
+}
+
+/// A field that decays so far that its squares underflow.
+fn decaying(r: &mut Random) -> Job {
+    let mut job = good(Kind::Krylov, r);
+    let n = r.from_to(1, 8) as usize;
+    job.n = n;
+    job.starts = (0..=n as u32).collect();
+    job.cols = (0..n as u32).collect();
+    let least = r.pick(&[370.0, 500.0, 800.0, 1200.0]);
+    job.vals = (0..n).map(|_| least * (1.0 + r.unit() * r.pick(&[0.0, 0.1, 1.0]))).collect();
+    job.mass = None;
+    job.tau = 1.0;
+    job.count = 1;
+    job.call = Call::Krylov { tol: r.pick(&[1e-10, 1e-3, 0.5]), m: r.pick(&[2, 3, 5, 10]), limit: 100_000 };
+    fill(&mut job, r);
+    job
+}
+
+/// Entries whose squares overflow in the columns, at a finite argument.
+fn huge(r: &mut Random) -> Job {
+    let mut job = good(Kind::Krylov, r);
+    let scale = r.pick(&[1e5, 1e10, 1e150, 1e160, 1e200, 1e300]);
+    job.vals.iter_mut().for_each(|x| *x *= scale);
+    if r.once_in(2) {
+        job.tau = r.unit() * r.pick(&[1.0, 1.0 / scale, 1e-5]);
+    }
+    job
+}
+
+/// A tolerance that lengths fail to meet, in few dimensions.
+fn hard(r: &mut Random) -> Job {
+    let mut job = good(Kind::Krylov, r);
+    job.call = Call::Krylov { tol: r.pick(&[1e-16, 1e-30, 1e-100, 1e-300, 5e-324, 1e-15]), m: r.pick(&[2, 3, 4, 6]), limit: r.pick(&[1, 3, 10, 50]) };
+    job.tau *= r.pick(&[1.0, 10.0, 1e3, 1e-3]);
+    fill(&mut job, r);
+    job
+}
+
+/// One thing that is wrong, or at a limit.
+fn damage(job: &mut Job, r: &mut Random) {
+    let any = r.pick(&SPECIAL);
+    let odd = r.pick(&SPECIAL[17..]);
+    let row = |job: &Job, r: &mut Random| r.below(job.starts.len().max(1));
+    match r.below(30) {
+        0 => job.n = r.pick(&[0, job.n + 1, job.n.saturating_sub(1)]),
+        1 => drop(job.starts.pop()),
+        2 => job.starts.push(job.vals.len() as u32),
+        3 => drop(job.cols.pop()),
+        4 => drop(job.vals.pop()),
+        5 => job.vals.push(any),
+        6 => {
+            let i = row(job, r);
+            if let Some(s) = job.starts.get_mut(i) {
+                *s = s.wrapping_add(r.pick(&[1, 2, u32::MAX]));
+            }
+        }
+        7 => {
+            if !job.cols.is_empty() {
+                let k = r.below(job.cols.len());
+                job.cols[k] = r.pick(&[job.n as u32, job.n as u32 + 1, u32::MAX, 0]);
+            }
+        }
+        8 | 9 => {
+            if !job.vals.is_empty() {
+                let k = r.below(job.vals.len());
+                job.vals[k] = if r.once_in(2) { any } else { odd };
+            }
+        }
+        10 => job.mass = Some(vec![1.0; r.pick(&[job.n, job.n + 1, job.n.saturating_sub(1)])]),
+        11 | 12 => {
+            let mut mass = job.mass.take().unwrap_or_else(|| vec![2.0; job.n]);
+            if !mass.is_empty() {
+                let k = r.below(mass.len());
+                mass[k] = any;
+            }
+            job.mass = Some(mass);
+        }
+        13 => {
+            // entries before the first row
+            if let Some(s) = job.starts.first_mut() {
+                *s += 1;
+            }
+        }
+        14 => job.vals.iter_mut().for_each(|v| *v *= 1e308),
+        15 => job.mass = Some(vec![r.pick(&[1e-300, 5e-324, 1e300]); job.n]),
+        16 => job.count = r.pick(&[0, 4, 5, 6, 3]),
+        17 => {
+            job.count = r.pick(&[0, 4, 5, 3, 1]);
+            job.w.resize(job.vectors(), 1.0);
+            job.out = job.output();
+            job.work = job.need().min(WORK);
+        }
+        18 | 19 => job.tau = any,
+        20 => job.tau = -job.tau,
+        21 => job.out = r.pick(&[0, job.out + 1, job.out.saturating_sub(1), 2 * job.out]),
+        22 => drop(job.w.pop()),
+        23 => job.w.push(any),
+        24 | 25 => {
+            if !job.w.is_empty() {
+                let k = r.below(job.w.len());
+                job.w[k] = if r.once_in(2) { any } else { odd };
+            }
+        }
+        26 => {
+            if let Call::Krylov { tol, .. } = &mut job.call {
+                *tol = r.pick(&[0.0, 1.0, -1.0, f64::NAN, f64::INFINITY, 5e-324, 1.0 - f64::EPSILON / 2.0, 1.0 + f64::EPSILON]);
+            }
+        }
+        27 => {
+            if let Call::Krylov { limit, m, .. } = &mut job.call {
+                (*limit, *m) = r.pick(&[(0, *m), (1_000_000, *m), (1_000_001, *m), (*limit, 129), (*limit, 1000)]);
+            }
+        }
+        28 => job.work = job.work.saturating_sub(r.pick(&[1, 1, 6, 50])),
+        _ => job.work = job.need().saturating_sub(1).min(WORK),
+    }
+}

@@ -1,0 +1,54 @@
+//! The reference answer of a job: the Rust's where the job is in its domain, and where document 01 adds a refusal
+//! (9, 16, 20, 26, and 15 of the action calls) that number, unless the Rust refuses by a lower one.
+
+use jobs::{Answer, Call, Job};
+
+/// The least added refusal of a job that passes the checks before it, with its double.
+pub fn added(job: &Job) -> Option<(u32, f64)> {
+    let action = matches!(job.call, Call::Action | Call::Batched);
+    if job.mass.is_some() && job.starts.first().is_some_and(|&s| s != 0) {
+        return Some((9, f64::NAN));
+    }
+    if action && job.out != job.output() {
+        return Some((15, job.out as f64));
+    }
+    if job.w.len() != job.vectors() {
+        return Some((16, job.w.len() as f64));
+    }
+    if let Call::Krylov { limit, .. } = job.call {
+        if job.dimension() > 128 || limit > 1_000_000 {
+            return Some((20, f64::NAN));
+        }
+    }
+    (job.work < job.need()).then_some((26, f64::NAN))
+}
+
+/// A job that passes or fails the checks below the added refusal's as `job` does, and that the Rust takes.
+fn tamed(job: &Job, number: u32) -> Job {
+    let mut t = job.clone();
+    if number == 9 {
+        t.call = Call::Action;
+        t.count = 4;
+    }
+    if t.w.len() != t.vectors() {
+        t.w = vec![0.0; t.vectors()];
+    }
+    if matches!(t.call, Call::Action | Call::Batched) {
+        t.out = t.output();
+    }
+    if let Call::Krylov { m, limit, .. } = &mut t.call {
+        *m = (*m).min(2);
+        *limit = (*limit).min(1);
+    }
+    t
+}
+
+/// The reference by one build of the Rust; `None` where the run costs too much.
+pub fn answer(job: &Job, rust: impl Fn(&Job) -> Option<Answer>) -> Option<Answer> {
+    let Some((number, value)) = added(job) else { return rust(job) };
+    let below = rust(&tamed(job, number))?;
+    if below.number != 0 && below.number < number {
+        return Some(job.refused(below.number, below.value));
+    }
+    Some(job.refused(number, value))
+}
