@@ -2,4 +2,5 @@
 pub mod GramSchmidt
 pub mod Turns
 pub mod Answers
+pub mod Products
 pub mod Examples

@@ -14,16 +14,10 @@ use lib.Ieee.Fits.{down-pos, round-is}
 use lib.Ieee.Exact.{HasValue, round-exact}
 use lib.Ieee.Order.{le-of-values, transfer}
 use Rattle.doubles.specs.Value.{val}
-use Rattle.doubles.specs.F64.{+0, _⊕_, _⩽_}
+use Rattle.doubles.specs.F64.{+0, _⊕_, _⩽_, nonneg}
 use Rattle.doubles.proofs.Patterns.{bits-value, infinity, val-le}
 use Rattle.doubles.proofs.Total.{le→before, before→le, le-highest, ⩽-trans, ⩽-or-⋖, ⋖-not, sign}
 use Rattle.doubles.proofs.Monotone
-
--- no NaN, and the sign clear
-abbrev pub nonneg : Float → Bool
-nonneg nan = false
-nonneg (inf s) = not s
-nonneg (fin s m e) = not s
 
 abbrev pub infinite : Float → Bool
 infinite nan = false

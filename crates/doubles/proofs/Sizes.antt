@@ -9,11 +9,11 @@ use lib.Ieee.{Float, nan, inf, fin, binary64, lt, le, ne, fits, isNan, ofBits}
 use lib.Ieee.Fits.{add-fits}
 use lib.Ieee.Bits.{ofBits-fits, is-true}
 use Rattle.lists.specs.Loop.{iter}
-use Rattle.doubles.specs.F64.{_⊕_, _⋖_, _⩽_, +0, abs, is-finite}
+use Rattle.doubles.specs.F64.{_⊕_, _⋖_, _⩽_, +0, abs, is-finite, nonneg}
 use Rattle.doubles.specs.Sum.{sum}
 use Rattle.doubles.proofs.Magnitude.{is-nan}
 use Rattle.doubles.proofs.Total.{⩽-or-⋖, ⩽-antisymm}
-use Rattle.doubles.proofs.Order.{nonneg, nonneg-add, nonneg-number, nonneg-zero, nonneg-sign}
+use Rattle.doubles.proofs.Order.{nonneg-add, nonneg-number, nonneg-zero, nonneg-sign}
 
 pub zero-nonneg : T (nonneg +0)
 unfolding ofBits

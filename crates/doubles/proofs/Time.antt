@@ -16,10 +16,10 @@ use lib.Ieee.Nearest.{closest}
 use lib.Ieee.Order.{round-mono}
 use lib.Ieee.Scale.{grid, round-same, round-val}
 use Rattle.doubles.specs.Value.{val}
-use Rattle.doubles.specs.F64.{_⊕_, _⊖_, _⩽_, _⋖_, +0, 1f, is-finite}
+use Rattle.doubles.specs.F64.{_⊕_, _⊖_, _⩽_, _⋖_, +0, 1f, is-finite, nonneg}
 use Rattle.doubles.proofs.Total.{le-number-left, le-number-right, ⩽-refl, ⋖-⩽, ⩽-antisymm}
 use Rattle.doubles.proofs.Monotone.{add-mono, add-grows, add-nonneg, add-number, sub-number, sub-shrinks, sub-above}
-use Rattle.doubles.proofs.Order.{nonneg, nonneg-number, nonneg-zero, nonneg-sign, nonneg-add, nonneg-of-value, nonneg-round, View, endless, number, view, le→cross}
+use Rattle.doubles.proofs.Order.{nonneg-number, nonneg-zero, nonneg-sign, nonneg-add, nonneg-of-value, nonneg-round, View, endless, number, view, le→cross}
 use Rattle.doubles.proofs.Unique.{pattern-value, finite-of-value}
 use Rattle.doubles.proofs.Nearest.{Near, closest-near, grid-units}
 use Rattle.doubles.proofs.Arithmetic.{add-units}

@@ -1,5 +1,5 @@
 -- Doubles: Rust's operators under short signs, each the operation of `lib.Ieee` at binary64, rounded once. Definitions only.
-use mathlib.Core.Bool.{Bool, true, false, cond}
+use mathlib.Core.Bool.{Bool, true, false, not, cond}
 use mathlib.Core.List.{List}
 use Prim.Native.Nat.{ℕ}
 use lib.IntN.{pos}
@@ -73,6 +73,12 @@ abbrev pub is-finite : Float → Bool
 is-finite nan = false
 is-finite (inf s) = false
 is-finite (fin s m e) = true
+
+-- no NaN, and the sign clear
+abbrev pub nonneg : Float → Bool
+nonneg nan = false
+nonneg (inf s) = not s
+nonneg (fin s m e) = not s
 
 -- y where x is NaN or the test says so, else x
 unfoldable pub replaced : Float → Float → Bool → Float

@@ -12,7 +12,7 @@ use Rattle.lists.specs.Loop.{iter}
 use Rattle.doubles.specs.F64.{if_then_else_, _⋖_, +0, is-finite}
 use Rattle.expmv.specs.declared.Selected.{Selected}
 use Rattle.expmv.specs.declared.Selected.the-variants.{NoRow, Row}
-use Rattle.expmv.specs.Select.{degree, admissible, sweeps, cost, cheaper, consider, select-s-m}
+use Rattle.expmv.specs.Select.{degree, admissible, sweeps, cost, cheaper, consider, select-s-m, Bounds}
 use Rattle.expmv.proofs.Rows.{degree-bounds, degree-most, sweeps-bounds}
 
 -- row i is the first of least cost among the admissible rows below n, and s and m are its
@@ -137,13 +137,6 @@ none-if m-max arg (no-row h) = go (select-s-m m-max arg) (outcome m-max arg _ _ 
     go : (x : Selected) → Given m-max arg x → x ≡ NoRow
     go NoRow b = refl
     go (Row s m) (i, b) = absurd (false-true (h i (b .row)) (b .fits))
-
-pub record Bounds (m-max s m : ℕ) : Type 0 where
-  pub s-some : 1 ≤ s
-  pub s-most : s ≤ 4294967295
-  pub m-some : 1 ≤ m
-  pub m-most : m ≤ 30
-  pub m-allowed : m ≤ m-max
 
 pub bounds : (m-max : ℕ) (arg : Float) (s m : ℕ) → select-s-m m-max arg ≡ Row s m → Bounds m-max s m
 bounds m-max arg s m e = go (least m-max arg s m e)

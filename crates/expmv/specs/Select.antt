@@ -1,7 +1,7 @@
 -- `select_s_m` over `THETA_M` (expmv.rs; Al-Mohy and Higham 2011, Table 3.1 and Algorithm 3.2). Definitions only.
 use mathlib.Core.Bool.{Bool, true, false, not, _&&_}
 use mathlib.Core.List.{List, [], _∷_}
-use Prim.Native.Nat.{ℕ, _*_, _^_}
+use Prim.Native.Nat.{ℕ, _*_, _^_, _≤_}
 use lib.Dec.{leb, ltb}
 use lib.ListN.{getD}
 use lib.Ieee.{Float, nan, binary64, round, toUnsigned}
@@ -62,6 +62,14 @@ consider m-max arg i best = if admissible m-max arg i then cheaper (sweeps arg i
 -- the first admissible row of least cost; none for an argument that is negative or not finite
 unfoldable pub select-s-m : ℕ → Float → Selected
 select-s-m m-max arg = if is-finite arg && not (arg ⋖ +0) then iter (consider m-max arg) 22 NoRow else NoRow
+
+-- what s and m of a row chosen lie within
+pub record Bounds (m-max s m : ℕ) : Type 0 where
+  pub s-some : 1 ≤ s
+  pub s-most : s ≤ 4294967295
+  pub m-some : 1 ≤ m
+  pub m-most : m ≤ 30
+  pub m-allowed : m ≤ m-max
 
 -- to compute: a line `unfolding open-Select` opens every definition of this file and of those below it
 unfoldable pub open-Select : Unit {0}

@@ -9,8 +9,8 @@ use mathlib.Core.Logic.{_⊎_, ⊎-elim}
 use Rattle.lists.specs.Loop.{iter}
 use Rattle.lists.proofs.Bounds.{lt-or-le}
 use Rattle.lists.proofs.Loop.{iter-none, iter-turn}
-use Rattle.doubles.specs.F64.{_⋖_, +0, at, maxNum}
-use Rattle.doubles.proofs.Order.{nonneg, nonneg-number}
+use Rattle.doubles.specs.F64.{_⋖_, +0, at, maxNum, nonneg}
+use Rattle.doubles.proofs.Order.{nonneg-number}
 use Rattle.doubles.proofs.Sizes.{zero-nonneg, abs-nonneg, sum-nonneg, sum-fits, equals-itself, not-above-zero}
 use Rattle.float.proofs.Extremes.{where-told, where-not}
 use Rattle.general_operator.specs.Csr.{Csr, start, size-sum, row-sum, row-sum-norm}

@@ -11,9 +11,9 @@ use lib.Ieee.{Float}
 use borrow.Author.Tests.{lt-ltb, eqb-true, not-false}
 use Rattle.lists.specs.Find.{exists}
 use Rattle.lists.proofs.Find.{Passed, found-at, found-none, none-below}
-use Rattle.doubles.specs.F64.{_⋖_, _⩽_, +0, at, is-finite}
+use Rattle.doubles.specs.F64.{_⋖_, _⩽_, +0, at, is-finite, nonneg}
 use Rattle.doubles.proofs.Monotone.{finite-number, div-number}
-use Rattle.doubles.proofs.Order.{nonneg, nonneg-number}
+use Rattle.doubles.proofs.Order.{nonneg-number}
 use Rattle.doubles.proofs.Sizes.{zero-nonneg}
 use Rattle.doubles.proofs.Total.{not-⩽}
 use Rattle.checks.specs.First.{Check, first}

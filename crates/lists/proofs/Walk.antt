@@ -1,6 +1,7 @@
 -- A counted loop that may end early: turn i of at most n. Assumes nothing.
-use mathlib.Core.Path.{_≡_, refl, sym, _∙_, ap}
+use mathlib.Core.Path.{_≡_, refl, sym, _∙_, ap, subst}
 use Prim.Native.Nat.{ℕ, zero, suc, _+_, _-_, _≤_, _<_}
+use native.Mathlib.Nat.{add-zero}
 use native.Mathlib.Omega.{arith}
 use Rattle.lists.specs.Walk.{Turn, on, out, walk}
 
@@ -35,3 +36,19 @@ module _ {S E : Type 0} where
   left-none {step} {n} {i} {o₀} {o} h l =
       let e : n - i ≡ 0 = omega arith in
       sym (h .same ∙ ap (λ (k : ℕ). walk step k i o) e)
+
+-- ---- a walk keeps what each of its turns keeps
+module _ {S E : Type 0} (P : ℕ → S → Type 0) (Q : ℕ → E → Type 0) where
+  abbrev pub Kept : ℕ → Turn S E → Type 0
+  Kept i (on s) = P i s
+  Kept i (out e) = Q i e
+
+  pub walk-keeps : (step : ℕ → S → Turn S E) → ((i : ℕ) (s : S) → P i s → Kept (i + 1) (step i s)) → ((i j : ℕ) (e : E) → i ≤ j → Q i e → Q j e) → (k i : ℕ) (o : Turn S E) → Kept i o → Kept (i + k) (walk step k i o)
+  unfolding walk
+  walk-keeps step one later zero i o h = subst (λ (n : ℕ). Kept n o) (sym (add-zero i)) h
+  walk-keeps step one later (suc k) i (on s) h =
+      subst (λ (n : ℕ). Kept n (walk step k (i + 1) (step i s))) (next i k) (walk-keeps step one later k (i + 1) (step i s) (one i s h))
+    where
+      next : (i k : ℕ) → i + 1 + k ≡ i + suc k
+      next i k = omega arith
+  walk-keeps step one later (suc k) i (out e) h = later i (i + suc k) e (omega arith) h

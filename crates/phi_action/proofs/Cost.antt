@@ -4,7 +4,7 @@ use mathlib.Core.Bool.{Bool, true, false, not, true≢false}
 use mathlib.Core.List.{List, [], _∷_, _++_}
 use mathlib.Core.Logic.{⊎-elim}
 use mathlib.Core.Option.{none, some}
-use Prim.Native.Nat.{ℕ, zero, suc, _-_, _*_, _≤_, _<_}
+use Prim.Native.Nat.{ℕ, zero, suc, _-_, _*_, _<_}
 use native.Mathlib.Omega.{arith}
 use native.Mathlib.Nat.{le-trans, one-mul}
 use lib.Dec.{T, ltb}
@@ -24,11 +24,11 @@ use Rattle.general_operator.specs.Csr.{Csr, row-sum-norm}
 use Rattle.general_operator.specs.Checks.{shape-checks, row-checks, entry-checks, matrix-checks}
 use Rattle.general_operator.proofs.Sound.{or-false}
 use Rattle.generator_action.specs.Mass.{Mass, quotients, generator-checks, bound-checks, mass-checks, sum-checks, norm-checks}
-use Rattle.expmv.specs.Select.{select-s-m, admissible, cost, M-MAX}
+use Rattle.expmv.specs.Select.{select-s-m, admissible, M-MAX}
 use Rattle.expmv.specs.declared.Selected.{Selected}
 use Rattle.expmv.specs.declared.Selected.the-variants.{NoRow, Row}
 use Rattle.expmv.proofs.Least as Least
-use Rattle.expmv.proofs.Least.{Bounds, least, cost-of, none-only, none-if}
+use Rattle.expmv.proofs.Least.{least, cost-of, none-only, none-if}
 use Rattle.phi_action_helpers.specs.declared.SweepPlan.{SweepPlan}
 use Rattle.phi_shift.specs.Plan.{argument, sweep-plan}
 use Rattle.phi_shift.specs.declared.PlanAnswer.{PlanAnswer}
@@ -40,16 +40,10 @@ use Rattle.phi_action.specs.declared.TaylorReport.{TaylorReport}
 use Rattle.phi_action.specs.declared.TaylorAnswer.{TaylorAnswer}
 use Rattle.phi_action.specs.declared.TaylorAnswer.the-variants.{Refusal, Soaked}
 use Rattle.phi_action.specs.Calls.{Fields, after-plan, combination-checks, phi-combination, action-checks, phi-action, phi-action-batched}
+use Rattle.phi_action.specs.Cost.{TaylorCost, NoRowFits, Exactly25}
 use Rattle.phi_action.proofs.Batch.{soak-counted, batch-counted}
 use Rattle.phi_action.proofs.Jobs.{has-plan}
 use Rattle.phi_action.proofs.Admitted.{schedule-known}
-
--- of an accepted job of `runs` functions: the products are exactly runs * (s * m), and s * m is at most the cost of any row that the
--- unshifted argument admits
-pub record TaylorCost (tau norm : Float) (runs : ℕ) (r : TaylorReport) : Type 0 where
-  pub counted : r .applications ≡ runs * (r .s * r .m)
-  pub least : (j : ℕ) → j < 22 → admissible M-MAX (argument tau norm) j ≡ true → r .s * r .m ≤ cost (argument tau norm) j
-  pub bounded : Bounds M-MAX (r .s) (r .m)
 
 reported : {a b : TaylorReport} → Soaked a ≡ Soaked b → a ≡ b
 reported e = cc
@@ -83,16 +77,6 @@ module _ (tau norm : Float) (q : Csr) (runs : ℕ) (run : SweepPlan → Fields) 
   of-call cs need output memory e = of-plan need output memory _ refl (accepted (first cs) output memory _ e)
 
 -- ---- 25
--- 25 refuses: no check of a lower number holds, and no row is admissible
-pub record NoRowFits (cs : List Check) (tau norm x : Float) : Type 0 where
-  pub before : Sound ≡ first (below 25 cs)
-  pub none : (j : ℕ) → j < 22 → admissible M-MAX (argument tau norm) j ≡ false
-  pub told : x ≡ argument tau norm
-
--- a call is refused by 25 exactly so
-abbrev pub Exactly25 : Call TaylorAnswer → List Check → Float → Float → Type 0
-Exactly25 c cs tau norm = (x : Float) → (c .answer ≡ Refusal 25 x → NoRowFits cs tau norm x) × (NoRowFits cs tau norm x → c .answer ≡ Refusal 25 x)
-
 -- tau, the norm and the argument are numbers from 0 on where 14, 23 and 24 pass
 two-nonneg : T (+0 ⩽ 2f)
 unfolding le ofBits

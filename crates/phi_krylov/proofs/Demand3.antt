@@ -1,79 +1,46 @@
 -- Demand 3, one claim on whole runs of the four calls (document 01, 'What demand 3 counts'). Assumes nothing.
 use mathlib.Core.Path.{_≡_, refl, sym, ap, _∙_, subst}
-use mathlib.Core.Logic.{_⊎_, inl, inr}
-use mathlib.Core.Bool.{Bool, true, false}
-use mathlib.Core.List.{List, []}
+use mathlib.Core.List.{List}
 use mathlib.Core.Option.{none, some}
-use Prim.Native.Nat.{ℕ, zero, suc, _+_, _-_, _*_, _≤_, _<_}
+use Prim.Native.Nat.{ℕ, zero, _-_, _<_}
 use native.Mathlib.Omega.{arith}
-use lib.Dec.{T, eqb}
 use lib.ListN.{length}
-use lib.Ieee.{Float, eq}
+use lib.Ieee.{Float}
 use borrow.Author.Tests.{eqb-false}
-use Rattle.doubles.specs.F64.{_⋖_, +0, 1f}
 use Rattle.checks.specs.First.{Check, first, below}
 use Rattle.checks.specs.declared.Checked.{Checked}
 use Rattle.checks.specs.declared.Checked.the-variants.{Sound, Refused}
 use Rattle.checks.proofs.First.{sound-cons, sound-append}
 use Rattle.checks.proofs.Numbers.{below-number}
-use Rattle.general_operator.specs.Csr.{Csr, row-sum-norm}
+use Rattle.general_operator.specs.Csr.{Csr}
 use Rattle.general_operator.specs.Checks.{shape-checks, row-checks, entry-checks, matrix-checks}
-use Rattle.generator_action.specs.Mass.{Mass, quotients, generator-checks, bound-checks as sums-checks, mass-checks, sum-checks, norm-checks}
+use Rattle.generator_action.specs.Mass.{Mass, generator-checks, bound-checks as sums-checks, mass-checks, sum-checks, norm-checks}
 use Rattle.combination.specs.Call.{Call, unless-refused}
-use Rattle.combination.specs.Combination.{eta-of, combination-operator, combination-start}
+use Rattle.combination.specs.Combination.{eta-of, combination-start}
 use Rattle.combination.specs.Checks.{count-checks, time-checks, length-checks, finite-checks, magnitude-checks, memory-checks, vector-checks}
-use Rattle.phi_action.specs.Calls.{combination-checks, phi-combination, action-checks, phi-action, phi-action-batched}
-use Rattle.phi_action.specs.declared.TaylorReport.{TaylorReport}
-use Rattle.phi_action.specs.declared.TaylorAnswer.the-variants as taylor
 use Rattle.phi_action.proofs.Admitted.{vectors-known, first-vector, length-start}
-use Rattle.phi_action.proofs.Cost.{TaylorCost, Exactly25, combination-cost, action-cost, batch-cost, combination-25, action-25, batch-25}
-use Rattle.phi_krylov_arnoldi.specs.Run.{State, End, finished, refused, clamp-m, expv}
-use Rattle.phi_krylov_arnoldi.specs.Trace.{Accepted, Attempt, total, time-after, expv-trace, expv-attempts}
+use Rattle.phi_action.proofs.Cost.{combination-cost, action-cost, batch-cost, combination-25, action-25, batch-25}
+use Rattle.phi_krylov_arnoldi.specs.Run.{State, End, finished, refused, clamp-m}
 use Rattle.phi_krylov_arnoldi.specs.declared.KrylovPhiReport.{KrylovPhiReport}
-use Rattle.phi_krylov_arnoldi.proofs.Counts.{last, Each}
-use Rattle.phi_krylov_arnoldi.proofs.Lengths.{Steps, Short}
-use Rattle.phi_krylov_arnoldi.proofs.WholeRun.{Whole, Outcome, means-27, when-27, whole-expv}
-use Rattle.phi_krylov.specs.KrylovCall.{bound, dimension, option-checks, bound-checks, run-checks, krylov-need, krylov-checks, after-run, phi-combination-krylov}
+use Rattle.whole_run.specs.Trace.{Accepted, Attempt}
+use Rattle.whole_run.specs.Claim.{last, Whole}
+use Rattle.whole_run.proofs.WholeRun.{means-27, when-27, whole-expv}
+use Rattle.phi_krylov.specs.KrylovCall.{dimension, option-checks, bound-checks, run-checks, krylov-need, krylov-checks, after-run, phi-combination-krylov}
+use Rattle.phi_krylov.specs.Demand3.{KrylovCost, AtLimit, run-of, trace-of, attempts-of, Exactly27, Demand3}
 use Rattle.phi_krylov.specs.declared.KrylovPhiOptions.{KrylovPhiOptions}
 use Rattle.phi_krylov.specs.declared.KrylovAnswer.{KrylovAnswer}
 use Rattle.phi_krylov.specs.declared.KrylovAnswer.the-variants.{Refusal, Soaked}
 
--- ---- the claim on a Krylov call
--- an accepted job of dimension M, whose run accepted the substeps l and tried the lengths t
-pub record KrylovCost (M limit : ℕ) (l : List Accepted) (t : List Attempt) (s : State) : Type 0 where
-  -- each count is the number made
-  pub substeps : s .report .substeps ≡ length l
-  pub applications : s .report .matvecs ≡ total (λ a. a .products) l
-  pub rejections : s .report .rejected ≡ total (λ a. a .rejections) l
-  pub tried : s .report .substeps + s .report .rejected ≡ length t
-  -- and bounded
-  pub few-substeps : s .report .substeps ≤ limit
-  pub few-applications : s .report .matvecs ≤ suc M * s .report .substeps
-  pub few-rejections : s .report .rejected ≤ 10 * s .report .substeps
-  -- no length tried is above the rounded 1 - time; each accepted one is no NaN, and starts at a time below 1
-  pub short : Each Short t
-  pub steps : Steps +0 l
-  -- the rounded sum of the steps is 1 exactly at the last, unless the norm is 0 (as that of a start of zeros is)
-  pub time : s .control .time ≡ time-after +0 l
-  pub reached : (eq (s .control .beta) +0 ≡ true) ⊎ (s .control .time ≡ 1f)
-
--- 27: no check refuses, the limit's substeps are accepted, their sum is below 1 and the norm is not 0
-pub record AtLimit (cs : List Check) (limit : ℕ) (s : State) : Type 0 where
-  pub before : Sound ≡ first cs
-  pub substeps : s .report .substeps ≡ limit
-  pub below-one : T (s .control .time ⋖ 1f)
-  pub norm-left : eq (s .control .beta) +0 ≡ false
-
+-- ---- a Krylov call
 module _ (a : Csr) (mass : Mass) (tau : Float) (count : ℕ) (w : List Float) (o : KrylovPhiOptions) where
-  -- the run of a call
-  abbrev pub run-of : End
-  run-of = expv (combination-operator (quotients a mass) w tau (count - 1) (eta-of (a .n) w tau (count - 1) .eta)) tau (bound tau (row-sum-norm (quotients a mass))) (o .tol) (o .m) (o .«max_substeps») (combination-start (a .n) w (count - 1) (eta-of (a .n) w tau (count - 1) .inv))
+  abbrev run : End
+  run = run-of a mass tau count w o
 
-  abbrev pub trace-of : List Accepted
-  trace-of = expv-trace (combination-operator (quotients a mass) w tau (count - 1) (eta-of (a .n) w tau (count - 1) .eta)) tau (bound tau (row-sum-norm (quotients a mass))) (o .tol) (o .m) (o .«max_substeps») (combination-start (a .n) w (count - 1) (eta-of (a .n) w tau (count - 1) .inv))
+  abbrev trace : List Accepted
+  trace = trace-of a mass tau count w o
 
-  abbrev pub attempts-of : List Attempt
-  attempts-of = expv-attempts (combination-operator (quotients a mass) w tau (count - 1) (eta-of (a .n) w tau (count - 1) .eta)) tau (bound tau (row-sum-norm (quotients a mass))) (o .tol) (o .m) (o .«max_substeps») (combination-start (a .n) w (count - 1) (eta-of (a .n) w tau (count - 1) .inv))
+  abbrev attempts : List Attempt
+  attempts = attempts-of a mass tau count w o
 
   module _ (output memory : List Float) where
     abbrev checks : List Check
@@ -112,8 +79,8 @@ module _ (a : Csr) (mass : Mass) (tau : Float) (count : ℕ) (w : List Float) (o
         let n = eqb-false (o .«max_substeps») 0 (sound-cons _ _ _ _ (q .1) .0) in
         omega (arith, n)
 
-    whole : Sound ≡ first checks → Whole M (o .«max_substeps») trace-of attempts-of run-of
-    whole e = subst (λ (m : ℕ). Whole m (o .«max_substeps») trace-of attempts-of run-of) (long-start e) (whole-expv _ tau _ (o .tol) (o .m) (o .«max_substeps») _)
+    whole : Sound ≡ first checks → Whole M (o .«max_substeps») trace attempts run
+    whole e = subst (λ (m : ℕ). Whole m (o .«max_substeps») trace attempts run) (long-start e) (whole-expv _ tau _ (o .tol) (o .m) (o .«max_substeps») _)
 
     abbrev end : Call KrylovAnswer
     end = phi-combination-krylov a mass tau count w o output memory
@@ -129,7 +96,7 @@ module _ (a : Csr) (mass : Mass) (tau : Float) (count : ℕ) (w : List Float) (o
     accepted Sound (refused k x s) need f = let z : zero ≡ 1 = cc in absurd (omega (arith, z))
     accepted (Refused k x) e need f = let z : zero ≡ 1 = cc in absurd (omega (arith, z))
 
-    cost-of : (s : State) → Whole M (o .«max_substeps») trace-of attempts-of (finished s) → KrylovCost M (o .«max_substeps») trace-of attempts-of s
+    cost-of : (s : State) → Whole M (o .«max_substeps») trace attempts (finished s) → KrylovCost M (o .«max_substeps») trace attempts s
     cost-of s h =
         record {
           substeps = h .counted .substeps;
@@ -145,11 +112,11 @@ module _ (a : Csr) (mass : Mass) (tau : Float) (count : ℕ) (w : List Float) (o
           reached = h .outcome;
         }
 
-    pub krylov-cost : {r : KrylovPhiReport} → end .answer ≡ Soaked r → (s : State) × ((s .report ≡ r) × KrylovCost M (o .«max_substeps») trace-of attempts-of s)
+    pub krylov-cost : {r : KrylovPhiReport} → end .answer ≡ Soaked r → (s : State) × ((s .report ≡ r) × KrylovCost M (o .«max_substeps») trace attempts s)
     unfolding phi-combination-krylov
     krylov-cost e =
-        let h = accepted (first checks) run-of _ e in
-        (h .1 .0, (h .1 .1 .1, cost-of (h .1 .0) (subst (λ (x : End). Whole M (o .«max_substeps») trace-of attempts-of x) (h .1 .1 .0) (whole (h .0)))))
+        let h = accepted (first checks) run _ e in
+        (h .1 .0, (h .1 .1 .1, cost-of (h .1 .0) (subst (λ (x : End). Whole M (o .«max_substeps») trace attempts x) (h .1 .1 .0) (whole (h .0)))))
 
     -- 27 is not of the checks
     refused-run : (c : Checked) (e : End) (need : ℕ) {x : Float} → c ≡ first checks → unless-refused Refusal c output memory (after-run (a .n) need memory e) .answer ≡ Refusal 27 x
@@ -165,43 +132,26 @@ module _ (a : Csr) (mass : Mass) (tau : Float) (count : ℕ) (w : List Float) (o
         number : {i j : ℕ} {x y : Float} → Refusal i x ≡ Refusal j y → i ≡ j
         number g = cc
 
-    only-27 : {x : Float} → end .answer ≡ Refusal 27 x → AtLimit checks (o .«max_substeps») (last run-of)
+    only-27 : {x : Float} → end .answer ≡ Refusal 27 x → AtLimit checks (o .«max_substeps») (last run)
     unfolding phi-combination-krylov
     only-27 {x} e =
-        let h = refused-run (first checks) run-of _ refl e in
+        let h = refused-run (first checks) run _ refl e in
         let t = h .1 .1 in
-        let m = means-27 x (h .1 .0) (subst (λ (y : End). Whole M (o .«max_substeps») trace-of attempts-of y) t (whole (h .0))) in
+        let m = means-27 x (h .1 .0) (subst (λ (y : End). Whole M (o .«max_substeps») trace attempts y) t (whole (h .0))) in
         subst (λ (y : End). AtLimit checks (o .«max_substeps») (last y)) (sym t) (record { before = h .0; substeps = m .0; below-one = m .1; norm-left = m .2 (some-limit (h .0)) })
 
-    if-27 : AtLimit checks (o .«max_substeps») (last run-of) → (x : Float) × (end .answer ≡ Refusal 27 x)
+    if-27 : AtLimit checks (o .«max_substeps») (last run) → (x : Float) × (end .answer ≡ Refusal 27 x)
     unfolding phi-combination-krylov unless-refused after-run
     if-27 h =
         go (when-27 (whole (h .before)) (h .substeps) (h .below-one) (h .norm-left))
       where
-        go : ((x : Float) × (run-of ≡ refused 27 x (last run-of))) → (x : Float) × (unless-refused Refusal (first checks) output memory (after-run (a .n) (krylov-need a mass (count - 1) M) memory run-of) .answer ≡ Refusal 27 x)
+        go : ((x : Float) × (run ≡ refused 27 x (last run))) → (x : Float) × (unless-refused Refusal (first checks) output memory (after-run (a .n) (krylov-need a mass (count - 1) M) memory run) .answer ≡ Refusal 27 x)
         go (x, e) = (x, rw (← (h .before)) (ap (λ (y : End). after-run (a .n) (krylov-need a mass (count - 1) M) memory y .answer) e))
 
-    -- a call is refused by 27 exactly so
-    abbrev pub Exactly27 : Type 0
-    Exactly27 = ((x : Float) → end .answer ≡ Refusal 27 x → AtLimit checks (o .«max_substeps») (last run-of)) × (AtLimit checks (o .«max_substeps») (last run-of) → (x : Float) × (end .answer ≡ Refusal 27 x))
-
-    pub exactly-27 : Exactly27
+    pub exactly-27 : Exactly27 a mass tau count w o output memory
     exactly-27 = ((λ x. only-27), if-27)
 
 -- ---- all four calls, of a matrix, a mass and a time
-pub record Demand3 (a : Csr) (mass : Mass) (tau : Float) (output memory : List Float) : Type 0 where
-  -- Taylor: the applications are s × m for each function, the least of all admissible rows; 25 exactly where no row is admissible
-  pub combination : (count : ℕ) (w : List Float) {r : TaylorReport} → phi-combination a mass tau count w output memory .answer ≡ taylor.Soaked r → TaylorCost tau (row-sum-norm (quotients a mass)) 1 r
-  pub action : (k : ℕ) (v : List Float) {r : TaylorReport} → phi-action a mass tau k v output memory .answer ≡ taylor.Soaked r → TaylorCost tau (row-sum-norm (quotients a mass)) 1 r
-  pub batch : (p : ℕ) (v : List Float) {r : TaylorReport} → phi-action-batched a mass tau p v output memory .answer ≡ taylor.Soaked r → TaylorCost tau (row-sum-norm (quotients a mass)) (suc p) r
-  pub combination-no-plan : (count : ℕ) (w : List Float) → Exactly25 (phi-combination a mass tau count w output memory) (combination-checks a mass tau count w (length output) (length memory)) tau (row-sum-norm (quotients a mass))
-  pub action-no-plan : (k : ℕ) (v : List Float) → Exactly25 (phi-action a mass tau k v output memory) (action-checks a mass tau k v (length output) (a .n) (length memory)) tau (row-sum-norm (quotients a mass))
-  pub batch-no-plan : (p : ℕ) (v : List Float) → Exactly25 (phi-action-batched a mass tau p v output memory) (action-checks a mass tau p v (length output) (suc p * a .n) (length memory)) tau (row-sum-norm (quotients a mass))
-  -- Krylov: the run's counts and times; 27 exactly at the limit
-  pub krylov : (count : ℕ) (w : List Float) (o : KrylovPhiOptions) {r : KrylovPhiReport} → phi-combination-krylov a mass tau count w o output memory .answer ≡ Soaked r
-      → (s : State) × ((s .report ≡ r) × KrylovCost (dimension (a .n) (count - 1) (o .m)) (o .«max_substeps») (trace-of a mass tau count w o) (attempts-of a mass tau count w o) s)
-  pub at-limit : (count : ℕ) (w : List Float) (o : KrylovPhiOptions) → Exactly27 a mass tau count w o output memory
-
 pub demand-3 : (a : Csr) (mass : Mass) (tau : Float) (output memory : List Float) → Demand3 a mass tau output memory
 demand-3 a mass tau output memory =
     record {

@@ -1,3 +1,4 @@
 pub mod KrylovCall
 pub mod Memory
 pub mod Combine
+pub mod Demand3

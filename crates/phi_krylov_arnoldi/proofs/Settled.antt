@@ -1,31 +1,30 @@
 -- One substep, as the memory holds it after the basis is built. Assumes nothing.
-use mathlib.Core.Path.{_≡_, refl, sym, ap, _∙_}
+use mathlib.Core.Path.{_≡_, refl, sym, _∙_}
 use mathlib.Core.List.{List}
 use Prim.Native.Nat.{ℕ, _+_, _*_, _≤_}
 use native.Mathlib.Nat.{mul-le-mul-right, add-mul, one-mul}
 use native.Mathlib.Omega.{arith}
-use lib.ListN.{length}
 use lib.Ieee.{Float}
 use Rattle.lists.specs.Loop.{tabulate}
-use Rattle.lists.specs.Walk.{Turn, on, out}
 use Rattle.lists.specs.Window.{window}
 use Rattle.doubles.specs.F64.{_⊖_, 1f}
 use Rattle.general_operator.specs.Csr.{Csr}
 use Rattle.phi_action_helpers.specs.declared.Layout.{Layout}
 use Rattle.phi_action_helpers.specs.declared.Coupling.{Coupling}
-use Rattle.arnoldi.specs.Basis.{Setting, arnoldi}
+use Rattle.arnoldi.specs.Basis.{arnoldi}
 use Rattle.arnoldi.specs.Memory.{setting-at, column, basis-at, Counted}
 use Rattle.arnoldi.specs.declared.Krylov.{Krylov}
 use Rattle.arnoldi.specs.declared.BasisAnswer.{BasisAnswer}
 use Rattle.arnoldi.specs.declared.BasisAnswer.the-variants.{Breakdown, Full}
-use Rattle.phi_krylov_arnoldi.specs.Trials.{Trying, Tried, accepted, stuck, trials}
-use Rattle.phi_krylov_arnoldi.specs.Run.{State, applied-of, columns-of, advance, unfinished, standing, settle, substep}
-use Rattle.phi_krylov_arnoldi.specs.Memory.{outcome-at, columns-in, products, state-at, stepped, progress-at}
+use Rattle.trial_steps.specs.Trials.{trials}
+use Rattle.phi_krylov_arnoldi.specs.Run.{applied-of, columns-of, unfinished, standing, settle, substep}
+use Rattle.trial_steps.specs.Memory.{outcome-at, columns-in}
+use Rattle.phi_krylov_arnoldi.specs.Memory.{products, state-at, stepped, progress-at}
 use Rattle.phi_krylov_arnoldi.specs.declared.Control.{Control}
 use Rattle.phi_krylov_arnoldi.specs.declared.KrylovPhiReport.{KrylovPhiReport}
-use Rattle.phi_krylov_arnoldi.specs.declared.Step.{Step}
-use Rattle.phi_krylov_arnoldi.specs.declared.Outcome.{Outcome}
-use Rattle.phi_krylov_arnoldi.specs.declared.Outcome.the-variants.{Next, Accepted, NoPlan}
+use Rattle.trial_steps.specs.declared.Step.{Step}
+use Rattle.trial_steps.specs.declared.Outcome.{Outcome}
+use Rattle.trial_steps.specs.declared.Outcome.the-variants.{Next, Accepted, NoPlan}
 use Rattle.phi_krylov_arnoldi.specs.declared.Progress.{Progress}
 use Rattle.phi_krylov_arnoldi.specs.declared.Progress.the-variants.{Refused}
 

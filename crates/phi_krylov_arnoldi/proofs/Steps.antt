@@ -1,6 +1,6 @@
 -- The state after an accepted length, as the memory holds it. Assumes nothing.
 use mathlib.Core.Path.{_≡_, refl, sym, ap, _∙_}
-use mathlib.Core.Bool.{Bool, true, false}
+use mathlib.Core.Bool.{true, false}
 use mathlib.Core.List.{List}
 use Prim.Native.Nat.{ℕ, suc, _+_, _*_, _≤_}
 use native.Mathlib.Omega.{arith}
@@ -21,7 +21,7 @@ use Rattle.phi_krylov_arnoldi.specs.Run.{EPSILON, combined, advance, unf
 use Rattle.phi_krylov_arnoldi.specs.Memory.{state-at, stepped, progress-at}
 use Rattle.phi_krylov_arnoldi.specs.declared.Control.{Control}
 use Rattle.phi_krylov_arnoldi.specs.declared.KrylovPhiReport.{KrylovPhiReport}
-use Rattle.phi_krylov_arnoldi.specs.declared.Step.{Step}
+use Rattle.trial_steps.specs.declared.Step.{Step}
 use Rattle.phi_krylov_arnoldi.specs.declared.Progress.the-variants.{On, Finished}
 use Rattle.phi_krylov_arnoldi.proofs.Columns.{length-sums, sums-combined}
 

@@ -1,14 +1,14 @@
 -- A run from the field in memory, scaled by a power of two and scaled back. Assumes nothing.
 use mathlib.Core.Path.{_≡_, refl, sym, ap, _∙_}
 use mathlib.Core.List.{List}
-use Prim.Native.Nat.{ℕ, _+_, _*_, _≤_}
+use Prim.Native.Nat.{ℕ, _+_, _≤_}
 use native.Mathlib.Omega.{arith}
 use lib.ListN.{length}
 use lib.Ieee.{Float}
 use Rattle.lists.specs.Frame.{Kept}
 use Rattle.lists.specs.Walk.{on, walk}
 use Rattle.lists.specs.Window.{window, splice}
-use Rattle.lists.proofs.Frame.{Wrote, wrote, written, kept-all, kept-by, kept-on}
+use Rattle.lists.proofs.Frame.{Wrote, wrote, written, kept-all, kept-by}
 use Rattle.lists.proofs.Window.{length-window}
 use Rattle.doubles.specs.F64.{_⊗_, +0}
 use Rattle.vectors.specs.Vectors.{scale}

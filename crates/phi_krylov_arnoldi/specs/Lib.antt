@@ -1,4 +1,2 @@
-pub mod Trials
 pub mod Run
-pub mod Trace
 pub mod Memory

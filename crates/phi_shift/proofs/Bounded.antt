@@ -12,10 +12,10 @@ use Rattle.general_operator.specs.Csr.{Csr}
 use Rattle.csr_shift.specs.Shift.{negated-csr-shift}
 use Rattle.csr_shift.specs.declared.Shift.{Shift}
 use Rattle.csr_shift.specs.declared.Shift.the-variants.{Unshifted, By}
-use Rattle.expmv.specs.Select.{select-s-m}
+use Rattle.expmv.specs.Select.{select-s-m, Bounds}
 use Rattle.expmv.specs.declared.Selected.{Selected}
 use Rattle.expmv.specs.declared.Selected.the-variants.{NoRow, Row}
-use Rattle.expmv.proofs.Least.{Bounds, bounds}
+use Rattle.expmv.proofs.Least.{bounds}
 use Rattle.phi_action_helpers.specs.declared.SweepPlan.{SweepPlan}
 use Rattle.phi_shift.specs.Plan.{argument, shifted-bound, plan, cheaper-shifted, usable, with-shift, plan-of, sweep-plan}
 use Rattle.phi_shift.specs.declared.PlanAnswer.the-variants.{Plan}

@@ -10,8 +10,7 @@ use lib.ListN.{length}
 use lib.Ieee.{Float, nan, inf, fin, up, down, lt, eq, ofBits}
 use borrow.Author.Tests.{eqb-false}
 use Rattle.lists.specs.Loop.{iter}
-use Rattle.doubles.specs.F64.{if_then_else_, _⋖_, +0, at, abs, replaced, maxNum}
-use Rattle.doubles.proofs.Order.{nonneg}
+use Rattle.doubles.specs.F64.{if_then_else_, _⋖_, +0, at, abs, replaced, maxNum, nonneg}
 use Rattle.pow2.specs.Pow2.{sup}
 
 nonneg-max : (m v : Float) → T (nonneg m) → T (nonneg (maxNum m (abs v)))

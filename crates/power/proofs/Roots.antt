@@ -12,12 +12,12 @@ use lib.Ieee.Fits.{and-i, and-l, and-r, mul-fits}
 use lib.Ieee.Bits.{ofBits-toBits, ofBits-fits}
 use lib.Ieee.Exact.{HasValue}
 use Rattle.doubles.specs.Value.{val}
-use Rattle.doubles.specs.F64.{_⊗_, _⩽_, 1f, abs, is-finite}
+use Rattle.doubles.specs.F64.{_⊗_, _⩽_, 1f, abs, is-finite, nonneg}
 use Rattle.doubles.proofs.Patterns.{bits-value}
 use Rattle.doubles.proofs.Magnitude.{finite-bits}
 use Rattle.doubles.proofs.Total.{⩽-refl, ⩽-trans, ⩽-or-⋖, ⋖-not, ⋖-⩽}
 use Rattle.doubles.proofs.Monotone.{mul-grows}
-use Rattle.doubles.proofs.Order.{nonneg, nonneg-number, nonneg-zero, infinite, Fine, mul-fine, mul-mono, bits-le, bits-nonneg, bits-lt-back, le-trans-nonneg, le-or-above, lt-not-le, cross→le, units-of-le}
+use Rattle.doubles.proofs.Order.{nonneg-number, nonneg-zero, infinite, Fine, mul-fine, mul-mono, bits-le, bits-nonneg, bits-lt-back, le-trans-nonneg, le-or-above, lt-not-le, cross→le, units-of-le}
 use Rattle.doubles.proofs.Unique.{value-unique, units-of}
 use lib.Pow.{pow-pos}
 use Rattle.lists.specs.Greatest.{greatest}

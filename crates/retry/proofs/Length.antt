@@ -8,12 +8,12 @@ use lib.Dec.{T}
 use lib.Dec.{eqb·suc-zero}
 use lib.Ieee.{Float, nan, inf, fin, binary64, unlike, mul, div, le, lt, fits, isNan, ofBits}
 use lib.Ieee.Bits.{is-true, ofBits-fits}
-use Rattle.doubles.specs.F64.{_⊗_, _⊘_, _⩽_, _⋖_, +0, 1f, is-finite}
+use Rattle.doubles.specs.F64.{_⊗_, _⊘_, _⩽_, _⋖_, +0, 1f, is-finite, nonneg}
 use Rattle.doubles.proofs.Compare.{Above, is-above}
 use Rattle.doubles.proofs.Total.{⩽-antisymm, ⩽-refl, ⩽-trans, ⩽-or-⋖, ⋖-⩽, ⩽-⋖-trans, ⋖-⩽-trans, le-number-right, le-highest}
 use Rattle.doubles.proofs.Monotone.{mul-mono, mul-grows, mul-shrinks, mul-number, div-number, div-part, finite-number, mul-nonneg}
 use Rattle.doubles.proofs.Sizes.{finite-below, finite-under}
-use Rattle.doubles.proofs.Order.{nonneg, nonneg-zero, nonneg-number, nonneg-sign}
+use Rattle.doubles.proofs.Order.{nonneg-zero, nonneg-number, nonneg-sign}
 use Rattle.doubles.proofs.Arithmetic.{mul-commutes}
 use Rattle.power.specs.Power.{root}
 use Rattle.power.proofs.Roots.{root-le-one}

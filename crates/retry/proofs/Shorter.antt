@@ -18,11 +18,11 @@ use lib.Ieee.Nearest.{closest, closest-same, div-mono}
 use lib.Ieee.Order.{round-mono, transfer}
 use lib.Ieee.Scale.{grid, finite, round-same, round-val, round-under}
 use Rattle.doubles.specs.Value.{val}
-use Rattle.doubles.specs.F64.{is-finite}
+use Rattle.doubles.specs.F64.{is-finite, nonneg}
 use Rattle.doubles.specs.Whole.{ceil, whole-above}
 use Rattle.doubles.proofs.Unique.{pattern-value, round-self, val-under, units-of}
 use Rattle.doubles.proofs.Magnitude.{finite-bits}
-use Rattle.doubles.proofs.Order.{nonneg, infinite, Fine, View, endless, number, view, le→cross, cross→le, mul-mono, mul-fine, le-or-above, nonneg-round, le-inf, units-of-le}
+use Rattle.doubles.proofs.Order.{infinite, Fine, View, endless, number, view, le→cross, cross→le, mul-mono, mul-fine, le-or-above, nonneg-round, le-inf, units-of-le}
 use Rattle.doubles.proofs.Nearest.{Near, closest-near}
 use Rattle.doubles.proofs.Arithmetic.{mul-by, div-by}
 use Rattle.doubles.proofs.Time.{one}

@@ -10,7 +10,8 @@ use lib.Ieee.Fits.{and-i, and-l, and-r, round-fits}
 use lib.Ieee.Order.{round-mono}
 use lib.Ieee.Positive.{positive, above, above-of-le}
 use borrow.Author.Tests.{lt-ltb, le-ltb}
-use Rattle.doubles.proofs.Order.{nonneg, nonneg-round, le-trans-nonneg}
+use Rattle.doubles.specs.F64.{nonneg}
+use Rattle.doubles.proofs.Order.{nonneg-round, le-trans-nonneg}
 use Rattle.lists.specs.Greatest.{greatest}
 use Rattle.lists.proofs.Greatest.{Greatest, greatest-is}
 use Rattle.round2.specs.Ten.{ten}

@@ -1,7 +1,7 @@
 -- `phi_krylov_arnoldi::advance` meets its contract. Assumes nothing.
 use borrow.Author.Needs.{needs}
 use native.Mathlib.Omega.{arith}
-use mathlib.Core.Path.{refl, ap, sym, _∙_}
+use mathlib.Core.Path.{ap, sym, _∙_}
 use lib.ListN.{length}
 use Rattle.lists.proofs.Window.{length-splice, part-window}
 use Rattle.arnoldi.specs.Basis.{norm2}

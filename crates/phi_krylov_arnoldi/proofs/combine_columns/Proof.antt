@@ -1,8 +1,7 @@
 -- `phi_krylov_arnoldi::combine_columns` meets its contract. Assumes nothing.
-use borrow.Author.Needs.{needs}
 use native.Mathlib.Omega.{arith}
 use Prim.Native.Nat.{_-_, _+_, _*_, _≤_}
-use mathlib.Core.Path.{_≡_, refl, ap, _∙_}
+use mathlib.Core.Path.{_≡_, ap, _∙_}
 use lib.ListN.{length}
 use Rattle.lists.specs.Window.{splice}
 use Rattle.lists.proofs.Window.{length-splice}

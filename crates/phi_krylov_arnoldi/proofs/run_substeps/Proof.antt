@@ -1,15 +1,15 @@
 -- `phi_krylov_arnoldi::run_substeps` meets its contract. Assumes nothing.
 use borrow.Author.Needs.{needs}
 use native.Mathlib.Omega.{arith}
-use mathlib.Core.Path.{_≡_, refl, sym, ap, subst, _∙_}
+use mathlib.Core.Path.{_≡_, refl, subst}
 use mathlib.Core.List.{List, [], _∷_}
-use Prim.Native.Nat.{ℕ, zero, _+_, _-_, _*_, _≤_}
+use Prim.Native.Nat.{ℕ, zero, _-_, _≤_}
 use lib.Ieee.{Float}
 use mathlib.Core.Logic.{⊎-elim}
 use types.Run.{OneOf}
 use denote.Enum.Declared.{tagOf}
 use Rattle.lists.specs.Frame.{Kept}
-use Rattle.lists.specs.Walk.{Turn, on, out, walk}
+use Rattle.lists.specs.Walk.{Turn, walk}
 use Rattle.lists.proofs.Walk.{Left, left-start, left-turn, left-out, left-none}
 use Rattle.lists.proofs.Frame.{kept-all, kept-on}
 use Rattle.doubles.specs.F64.{+0}
@@ -20,7 +20,7 @@ use Rattle.arnoldi.specs.declared.Krylov.{Krylov}
 use Rattle.arnoldi.specs.Memory.{setting-at}
 use Rattle.arnoldi.proofs.Turns.{room-kept}
 use Rattle.phi_krylov_arnoldi.specs.Run.{State, End, substep}
-use Rattle.phi_krylov_arnoldi.specs.Memory.{state-at, progress-at, Moderate}
+use Rattle.phi_krylov_arnoldi.specs.Memory.{progress-at, Moderate}
 use Rattle.phi_krylov_arnoldi.specs.declared.Progress.{Progress}
 use Rattle.phi_krylov_arnoldi.specs.declared.Progress.the-variants.{On, Finished, Refused}
 use Rattle.phi_krylov_arnoldi.proofs.Progress as progress

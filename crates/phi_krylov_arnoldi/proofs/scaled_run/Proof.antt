@@ -1,13 +1,12 @@
 -- `phi_krylov_arnoldi::scaled_run` meets its contract. Assumes nothing.
 use borrow.Author.Needs.{needs}
 use native.Mathlib.Omega.{arith}
-use mathlib.Core.Path.{_≡_, refl, sym, ap, _∙_}
-use Prim.Native.Nat.{ℕ, _+_, _*_, _≤_}
+use mathlib.Core.Path.{ap, _∙_}
+use Prim.Native.Nat.{_+_, _≤_}
 use lib.ListN.{length}
 use Rattle.lists.proofs.Frame.{kept-on}
 use Rattle.lists.proofs.Window.{part-window, part-back, length-splice}
 use Rattle.vectors.specs.Vectors.{scale}
-use Rattle.phi_action_helpers.specs.Laid.{matrix-at}
 use Rattle.arnoldi.specs.Basis.{norm2}
 use Rattle.arnoldi.proofs.Turns.{room-kept}
 use Rattle.phi_krylov_arnoldi.proofs.Whole.{room-absolute, scaled-field, scaled-kept, scaled-is}

@@ -1,15 +1,14 @@
 -- `phi_krylov_arnoldi::substep` meets its contract. Assumes nothing.
 use borrow.Author.Needs.{needs}
 use native.Mathlib.Omega.{arith}
-use mathlib.Core.Path.{_≡_, refl, sym, ap, subst, _∙_}
+use mathlib.Core.Path.{refl, sym, ap, subst, _∙_}
 use Prim.Native.Nat.{ℕ, _+_, _*_, _≤_}
 use lib.ListN.{length}
-use Rattle.lists.specs.Frame.{Kept}
 use Rattle.lists.proofs.Bounds.{product-within}
 use Rattle.lists.proofs.Frame.{kept-on}
 use Rattle.lists.proofs.Window.{part-window, length-window}
 use Rattle.phi_action_helpers.specs.Laid.{matrix-at}
-use Rattle.phi_krylov_arnoldi.specs.Memory.{Within, columns-in}
+use Rattle.trial_steps.specs.Memory.{Within, columns-in}
 use Rattle.phi_krylov_arnoldi.proofs.Settled.{columns-few, columns-within, products-few, after-rejections, after-no-plan, after-step}
 use Rattle.phi_krylov_arnoldi.proofs.substep.Statement.{statement}
 use Rattle.phi_krylov_arnoldi.proofs.substep.Tie as tie

@@ -1,7 +1,7 @@
 -- `phi_krylov_arnoldi::substeps` meets its contract. Assumes nothing.
 use borrow.Author.Needs.{needs}
 use native.Mathlib.Omega.{arith}
-use mathlib.Core.Path.{refl, sym, ap, _∙_}
+use mathlib.Core.Path.{refl, ap, _∙_}
 use Rattle.lists.proofs.Window.{part-window}
 use Rattle.phi_action_helpers.specs.Laid.{matrix-at}
 use Rattle.arnoldi.specs.Basis.{norm2}

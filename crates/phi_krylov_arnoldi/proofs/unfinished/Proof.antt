@@ -1,5 +1,4 @@
 -- `phi_krylov_arnoldi::unfinished` meets its contract. Assumes nothing.
-use borrow.Author.Needs.{needs}
 use mathlib.Core.Path.{refl}
 use Rattle.phi_krylov_arnoldi.specs.Run.{unfinished}
 use Rattle.phi_krylov_arnoldi.proofs.unfinished.Statement.{statement}

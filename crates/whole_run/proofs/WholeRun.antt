@@ -1,6 +1,6 @@
 -- Demand 3 of document 01 for a Krylov run, as one claim about the whole run, for every input whatever. Assumes nothing.
 use mathlib.Core.Path.{_≡_, refl, sym, ap, _∙_, subst}
-use mathlib.Core.Logic.{_⊎_, inl, inr}
+use mathlib.Core.Logic.{inl, inr}
 use mathlib.Core.Bool.{Bool, true, false, not, _&&_, true≢false}
 use mathlib.Core.List.{List, []}
 use Prim.Native.Nat.{ℕ, _+_, _<_, zero-le}
@@ -16,36 +16,13 @@ use Rattle.pow2.specs.declared.Prescale.{Prescale}
 use Rattle.pow2.specs.declared.Prescale.the-variants.{By, None}
 use Rattle.phi_action_helpers.specs.Augmented.{Augmented}
 use Rattle.arnoldi.specs.Basis.{Setting}
 use Rattle.phi_krylov_arnoldi.specs.Run.{State, End, finished, refused, unfinished, run, started, scaled-back, back, clamp-m, idle, expv-by, expv}
-use Rattle.phi_krylov_arnoldi.specs.Trace.{Accepted, trace, total, time-after, Attempt, attempts, in-expv, expv-trace, expv-attempts}
-use Rattle.phi_krylov_arnoldi.proofs.Counts.{last, Each, Counted, Bounded, run-counted, run-bounded}
-use Rattle.phi_krylov_arnoldi.proofs.Limit.{Ends, run-ends, not-27}
-use Rattle.phi_krylov_arnoldi.proofs.Lengths.{Within, TimedEnd, run-timed, timed-last, finished-time, Steps, trace-steps, Short, attempts-short, started-timed}
-use Rattle.phi_krylov_arnoldi.proofs.Attempts.{Judged, run-judged}
-
--- A result comes with norm 0 or at time 1 exactly. A refusal leaves a state whose time is below 1 and, once a substep was accepted, whose norm is not 0:
--- 27 with all substeps that the limit allows, 28 and 29 with fewer.
-abbrev pub Outcome : ℕ → End → Type 0
-Outcome limit (finished s) = (eq (s .control .beta) +0 ≡ true) ⊎ (s .control .time ≡ 1f)
-Outcome limit (refused r x s) =
-    T (s .control .time ⋖ 1f) × (0 < s .report .substeps → eq (s .control .beta) +0 ≡ false)
-    × (((r ≡ 27) × (s .report .substeps ≡ limit)) ⊎ (((r ≡ 28) ⊎ (r ≡ 29)) × (s .report .substeps < limit)))
-
--- A run of at most `limit` substeps that accepted those of l, tried the lengths of a, and ended in e
-pub record Whole (M limit : ℕ) (l : List Accepted) (a : List Attempt) (e : End) : Type 0 where
-  -- substeps, products, rejections and time are those of l
-  pub counted : Counted (last e) l
-  -- at most limit, (M + 1) × substeps, 10 × substeps
-  pub bounded : Bounded M limit (last e)
-  -- substeps and rejections together are the lengths tried
-  pub judged : Judged (length a) e
-  -- no length tried is above the rounded 1 - time
-  pub short : Each Short a
-  -- each substep starts at a time from +0 to below 1, and its length is no NaN, above 0 and within the rounded 1 - time
-  pub steps : Steps +0 l
-  -- the time is from +0 to 1
-  pub time : Within 1f (last e .control .time)
-  pub outcome : Outcome limit e
+use Rattle.whole_run.specs.Trace.{Accepted, trace, total, time-after, Attempt, attempts, in-expv, expv-trace, expv-attempts}
+use Rattle.whole_run.specs.Claim.{last, Counted, Bounded, Outcome, Whole}
+use Rattle.whole_run.proofs.Counts.{run-counted, run-bounded}
+use Rattle.whole_run.proofs.Limit.{Ends, run-ends, not-27}
+use Rattle.whole_run.proofs.Lengths.{TimedEnd, run-timed, timed-last, finished-time, trace-steps, attempts-short, started-timed}
+use Rattle.whole_run.proofs.Attempts.{run-judged}
 
 -- ---- a run from its start
 norm-left : (s : State) → unfinished s ≡ true → eq (s .control .beta) +0 ≡ false

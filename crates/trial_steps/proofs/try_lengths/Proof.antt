@@ -1,4 +1,4 @@
--- `phi_krylov_arnoldi::try_lengths` meets its contract. Assumes nothing.
+-- `trial_steps::try_lengths` meets its contract. Assumes nothing.
 use borrow.Author.Needs.{needs}
 use native.Mathlib.Omega.{arith}
 use mathlib.Core.Logic.{⊎-elim}
@@ -16,14 +16,14 @@ use Rattle.general_operator.specs.Csr.{Csr}
 use Rattle.phi_action_helpers.specs.declared.Layout.{Layout}
 use Rattle.phi_action_helpers.specs.declared.Coupling.{Coupling}
 use Rattle.arnoldi.specs.Memory.{setting-at}
-use Rattle.phi_krylov_arnoldi.specs.Trials.{try-step}
-use Rattle.phi_krylov_arnoldi.specs.Memory.{outcome-at, trial-at, Within, Modest}
-use Rattle.phi_krylov_arnoldi.specs.declared.Outcome.{Outcome}
-use Rattle.phi_krylov_arnoldi.specs.declared.Outcome.the-variants.{Next}
-use Rattle.phi_krylov_arnoldi.proofs.Outcome.{the-type}
-use Rattle.phi_krylov_arnoldi.proofs.Tries.{within-more, seen-next, left-ended}
-use Rattle.phi_krylov_arnoldi.proofs.try_lengths.Statement.{statement}
-use Rattle.phi_krylov_arnoldi.proofs.try_lengths.Tie as tie
+use Rattle.trial_steps.specs.Trials.{try-step}
+use Rattle.trial_steps.specs.Memory.{outcome-at, trial-at, Within, Modest}
+use Rattle.trial_steps.specs.declared.Outcome.{Outcome}
+use Rattle.trial_steps.specs.declared.Outcome.the-variants.{Next}
+use Rattle.trial_steps.proofs.Outcome.{the-type}
+use Rattle.trial_steps.proofs.Tries.{within-more, seen-next, left-ended}
+use Rattle.trial_steps.proofs.try_lengths.Statement.{statement}
+use Rattle.trial_steps.proofs.try_lengths.Tie as tie
 
 abbrev Inv-loop : tie.InvT-loop
 Inv-loop h k beta avnorm t o₀ i₀ o i = (i ≤ 11) × Modest i (k .m + 1) o × ((l : Layout) (b : Coupling) (q : Csr) (vectors : List Float) → Left (try-step (setting-at l b k q vectors) beta h avnorm) 11 i (on (record { rejections = 0; t = t })) (trial-at o))

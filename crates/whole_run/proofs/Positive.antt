@@ -13,12 +13,12 @@ use lib.Ieee.Bits.{is-true}
 use lib.Ieee.Fits.{down-pos}
 use lib.Ieee.Order.{round-mono}
 use lib.Ieee.Scale.{round-same}
-use Rattle.doubles.specs.F64.{_⊗_, _⊘_, _⩽_, _⋖_, +0, 1f, +∞, is-finite}
+use Rattle.doubles.specs.F64.{_⊗_, _⊘_, _⩽_, _⋖_, +0, 1f, +∞, is-finite, nonneg}
 use Rattle.doubles.specs.Whole.{ceil, whole-above}
 use Rattle.doubles.proofs.Arithmetic.{mul-commutes}
 use Rattle.doubles.proofs.Compare.{Above, is-above, positive-size}
 use Rattle.doubles.proofs.Monotone.{mul-mono, mul-number, mul-one-is, div-mono, div-number, finite-number}
-use Rattle.doubles.proofs.Order.{nonneg, nonneg-number, nonneg-zero, nonneg-round, View, endless, number, view, le→cross}
+use Rattle.doubles.proofs.Order.{nonneg-number, nonneg-zero, nonneg-round, View, endless, number, view, le→cross}
 use Rattle.doubles.proofs.Sizes.{finite-below, finite-under}
 use Rattle.doubles.proofs.Time.{above-zero}
 use Rattle.doubles.proofs.Total.{⩽-refl, ⩽-trans, ⋖-⩽, ⋖-⩽-trans}

@@ -23,11 +23,11 @@ use Rattle.arnoldi.specs.declared.Krylov.{Krylov}
 use Rattle.arnoldi.specs.declared.BasisAnswer.{BasisAnswer}
 use Rattle.arnoldi.specs.declared.BasisAnswer.the-variants.{Breakdown, Full}
 use Rattle.arnoldi.specs.Memory.{setting-at, basis-at}
-use Rattle.phi_krylov_arnoldi.specs.Trials.{Trying, Tried, local-error, verdict, judge, try-step, exact-step, trials}
-use Rattle.phi_krylov_arnoldi.specs.Memory.{outcome-at, Within}
-use Rattle.phi_krylov_arnoldi.specs.declared.Estimate.{Estimate}
-use Rattle.phi_krylov_arnoldi.specs.declared.Outcome.{Outcome}
-use Rattle.phi_krylov_arnoldi.specs.declared.Outcome.the-variants.{Next, Accepted, NoPlan}
+use Rattle.trial_steps.specs.Trials.{Trying, Tried, local-error, verdict, judge, try-step, exact-step, trials}
+use Rattle.trial_steps.specs.Memory.{outcome-at, Within}
+use Rattle.trial_steps.specs.declared.Estimate.{Estimate}
+use Rattle.trial_steps.specs.declared.Outcome.{Outcome}
+use Rattle.trial_steps.specs.declared.Outcome.the-variants.{Next, Accepted, NoPlan}
 
 -- ---- one length
 module _ (l : Layout) (b : Coupling) (k : Krylov) (q : Csr) (vectors : List Float) (beta avnorm : Float) (h : List Float) (i r : ℕ) (t : Float) (x : SmallExp) (s : small-of (k .m + 2) x ≡ hess-exp-e1 h (k .m + 2) (k .m + 2) t) where

@@ -1,8 +1,8 @@
 -- Each length tried was accepted or rejected: the substeps and the rejections together are the lengths tried, and before 28 eleven more. Assumes nothing.
 use mathlib.Core.Path.{_≡_, refl, sym, ap, _∙_, subst}
 use mathlib.Core.Bool.{Bool, true, false}
-use mathlib.Core.List.{List, []}
-use Prim.Native.Nat.{ℕ, zero, suc, _+_, _≤_}
+use mathlib.Core.List.{List}
+use Prim.Native.Nat.{ℕ, zero, suc, _+_}
 use native.Mathlib.Nat.{le-of-eq, add-zero, add-assoc, zero-add}
 use native.Mathlib.Omega.{arith}
 use lib.ListN.{length, length-append}
@@ -11,11 +11,13 @@ use Rattle.lists.specs.Walk.{Turn, on, out, walk}
 use Rattle.doubles.specs.F64.{_⊖_, 1f, minNum}
 use Rattle.hess_exp.specs.HessExp.{Small, unplanned, column, hess-exp-e1}
 use Rattle.arnoldi.specs.Basis.{Setting, dim, Basis, breakdown, full}
-use Rattle.phi_krylov_arnoldi.specs.declared.Estimate.{Estimate}
-use Rattle.phi_krylov_arnoldi.specs.Trials.{Trying, Tried, accepted, stuck, verdict, judge, try-step, exact-step, trials}
-use Rattle.phi_krylov_arnoldi.specs.Run.{State, End, finished, refused, applied-of, columns-of, advance, unfinished, standing, settle, substep, spent, run, started}
-use Rattle.phi_krylov_arnoldi.specs.Trace.{lengths, tried-on, attempts}
-use Rattle.phi_krylov_arnoldi.proofs.Counts.{Few, trials-few, basis-of, trials-of}
+use Rattle.trial_steps.specs.declared.Estimate.{Estimate}
+use Rattle.trial_steps.specs.Trials.{Trying, Tried, accepted, stuck, verdict, judge, try-step, exact-step, trials}
+use Rattle.phi_krylov_arnoldi.specs.Run.{State, End, applied-of, columns-of, advance, unfinished, standing, settle, substep, spent, run, started}
+use Rattle.whole_run.specs.Trace.{lengths, tried-on, attempts}
+use Rattle.trial_steps.proofs.Few.{Few, trials-few}
+use Rattle.whole_run.specs.Claim.{judged, Judged}
+use Rattle.whole_run.proofs.Counts.{basis-of, trials-of}
 
 -- ---- one substep
 -- n lengths tried: all rejected, or all but the last. A length with no inner plan is neither
@@ -61,14 +63,6 @@ tried-tally p s (full b avnorm) =
     (walk-tally step (s .control .time) (λ i t. unfold try-step in judge-tally p (s .control .beta) avnorm t (hess-exp-e1 (b .h) (dim p) (dim p) (t .t))) 11 0 o 0 refl)
 
 -- ---- the run, after n lengths tried
-abbrev pub judged : State → ℕ
-judged s = s .report .rejected + s .report .substeps
-
--- 29 leaves its last length, and those rejected before it, uncounted
-abbrev pub Judged : ℕ → End → Type 0
-Judged n (finished s) = judged s ≡ n
-Judged n (refused r x s) = (r ≡ 27 → judged s ≡ n) × (r ≡ 28 → judged s + 11 ≡ n) × (judged s ≤ n)
-
 abbrev Judging : ℕ → Turn State End → Type 0
 Judging n (on s) = judged s ≡ n
 Judging n (out e) = Judged n e

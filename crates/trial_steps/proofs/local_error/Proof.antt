@@ -1,9 +1,9 @@
--- `phi_krylov_arnoldi::local_error` meets its contract. Assumes nothing.
+-- `trial_steps::local_error` meets its contract. Assumes nothing.
 use borrow.Author.Needs.{needs}
 use borrow.Author.Tests.{lt-ltb, le-ltb}
-use Rattle.phi_krylov_arnoldi.specs.Trials.{local-error}
-use Rattle.phi_krylov_arnoldi.proofs.local_error.Statement.{statement}
-use Rattle.phi_krylov_arnoldi.proofs.local_error.Tie as tie
+use Rattle.trial_steps.specs.Trials.{local-error}
+use Rattle.trial_steps.proofs.local_error.Statement.{statement}
+use Rattle.trial_steps.proofs.local_error.Tie as tie
 
 returns : tie.Need-returns
 unfolding local-error

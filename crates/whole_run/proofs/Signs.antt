@@ -7,13 +7,13 @@ use Prim.Native.Nat.{ℕ, _+_, _-_, _*_}
 use native.Mathlib.Omega.{arith}
 use lib.IntN.{ℤ, pos}
 use lib.Dec.{T, eqb, ltb}
-use lib.Ieee.{Float, nan, inf, fin, binary64, round, up, down, neg, mul, div, le, fits, isNan, ofBits}
+use lib.Ieee.{Float, nan, inf, fin, binary64, round, up, down, neg, mul, div, fits, isNan, ofBits}
 use lib.Ieee.Fits.{mul-fits, nan-fits}
 use lib.Ieee.Bits.{is-true}
-use Rattle.doubles.specs.F64.{_⊖_, _⊗_, _⊘_, _⩽_, _⋖_, +0, 1f, at, abs}
+use Rattle.doubles.specs.F64.{_⊖_, _⊗_, _⊘_, _⩽_, _⋖_, +0, 1f, at, abs, nonneg}
 use Rattle.doubles.specs.Whole.{ceil}
 use Rattle.doubles.proofs.Magnitude.{abs-fits}
-use Rattle.doubles.proofs.Order.{nonneg, nonneg-zero, nonneg-round, View, endless, number, view}
+use Rattle.doubles.proofs.Order.{nonneg-zero, nonneg-round, View, endless, number, view}
 use Rattle.doubles.proofs.Monotone.{round-not, sub-above}
 use Rattle.doubles.proofs.Total.{before→le, le-lowest}
 use Rattle.doubles.proofs.Sizes.{finite-under}
@@ -23,8 +23,8 @@ use Rattle.round2.specs.Rounded.{usable, decade, up-to, round2, open-Rounded}
 use Rattle.retry.specs.Retry.{GAMMA, accepts, retry}
 use Rattle.retry.proofs.Length.{Size, length-of, retry-shorter}
 use Rattle.power.specs.Power.{root}
-use Rattle.phi_krylov_arnoldi.proofs.Positive.{round2-above}
-use Rattle.phi_krylov_arnoldi.specs.Trials.{10f, estimate, local-error}
+use Rattle.whole_run.proofs.Positive.{round2-above}
+use Rattle.trial_steps.specs.Trials.{10f, estimate, local-error}
 
 -- NaN, or the sign clear
 abbrev pub Clear : Float → Type 0

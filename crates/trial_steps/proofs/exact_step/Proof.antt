@@ -1,12 +1,12 @@
--- `phi_krylov_arnoldi::exact_step` meets its contract. Assumes nothing.
+-- `trial_steps::exact_step` meets its contract. Assumes nothing.
 use borrow.Author.Needs.{needs}
 use Prim.Native.Nat.{zero-le}
 use mathlib.Core.Path.{refl}
 use Rattle.hess_exp.specs.Parts.{small-of}
-use Rattle.phi_krylov_arnoldi.specs.Trials.{exact-step}
-use Rattle.phi_krylov_arnoldi.specs.Memory.{outcome-at}
-use Rattle.phi_krylov_arnoldi.proofs.exact_step.Statement.{statement}
-use Rattle.phi_krylov_arnoldi.proofs.exact_step.Tie as tie
+use Rattle.trial_steps.specs.Trials.{exact-step}
+use Rattle.trial_steps.specs.Memory.{outcome-at}
+use Rattle.trial_steps.proofs.exact_step.Statement.{statement}
+use Rattle.trial_steps.proofs.exact_step.Tie as tie
 
 returns : tie.Need-returns
 unfolding small-of exact-step outcome-at

@@ -1,4 +1,4 @@
--- `phi_krylov_arnoldi::trial_steps` meets its contract. Assumes nothing.
+-- `trial_steps::trial_steps` meets its contract. Assumes nothing.
 use borrow.Author.Needs.{needs}
 use native.Mathlib.Omega.{arith}
 use Prim.Native.Nat.{ℕ, _+_, _*_, _≤_}
@@ -9,10 +9,10 @@ use lib.ListN.{length}
 use lib.Ieee.{Float}
 use Rattle.hess_exp.specs.Parts.{Leading}
 use Rattle.arnoldi.specs.Memory.{Counted}
-use Rattle.phi_krylov_arnoldi.specs.Memory.{Modest, columns-in}
-use Rattle.phi_krylov_arnoldi.proofs.Tries.{on-breakdown, on-full}
-use Rattle.phi_krylov_arnoldi.proofs.trial_steps.Statement.{statement}
-use Rattle.phi_krylov_arnoldi.proofs.trial_steps.Tie as tie
+use Rattle.trial_steps.specs.Memory.{Modest, columns-in}
+use Rattle.trial_steps.proofs.Tries.{on-breakdown, on-full}
+use Rattle.trial_steps.proofs.trial_steps.Statement.{statement}
+use Rattle.trial_steps.proofs.trial_steps.Tie as tie
 
 leading : (h : List Float) (m mb : ℕ) → mb ≤ m → length h ≡ (m + 2) * (m + 2) → Leading h (m + 2) mb
 leading h m mb l e = record { across = omega arith; down = rw e (mul-le-mul-right (m + 2) (omega arith)) }

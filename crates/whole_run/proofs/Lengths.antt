@@ -2,39 +2,29 @@
 use mathlib.Core.Path.{_≡_, refl, sym, ap, _∙_, subst}
 use mathlib.Core.Logic.{_⊎_, inl, inr}
 use mathlib.Core.Bool.{Bool, true, false, not, _&&_, cond, true≢false}
-use mathlib.Core.List.{List, [], _∷_, _++_}
+use mathlib.Core.List.{List, _++_}
 use Prim.Native.Nat.{ℕ, zero, suc, _+_, _≤_}
 use lib.Dec.{T}
 use lib.Ieee.{Float, nan, inf, fin, binary64, mul, le, lt, eq, fits, ofBits}
 use lib.Ieee.Fits.{add-fits, sub-fits, and-r}
 use lib.Ieee.Bits.{is-true}
 use Rattle.lists.specs.Walk.{Turn, on, out, walk}
-use Rattle.doubles.specs.F64.{_⊕_, _⊖_, _⩽_, _⋖_, +0, 1f, minNum, replaced}
-use Rattle.doubles.proofs.Order.{nonneg, nonneg-number, nonneg-sign}
+use Rattle.doubles.specs.F64.{_⊕_, _⊖_, _⩽_, _⋖_, +0, 1f, minNum, replaced, nonneg}
+use Rattle.doubles.proofs.Order.{nonneg-number, nonneg-sign}
 use Rattle.doubles.proofs.Total.{lt-numbers, ⩽-refl, ⩽-trans, ⩽-or-⋖, ⩽-antisymm}
 use Rattle.doubles.proofs.Time.{one-fits, sum-step, rest-good, rest-above, above-zero, zero-good}
 use Rattle.retry.specs.Retry.{accepts, retry}
 use Rattle.hess_exp.specs.HessExp.{Small, unplanned, column, hess-exp-e1}
 use Rattle.arnoldi.specs.Basis.{Setting, dim, Basis, breakdown, full}
-use Rattle.phi_krylov_arnoldi.specs.declared.Estimate.{Estimate}
-use Rattle.phi_krylov_arnoldi.specs.Trials.{Trying, Tried, accepted, stuck, local-error, verdict, judge, try-step, exact-step, trials}
+use Rattle.trial_steps.specs.declared.Estimate.{Estimate}
+use Rattle.trial_steps.specs.Trials.{Trying, Tried, accepted, stuck, local-error, verdict, judge, try-step, exact-step, trials}
 use Rattle.phi_krylov_arnoldi.specs.Run.{State, End, finished, refused, applied-of, columns-of, advance, unfinished, standing, settle, substep, spent, run, first-length, started}
-use Rattle.phi_krylov_arnoldi.specs.Trace.{Accepted, accepted-in, made, trace, Attempt, lengths, tried-on, attempts}
-use Rattle.phi_krylov_arnoldi.proofs.Counts.{Kept, walk-keeps, Each, each-append, last, reached, basis-of, trials-of}
-use Rattle.phi_krylov_arnoldi.proofs.Positive.{round2-above}
-use Rattle.phi_krylov_arnoldi.proofs.Signs.{Clear, round2-fits, retry-above, retry-fits, retry-nan, error-clear, retry-at-most}
-
--- a double with the sign clear that is at most x
-pub record Within (x t : Float) : Type 0 where
-  pub fit : T (fits binary64 t)
-  pub clear : T (nonneg t)
-  pub most : T (t ⩽ x)
-
--- a double above 0 that is at most x
-pub record Step (x t : Float) : Type 0 where
-  pub fit : T (fits binary64 t)
-  pub above : T (+0 ⋖ t)
-  pub most : T (t ⩽ x)
+use Rattle.whole_run.specs.Trace.{Accepted, accepted-in, made, trace, lengths, tried-on, attempts}
+use Rattle.lists.proofs.Walk.{Kept, walk-keeps}
+use Rattle.whole_run.specs.Claim.{Each, last, Within, Step, Short, Steps}
+use Rattle.whole_run.proofs.Counts.{each-append, reached, basis-of, trials-of}
+use Rattle.whole_run.proofs.Positive.{round2-above}
+use Rattle.whole_run.proofs.Signs.{Clear, round2-fits, retry-above, retry-fits, retry-nan, error-clear, retry-at-most}
 
 pub clear-of : (t : Float) → T (+0 ⋖ t) → T (nonneg t)
 clear-of t h = above-zero t (is-true (+0 ⋖ t) h)
@@ -244,11 +234,7 @@ finished-time s h e = go (eq (s .control .beta) +0) (s .control .time ⋖ 1f) re
     go true b q e = inl refl
     go false b q e = inr (exact (q ∙ e))
 
--- ---- the trace: each substep starts at a time from +0 to below 1, and its length is above 0 and within what is left
-abbrev pub Steps : Float → List Accepted → Type 0
-Steps time [] = Unit {0}
-Steps time (a ∷ l) = Within 1f time × T (time ⋖ 1f) × Step (1f ⊖ time) (a .t) × Steps (time ⊕ a .t) l
-
+-- ---- the trace
 settle-steps : (p : Setting) (s : State) (b : Basis) (later : Turn State End → List Accepted) → ((o : Turn State End) → Timed o → Steps (reached o .control .time) (later o))
     → (h : Timely s) (l : T (s .control .time ⋖ 1f)) (o : Turn Trying Tried) → Trials (1f ⊖ s .control .time) (rest-step (h .time) l .0) (rest-step (h .time) l .1) 11 o
     → Steps (s .control .time) (accepted-in b o ++ later (settle p s b o))
@@ -270,10 +256,6 @@ trace-steps p (suc k) (on s) h = settle-steps p s (basis-of p s) (trace p k) (tr
 trace-steps p (suc k) (out e) h = tt
 
 -- ---- every length tried
--- NaN, or at most the rounded 1 - time
-abbrev pub Short : Attempt → Type 0
-Short a = (a .t ≡ nan) ⊎ T (a .t ⩽ 1f ⊖ a .time)
-
 short : (time t : Float) → Length (1f ⊖ time) t → Short (record { time = time; t = t })
 short time t (inl e) = inl e
 short time t (inr w) = inr (w .most)

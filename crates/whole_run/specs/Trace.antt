@@ -11,8 +11,8 @@ use Rattle.pow2.specs.declared.Prescale.{Prescale}
 use Rattle.pow2.specs.declared.Prescale.the-variants.{By, None}
 use Rattle.phi_action_helpers.specs.Augmented.{Augmented}
 use Rattle.arnoldi.specs.Basis.{Setting, Basis, breakdown, full, norm2, arnoldi}
-use Rattle.phi_krylov_arnoldi.specs.Trials.{Trying, Tried, accepted, stuck, try-step, trials}
+use Rattle.trial_steps.specs.Trials.{Trying, Tried, accepted, stuck, try-step, trials}
 use Rattle.phi_krylov_arnoldi.specs.Run.{State, End, applied-of, substep, started, setting, clamp-m}
 
 -- an accepted substep: products with the generator made, lengths rejected, the length accepted and its error
 pub record Accepted : Type 0 where

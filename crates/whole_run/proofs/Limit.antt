@@ -9,9 +9,11 @@ use native.Mathlib.Omega.{arith}
 use lib.Ieee.{Float}
 use Rattle.lists.specs.Walk.{Turn, on, out, walk}
 use Rattle.arnoldi.specs.Basis.{Setting, Basis}
-use Rattle.phi_krylov_arnoldi.specs.Trials.{Trying, Tried, accepted, stuck}
+use Rattle.trial_steps.specs.Trials.{Trying, Tried, accepted, stuck}
 use Rattle.phi_krylov_arnoldi.specs.Run.{State, End, finished, refused, applied-of, columns-of, advance, unfinished, standing, settle, substep, spent, run, started}
-use Rattle.phi_krylov_arnoldi.proofs.Counts.{Kept, walk-keeps, last, basis-of, trials-of}
+use Rattle.lists.proofs.Walk.{Kept, walk-keeps}
+use Rattle.whole_run.specs.Claim.{last}
+use Rattle.whole_run.proofs.Counts.{basis-of, trials-of}
 
 -- all substeps so far were accepted; the start alone is not asked whether it is unfinished
 abbrev Going : ℕ → State → Type 0

@@ -2,99 +2,21 @@
 use mathlib.Core.Path.{_≡_, refl, sym, ap, _∙_, subst}
 use mathlib.Core.Bool.{Bool, true, false}
 use mathlib.Core.List.{List, [], _∷_, _++_}
-use Prim.Native.Nat.{ℕ, zero, suc, _+_, _*_, _≤_, _<_, zero-le, suc-le-suc}
+use Prim.Native.Nat.{ℕ, zero, suc, _+_, _*_, _≤_, zero-le}
 use native.Mathlib.Nat.{le-refl, le-trans, le-of-eq, add-zero, add-assoc, zero-add, mul-suc, add-le-add}
 use native.Mathlib.Omega.{arith}
 use lib.ListN.{length, length-append}
 use lib.Ieee.{Float}
 use Rattle.lists.specs.Walk.{Turn, on, out, walk}
-use Rattle.doubles.specs.F64.{_⊕_, _⊖_, 1f, +0, minNum}
-use Rattle.hess_exp.specs.HessExp.{Small, unplanned, column, hess-exp-e1}
-use Rattle.arnoldi.specs.Basis.{Setting, dim, Columns, Rest, Breakdown, Basis, breakdown, full, extend, arnoldi-step, close, first-column, arnoldi}
-use Rattle.phi_krylov_arnoldi.specs.declared.Estimate.{Estimate}
-use Rattle.phi_krylov_arnoldi.specs.Trials.{Trying, Tried, accepted, stuck, verdict, judge, try-step, exact-step, trials}
-use Rattle.phi_krylov_arnoldi.specs.Run.{State, End, finished, refused, applied-of, columns-of, advance, unfinished, standing, settle, substep, spent, run, started}
-use Rattle.phi_krylov_arnoldi.specs.Trace.{Accepted, accepted-in, made, trace, total, time-after}
+use Rattle.doubles.specs.F64.{_⊕_, _⊖_, 1f}
+use Rattle.arnoldi.specs.Basis.{Setting, Basis, arnoldi}
+use Rattle.trial_steps.specs.Trials.{Trying, Tried, accepted, stuck, trials}
+use Rattle.trial_steps.proofs.Few.{Few, trials-few}
+use Rattle.phi_krylov_arnoldi.specs.Run.{State, End, applied-of, columns-of, advance, unfinished, standing, settle, substep, spent, run, started}
+use Rattle.phi_krylov_arnoldi.proofs.Turns.{applied-few}
+use Rattle.whole_run.specs.Trace.{Accepted, accepted-in, made, trace, total, time-after}
+use Rattle.whole_run.specs.Claim.{Each, last, Counted, Bounded}
 
--- ---- a walk keeps what each of its turns keeps
-module _ {S E : Type 0} (P : ℕ → S → Type 0) (Q : ℕ → E → Type 0) where
-  abbrev pub Kept : ℕ → Turn S E → Type 0
-  Kept i (on s) = P i s
-  Kept i (out e) = Q i e
-
-  pub walk-keeps : (step : ℕ → S → Turn S E) → ((i : ℕ) (s : S) → P i s → Kept (i + 1) (step i s)) → ((i j : ℕ) (e : E) → i ≤ j → Q i e → Q j e) → (k i : ℕ) (o : Turn S E) → Kept i o → Kept (i + k) (walk step k i o)
-  unfolding walk
-  walk-keeps step one later zero i o h = subst (λ (n : ℕ). Kept n o) (sym (add-zero i)) h
-  walk-keeps step one later (suc k) i (on s) h =
-      subst (λ (n : ℕ). Kept n (walk step k (i + 1) (step i s))) (next i k) (walk-keeps step one later k (i + 1) (step i s) (one i s h))
-    where
-      next : (i k : ℕ) → i + 1 + k ≡ i + suc k
-      next i k = omega arith
-  walk-keeps step one later (suc k) i (out e) h = later i (i + suc k) e (omega arith) h
-
--- ---- a basis: one product for each column, and one more where there is no breakdown
-abbrev Built : ℕ → Turn Columns Breakdown → Type 0
-Built j o = Kept (λ (i : ℕ) (b : Columns). b .applied ≡ i) (λ (i : ℕ) (b : Breakdown). (b .columns .applied ≡ b .mb) × (b .mb ≤ i)) j o
-
-extend-built : (p : Setting) (j : ℕ) (b : Columns) (r : Rest) (hn : Float) (t : Bool) → b .applied ≡ j → Built (j + 1) (extend p j b r hn t)
-unfolding extend
-extend-built p j b r hn true h = (omega (arith, h), le-refl (j + 1))
-extend-built p j b r hn false h = omega (arith, h)
-
-abbrev pub Products : ℕ → Basis → Type 0
-Products M (breakdown b) = (b .columns .applied ≡ b .mb) × (b .mb ≤ M)
-Products M (full b avnorm) = b .applied ≡ suc M
-
-close-built : (p : Setting) (o : Turn Columns Breakdown) → Built (p .m) o → Products (p .m) (close p o)
-unfolding close
-close-built p (out b) h = h
-close-built p (on b) h = ap suc h
-
-pub basis-products : (p : Setting) (y : List Float) (beta : Float) → Products (p .m) (arnoldi p y beta)
-unfolding arnoldi arnoldi-step first-column
-basis-products p y beta =
-    close-built p (walk (arnoldi-step p beta) (p .m) 0 (on (first-column p y beta)))
-    (subst (λ (n : ℕ). Built n (walk (arnoldi-step p beta) (p .m) 0 (on (first-column p y beta)))) (zero-add (p .m))
-    (walk-keeps _ _ (arnoldi-step p beta) (λ j b h. extend-built p j b _ _ _ h) (λ i j e l h. (h .0, le-trans (h .1) l)) (p .m) 0 (on (first-column p y beta)) refl))
-
-products-few : (M : ℕ) (b : Basis) → Products M b → applied-of b ≤ suc M
-products-few M (breakdown b) h = omega (arith, h .0, h .1)
-products-few M (full b avnorm) h = le-of-eq h
-
--- ---- trials: at most ten rejections before a length is accepted
-abbrev pub few : ℕ → Tried → Type 0
-few k (accepted r t f err) = r < k
-few k (stuck arg) = Unit {0}
-
-abbrev pub Few : ℕ → Turn Trying Tried → Type 0
-Few k o = Kept (λ (i : ℕ) (s : Trying). s .rejections ≡ i) few k o
-
-verdict-few : (p : Setting) (s : Trying) (f : List Float) (e : Estimate) (b : Bool) (k : ℕ) → s .rejections ≡ k → Few (k + 1) (verdict p s f e b)
-unfolding verdict
-verdict-few p s f e true k h = omega (arith, h)
-verdict-few p s f e false k h = omega (arith, h)
-
-judge-few : (p : Setting) (beta avnorm : Float) (s : Trying) (f : Small) (k : ℕ) → s .rejections ≡ k → Few (k + 1) (judge p beta avnorm s f)
-unfolding judge
-judge-few p beta avnorm s (unplanned arg) k h = tt
-judge-few p beta avnorm s (column f) k h = verdict-few p s f _ _ k h
-
-few-later : (i j : ℕ) (e : Tried) → i ≤ j → few i e → few j e
-few-later i j (accepted r t f err) l h = le-trans h l
-few-later i j (stuck arg) l h = tt
-
-exact-few : (beta hn remaining : Float) (f : Small) → Few 11 (exact-step beta hn remaining f)
-unfolding exact-step
-exact-few beta hn remaining (unplanned arg) = tt
-exact-few beta hn remaining (column f) = suc-le-suc zero-le
-
-pub trials-few : (p : Setting) (beta next remaining : Float) (b : Basis) → Few 11 (trials p beta next remaining b)
-unfolding trials try-step
-trials-few p beta next remaining (breakdown b) = exact-few beta (b .hn) remaining (hess-exp-e1 (b .columns .h) (dim p) (b .mb) remaining)
-trials-few p beta next remaining (full b avnorm) =
-    walk-keeps _ _ (try-step p beta (b .h) avnorm) (λ k s h. judge-few p beta avnorm s (hess-exp-e1 (b .h) (dim p) (dim p) (s .t)) k h) few-later 11 0 (on (record { rejections = 0; t = minNum next remaining })) refl
-
--- ---- what a substep adds
 -- the basis of the substep from s, and its trials
 abbrev pub basis-of : Setting → State → Basis
 basis-of p s = arnoldi p (s .y) (s .control .beta)
@@ -107,11 +29,6 @@ pub record Adds (s s' : State) (l : List Accepted) : Type 0 where
   pub matvecs : s' .report .matvecs ≡ s .report .matvecs + total (λ a. a .products) l
   pub rejected : s' .report .rejected ≡ s .report .rejected + total (λ a. a .rejections) l
   pub time : s' .control .time ≡ time-after (s .control .time) l
-
--- the last accepted state
-abbrev pub last : End → State
-last (finished s) = s
-last (refused r x s) = s
 
 abbrev pub reached : Turn State End → State
 reached (on s) = s
@@ -172,10 +89,6 @@ unfolding run
 run-adds p limit s = subst (λ (z : State). Adds s z (trace p limit (on s))) (sym (spent-state _)) (walk-adds p limit 0 (on s))
 
 -- ---- the bounds
-abbrev pub Each : {A : Type 0} → (A → Type 0) → List A → Type 0
-Each P [] = Unit {0}
-Each P (a ∷ l) = P a × Each P l
-
 pub each-append : {A : Type 0} (P : A → Type 0) (l l' : List A) → Each P l → Each P l' → Each P (l ++ l')
 each-append P [] l' h i = i
 each-append P (a ∷ l) l' h i = (h .0, each-append P l l' (h .1) i)
@@ -192,7 +105,7 @@ accepted-modest M b (out (accepted r t g err)) h f = ((h, omega (arith, f)), tt)
 
 made-modest : (p : Setting) (s : State) → Each (Modest (p .m)) (made p s)
 unfolding made
-made-modest p s = accepted-modest (p .m) (basis-of p s) (trials-of p s) (products-few (p .m) (basis-of p s) (basis-products p (s .y) (s .control .beta))) (trials-few p (s .control .beta) (s .control .next) (1f ⊖ s .control .time) (basis-of p s))
+made-modest p s = accepted-modest (p .m) (basis-of p s) (trials-of p s) (applied-few p (s .y) (s .control .beta)) (trials-few p (s .control .beta) (s .control .next) (1f ⊖ s .control .time) (basis-of p s))
 
 pub trace-modest : (p : Setting) (k : ℕ) (o : Turn State End) → Each (Modest (p .m)) (trace p k o)
 unfolding trace
@@ -227,20 +140,7 @@ trace-short p (suc k) (on s) = le-trans (le-of-eq (length-append (made p s) (tra
     one-more k = omega arith
 trace-short p (suc k) (out e) = zero-le
 
--- the counts of a state that a run of at most k substeps from the start has reached
-pub record Bounded (M k : ℕ) (s : State) : Type 0 where
-  pub substeps : s .report .substeps ≤ k
-  pub matvecs : s .report .matvecs ≤ suc M * s .report .substeps
-  pub rejected : s .report .rejected ≤ 10 * s .report .substeps
-
 -- ---- from the start
--- the counts are those of the trace, and the time its rounded running sum
-pub record Counted (s : State) (l : List Accepted) : Type 0 where
-  pub substeps : s .report .substeps ≡ length l
-  pub matvecs : s .report .matvecs ≡ total (λ a. a .products) l
-  pub rejected : s .report .rejected ≡ total (λ a. a .rejections) l
-  pub time : s .control .time ≡ time-after +0 l
-
 pub run-counted : (p : Setting) (limit : ℕ) (y : List Float) → Counted (last (run p limit (started p y))) (trace p limit (on (started p y)))
 unfolding started
 run-counted p limit y =

@@ -10,7 +10,7 @@ use Rattle.doubles.specs.F64.{if_then_else_, _⊖_, _⊗_, _⊘_, _⋖_, bits, 
 use Rattle.retry.specs.Retry.{accepts, retry, open-Retry}
 use Rattle.hess_exp.specs.HessExp.{Small, unplanned, column, hess-exp-e1, open-HessExp}
 use Rattle.arnoldi.specs.Basis.{Setting, dim, Columns, Breakdown, Basis, breakdown, full, open-Basis}
-use Rattle.phi_krylov_arnoldi.specs.declared.Estimate.{Estimate}
+use Rattle.trial_steps.specs.declared.Estimate.{Estimate}
 
 abbrev pub 10f : Float
 10f = bits 0x4024_0000_0000_0000

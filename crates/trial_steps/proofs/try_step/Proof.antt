@@ -1,4 +1,4 @@
--- `phi_krylov_arnoldi::try_step` meets its contract. Assumes nothing.
+-- `trial_steps::try_step` meets its contract. Assumes nothing.
 use borrow.Author.Needs.{needs}
 use native.Mathlib.Omega.{arith}
 use Prim.Native.Nat.{ℕ, _+_, _≤_}
@@ -7,9 +7,9 @@ use mathlib.Core.List.{List}
 use lib.Ieee.{Float}
 use lib.ListN.{length, take}
 use lib.Seq.{length-take-le}
-use Rattle.phi_krylov_arnoldi.proofs.Tries.{no-plan, taken, left}
-use Rattle.phi_krylov_arnoldi.proofs.try_step.Statement.{statement}
-use Rattle.phi_krylov_arnoldi.proofs.try_step.Tie as tie
+use Rattle.trial_steps.proofs.Tries.{no-plan, taken, left}
+use Rattle.trial_steps.proofs.try_step.Statement.{statement}
+use Rattle.trial_steps.proofs.try_step.Tie as tie
 
 -- the first m + 2 of the array
 front : (m : ℕ) (f : List Float) → m ≤ 128 → length f ≡ 130 → length (take (m + 2) f) ≡ m + 2

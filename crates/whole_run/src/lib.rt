@@ -1,0 +1,1 @@
+// What whole Krylov runs do: the claim in specs/, its laws in proofs/. No code.
