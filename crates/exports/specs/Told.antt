@@ -1,10 +1,13 @@
 -- An answer as the numbers that an exported function hands back. Definitions only.
 use Prim.Native.Nat.{ℕ}
 use lib.Ieee.{Float}
-use Rattle.combination.specs.Call.{Call, ends}
 use Rattle.phi_action.specs.declared.TaylorReport.{TaylorReport}
 use Rattle.phi_action.specs.declared.TaylorAnswer.{TaylorAnswer}
-use Rattle.phi_action.specs.declared.TaylorAnswer.the-variants.{Refusal, Soaked}
+use Rattle.phi_action.specs.declared.TaylorAnswer.the-variants as taylor
+use Rattle.phi_krylov_arnoldi.specs.declared.KrylovPhiReport.{KrylovPhiReport}
+use Rattle.phi_krylov.specs.declared.KrylovPhiOptions.{KrylovPhiOptions}
+use Rattle.phi_krylov.specs.declared.KrylovAnswer.{KrylovAnswer}
+use Rattle.phi_krylov.specs.declared.KrylovAnswer.the-variants as krylov
 
 -- 0 or the refusal's number, the double reported, and three counts
 pub record Numbers : Type 0 where
@@ -19,8 +22,13 @@ numbers k x a b c = record { number = k; value = x; first = a; second = b; third
 
 -- of Taylor: mu, s, m and the applications
 unfoldable pub taylor-numbers : TaylorAnswer → Numbers
-taylor-numbers (Refusal k x) = numbers k x 0 0 0
-taylor-numbers (Soaked r) = numbers 0 (r .mu) (r .s) (r .m) (r .applications)
+taylor-numbers (taylor.Refusal k x) = numbers k x 0 0 0
+taylor-numbers (taylor.Soaked r) = numbers 0 (r .mu) (r .s) (r .m) (r .applications)
 
-unfoldable pub taylor-told : Call TaylorAnswer → Call Numbers
-taylor-told c = ends (taylor-numbers (c .answer)) (c .output) (c .memory)
+-- of Krylov: the estimate, the substeps, the applications and the rejections
+unfoldable pub krylov-numbers : KrylovAnswer → Numbers
+krylov-numbers (krylov.Refusal k x) = numbers k x 0 0 0
+krylov-numbers (krylov.Soaked r) = numbers 0 (r .«est_error») (r .substeps) (r .matvecs) (r .rejected)
+
+abbrev pub options : Float → ℕ → ℕ → KrylovPhiOptions
+options tol m limit = record { tol = tol; m = m; «max_substeps» = limit }

@@ -16,7 +16,7 @@ use Rattle.phi_krylov.specs.declared.PhiAnswer.{PhiAnswer}
 use Rattle.phi_krylov.specs.declared.PhiSolver.{PhiSolver}
 use Rattle.phi_krylov.specs.declared.PhiSolver.the-variants.{Taylor, Krylov}
 
-answered : {A B : Type 0} (f : A → B) (x : A) {r : B} {out₁ w₁ : List Float} {c : Call A} → r ≡ f x → ends x out₁ w₁ ≡ c → ends r out₁ w₁ ≡ answering f c
+pub answered : {A B : Type 0} (f : A → B) (x : A) {r : B} {out₁ w₁ : List Float} {c : Call A} → r ≡ f x → ends x out₁ w₁ ≡ c → ends r out₁ w₁ ≡ answering f c
 unfolding answering
 answered f x {r} {out₁} {w₁} {c} er ec = (λ i. ends (er i) out₁ w₁) ∙ ap (answering f) ec
 
