@@ -194,7 +194,9 @@ fn replay(file: &str, side: &str) -> Result<bool, String> {
             "rattle" => rattle::answer(&job),
             _ => return Err(USAGE.into()),
         };
-        println!("{}", answer.map_or("not exported".into(), |a| a.print()));
+        let paths: Vec<_> = transcribed::probe::take_hits().into_keys().collect();
+        let paths = if paths.is_empty() { String::new() } else { format!("  # {}", paths.join("; ")) };
+        println!("{}{paths}", answer.map_or("not exported".into(), |a| a.print()));
     }
     Ok(true)
 }
