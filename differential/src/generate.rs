@@ -81,6 +81,9 @@ pub fn random(kind: Kind, r: &mut Random) -> Job {
         2 if kind == Kind::Krylov => decaying(r),
         3 if kind == Kind::Krylov => huge(r),
         4 if kind == Kind::Krylov => hard(r),
+        5 if kind == Kind::Krylov => chain(r),
+        6 if kind == Kind::Krylov => stiff(r),
+        7 if kind == Kind::Krylov => rough(r),
         _ => good(kind, r),
     };
     if r.once_in(3) {
@@ -239,7 +242,7 @@ fn at_plan_boundary(kind: Kind, r: &mut Random) -> Job {
 /// Vectors, tau and entries so large that sums and products overflow, or so small that the scaling does.
 fn at_overflow(kind: Kind, r: &mut Random) -> Job {
     let mut job = good(kind, r);
-    match r.below(4) {
+    match r.below(6) {
         0 => {
             let top = r.pick(&[1e308, 1e300, 1e200, 1e154, 1e100]);
             job.w.iter_mut().for_each(|x| *x *= top);
@@ -255,6 +258,17 @@ fn at_overflow(kind: Kind, r: &mut Random) -> Job {
             job.vals.iter_mut().for_each(|x| *x *= 1e307);
             job.tau = r.pick(&[1.0, 1e-300, 1e-307, 10.0, 1e-308]);
         }
+        3 => {
+            // entries that are finite, in rows whose sums are not
+            job.vals.iter_mut().for_each(|x| *x = x.signum() * 1.2e308);
+            job.tau = r.pick(&[1.0, 1e-308]);
+        }
+        4 => {
+            // gains of a tau above 2^24 with the greatest eta
+            job.w.iter_mut().for_each(|x| *x *= 5e-324);
+            job.tau = r.pick(&[1e5, 1.6e7, 1e8, 1e10, 1e12]);
+            job.vals.iter_mut().for_each(|x| *x /= job.tau);
+        }
         _ => job.tau *= r.pick(&[1e9, 1e10, 1e12, 1e300, 1e308]),
     }
     job
@@ -263,7 +277,7 @@ fn at_overflow(kind: Kind, r: &mut Random) -> Job {
 /// A field that decays so far that its squares underflow.
 fn decaying(r: &mut Random) -> Job {
     let mut job = good(Kind::Krylov, r);
-    let n = r.from_to(1, 8) as usize;
+    let n = r.pick(&[1, 2, 3, 4, 6, 8, 20, 44]);
     job.n = n;
     job.starts = (0..=n as u32).collect();
     job.cols = (0..n as u32).collect();
@@ -272,7 +286,7 @@ fn decaying(r: &mut Random) -> Job {
     job.mass = None;
     job.tau = 1.0;
     job.count = 1;
-    job.call = Call::Krylov { tol: r.pick(&[1e-10, 1e-3, 0.5]), m: r.pick(&[2, 3, 5, 10]), limit: 100_000 };
+    job.call = Call::Krylov { tol: r.pick(&[1e-10, 1e-3, 0.5, 1e-30, 1e-100]), m: r.pick(&[2, 3, 5, 10, 20, 40]), limit: 100_000 };
     fill(&mut job, r);
     job
 }
@@ -293,6 +307,63 @@ fn hard(r: &mut Random) -> Job {
     let mut job = good(Kind::Krylov, r);
     job.call = Call::Krylov { tol: r.pick(&[1e-16, 1e-30, 1e-100, 1e-300, 5e-324, 1e-15]), m: r.pick(&[2, 3, 4, 6]), limit: r.pick(&[1, 3, 10, 50]) };
     job.tau *= r.pick(&[1.0, 10.0, 1e3, 1e-3]);
+    fill(&mut job, r);
+    job
+}
+
+/// A decaying chain of rows so weakly coupled that the local error is subnormal.
+fn chain(r: &mut Random) -> Job {
+    let mut job = good(Kind::Krylov, r);
+    let n = r.from_to(26, 40) as usize;
+    let a = r.pick(&[50.0, 100.0, 350.0]);
+    let c = a * 10.0_f64.powf(-11.9 + r.unit());
+    (job.n, job.starts, job.cols, job.vals, job.mass) = (n, vec![0], vec![], vec![], None);
+    for i in 0..n {
+        if i > 0 {
+            job.cols.push(i as u32 - 1);
+            job.vals.push(c);
+        }
+        job.cols.push(i as u32);
+        job.vals.push(a);
+        job.starts.push(job.vals.len() as u32);
+    }
+    job.tau = 1.0;
+    job.count = 1;
+    job.call = Call::Krylov { tol: r.pick(&[0.5, 0.1, 1e-3]), m: r.from_to(12, 32) as usize, limit: 100 };
+    fill(&mut job, r);
+    job.w.fill(0.0);
+    job.w[0] = 1.0;
+    job
+}
+
+/// So large a tau that the columns are rounding errors, with a tolerance that is easily met.
+fn rough(r: &mut Random) -> Job {
+    let mut job = good(Kind::Krylov, r);
+    job.tau = 10.0_f64.powf(7.0 + 7.0 * r.unit());
+    job.call = Call::Krylov { tol: r.pick(&[0.9, 0.5, 0.1, 1e-3]), m: r.pick(&[2, 3, 4]), limit: r.pick(&[10, 100, 1000]) };
+    fill(&mut job, r);
+    job
+}
+
+/// Rows of very different rates, or a flow from row to row, at large tau.
+fn stiff(r: &mut Random) -> Job {
+    let mut job = good(Kind::Krylov, r);
+    let n = r.from_to(3, 40) as usize;
+    let (spread, flow, rate) = (4.0 * r.unit(), r.once_in(2), 10.0_f64.powf(4.0 * r.unit()));
+    (job.n, job.starts, job.cols, job.vals, job.mass) = (n, vec![0], vec![], vec![], None);
+    for i in 0..n {
+        let a = rate * 10.0_f64.powf(-spread * r.unit());
+        job.cols.push(i as u32);
+        job.vals.push(a);
+        if flow && i > 0 {
+            job.cols.push(i as u32 - 1);
+            job.vals.push(-a * r.pick(&[1.0, 1.0, 3.0]));
+        }
+        job.starts.push(job.vals.len() as u32);
+    }
+    job.tau = r.pick(&[1.0, 1.0, 0.1]);
+    job.count = r.pick(&[1, 1, 2, 4]);
+    job.call = Call::Krylov { tol: 10.0_f64.powf(-1.0 - 15.0 * r.unit()), m: r.from_to(2, 40) as usize, limit: r.pick(&[10, 100, 100_000]) };
     fill(&mut job, r);
     job
 }
@@ -339,7 +410,7 @@ fn damage(job: &mut Job, r: &mut Random) {
         13 => {
             // entries before the first row
             if let Some(s) = job.starts.first_mut() {
-                *s += 1;
+                *s = s.wrapping_add(1);
             }
         }
         14 => job.vals.iter_mut().for_each(|v| *v *= 1e308),

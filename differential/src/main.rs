@@ -13,7 +13,7 @@ use jobs::{Answer, Call, Job};
 use random::Random;
 
 const USAGE: &str = "usage:
-  differential run [--seed N] [--jobs N] [--calls combination,krylov,action,batched] [--cost N] [--show N] [--libm]
+  differential run [--seed N] [--jobs N] [--calls combination,krylov,action,batched] [--cost N] [--show N] [--libm] [--find NUMBER|PATH]
   differential jobs [--seed N] [--jobs N] [--calls ...]
   differential replay FILE --side rust|transcribed|rattle";
 
@@ -46,13 +46,15 @@ struct Options {
     cost: u64,
     /// How many differences are printed with their job.
     show: usize,
+    /// Jobs with this number or path are printed.
+    find: Option<String>,
     /// Also lists where the Rust with its own libm differs from the transcribed.
     libm: bool,
 }
 
 impl Options {
     fn read(words: &[String]) -> Result<Options, String> {
-        let mut o = Options { seed: 1, jobs: 100_000, kinds: KINDS.to_vec(), cost: 20_000_000, show: 5, libm: false };
+        let mut o = Options { seed: 1, jobs: 100_000, kinds: KINDS.to_vec(), cost: 20_000_000, show: 5, find: None, libm: false };
         let mut words = words.iter();
         while let Some(word) = words.next() {
             if word == "--libm" {
@@ -65,6 +67,7 @@ impl Options {
                 "--seed" => o.seed = number()?,
                 "--jobs" => o.jobs = number()? as usize,
                 "--cost" => o.cost = number()?,
+                "--find" => o.find = Some(value.clone()),
                 "--show" => o.show = number()? as usize,
                 "--calls" => o.kinds = value.split(',').map(kind).collect::<Result<_, _>>()?,
                 _ => return Err(format!("no option {word}\n{USAGE}")),
@@ -141,7 +144,11 @@ fn one(o: &Options, job: &Job, t: &mut Tally) {
         return;
     };
     *t.numbers.entry((bits.number, call)).or_default() += 1;
-    for path in transcribed::probe::take_hits().into_keys() {
+    let paths = transcribed::probe::take_hits();
+    if o.find.as_ref().is_some_and(|f| *f == bits.number.to_string() || paths.contains_key(f.as_str())) {
+        println!("{}", job.print());
+    }
+    for path in paths.into_keys() {
         *t.paths.entry(path).or_default() += 1;
     }
     let krylov = matches!(job.call, Call::Krylov { .. });
@@ -187,7 +194,9 @@ fn replay(file: &str, side: &str) -> Result<bool, String> {
             "rattle" => rattle::answer(&job),
             _ => return Err(USAGE.into()),
         };
-        println!("{}", answer.map_or("not exported".into(), |a| a.print()));
+        let paths: Vec<_> = transcribed::probe::take_hits().into_keys().collect();
+        let paths = if paths.is_empty() { String::new() } else { format!("  # {}", paths.join("; ")) };
+        println!("{}{paths}", answer.map_or("not exported".into(), |a| a.print()));
     }
     Ok(true)
 }

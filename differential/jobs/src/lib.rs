@@ -16,7 +16,8 @@
 //! | tol, m, limit | of `krylov` alone: double, number, number |
 //! | out, work | the lengths of output and working memory |
 //!
-//! Before a call, element i of the output holds [`mark`] i, element i of the working memory `mark` (2^32 + i).
+//! Before a call, element i of the output holds [`mark`] i, element i of the working memory `mark` (2^32 + i). In an
+//! answer `.` stands for an element that still holds its mark, and `*k` after one for k equal ones.
 
 #[derive(Clone, Copy, Debug, PartialEq)]
 pub enum Call {
@@ -179,7 +180,8 @@ impl Job {
 impl Answer {
     pub fn print(&self) -> String {
         let [a, b, c] = self.counts;
-        format!("number={} value={} counts={a},{b},{c} out={} work={}", self.number, double(&self.value), doubles(&self.out), doubles(&self.work))
+        let (out, work) = (runs(&self.out, 0), runs(&self.work, 1 << 32));
+        format!("number={} value={} counts={a},{b},{c} out={out} work={work}", self.number, double(&self.value))
     }
 
     /// Which parts differ, bit for bit; none if the answers are the same.
@@ -211,6 +213,19 @@ fn double(x: &f64) -> String {
 
 fn doubles(xs: &[f64]) -> String {
     list(xs, double)
+}
+
+/// A list in which elements that still hold their marks, from `first` on, are dots, and equal ones are counted.
+fn runs(xs: &[f64], first: usize) -> String {
+    let mut words: Vec<(String, usize)> = vec![];
+    for (i, x) in xs.iter().enumerate() {
+        let word = if bits(*x) == bits(mark(first + i)) { ".".into() } else { double(x) };
+        match words.last_mut() {
+            Some((last, k)) if *last == word => *k += 1,
+            _ => words.push((word, 1)),
+        }
+    }
+    list(&words, |(word, k)| if *k == 1 { word.clone() } else { format!("{word}*{k}") })
 }
 
 fn list<T>(xs: &[T], one: impl Fn(&T) -> String) -> String {
