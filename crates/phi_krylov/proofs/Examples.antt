@@ -59,3 +59,9 @@ limited : phi-combination-krylov four none 1f 2 fields (options (bits 0x3f847ae1
     ≡ ends (Refusal 27 (bits 0x3e620310ebf08c7b)) (bits 0xc001b9196788d1dc ∷ bits 0x3fff7a32475dbb61 ∷ bits 0x3fe02723fdd5eb38 ∷ bits 0xc004a90a6aa9d7d8 ∷ []) (replicate 59 +0)
 unfolding open-KrylovCall
 limited = refl
+
+-- tau so large that no inner row is admissible: 29 with the inner argument, and the start as it was
+no-inner-row : phi-combination-krylov (csr 1 (0 ∷ 1 ∷ []) (0 ∷ []) (bits 0x3f50624dd2f1a9fc ∷ [])) none (bits 0x42b5aa4ae2eae370) 1 (bits 0xbff12aaf04ea1d54 ∷ []) (options (bits 0x3eb0c6f7a0b5ed8d) 30 2) (nat 7 ∷ []) (replicate 23 (nat 9))
+    ≡ ends (Refusal 29 (bits 0x42162f674ec37842)) (bits 0xbff12aaf04ea1d54 ∷ []) (replicate 22 +0 ++ (nat 9 ∷ []))
+unfolding open-KrylovCall
+no-inner-row = refl
