@@ -54,7 +54,19 @@ pub fn short(kind: Kind, index: usize) -> Job {
     let (starts, rest) = (word(rest % 40, 3), rest / 40);
     let (cols, vals) = (word(rest % 13, 2), word(rest / 13, 2));
     let vals = vals.iter().map(|&v| [-2.0, 3.0, f64::NAN][v as usize]).collect();
-    let mut job = Job { call: call_of(kind, &mut Random(index as u64)), n, starts, cols, vals, mass: None, tau: 0.75, count: 1, w: vec![], out: 0, work: 0 };
+    let mut job = Job {
+        call: call_of(kind, &mut Random(index as u64)),
+        n,
+        starts,
+        cols,
+        vals,
+        mass: None,
+        tau: 0.75,
+        count: 1,
+        w: vec![],
+        out: 0,
+        work: 0,
+    };
     job.w = (0..job.vectors()).map(|i| 1.5 - i as f64).collect();
     job.out = job.output();
     job.work = job.need();
@@ -305,7 +317,11 @@ fn huge(r: &mut Random) -> Job {
 /// A tolerance that lengths fail to meet, in few dimensions.
 fn hard(r: &mut Random) -> Job {
     let mut job = good(Kind::Krylov, r);
-    job.call = Call::Krylov { tol: r.pick(&[1e-16, 1e-30, 1e-100, 1e-300, 5e-324, 1e-15]), m: r.pick(&[2, 3, 4, 6]), limit: r.pick(&[1, 3, 10, 50]) };
+    job.call = Call::Krylov {
+        tol: r.pick(&[1e-16, 1e-30, 1e-100, 1e-300, 5e-324, 1e-15]),
+        m: r.pick(&[2, 3, 4, 6]),
+        limit: r.pick(&[1, 3, 10, 50]),
+    };
     job.tau *= r.pick(&[1.0, 10.0, 1e3, 1e-3]);
     fill(&mut job, r);
     job
@@ -363,7 +379,8 @@ fn stiff(r: &mut Random) -> Job {
     }
     job.tau = r.pick(&[1.0, 1.0, 0.1]);
     job.count = r.pick(&[1, 1, 2, 4]);
-    job.call = Call::Krylov { tol: 10.0_f64.powf(-1.0 - 15.0 * r.unit()), m: r.from_to(2, 40) as usize, limit: r.pick(&[10, 100, 100_000]) };
+    job.call =
+        Call::Krylov { tol: 10.0_f64.powf(-1.0 - 15.0 * r.unit()), m: r.from_to(2, 40) as usize, limit: r.pick(&[10, 100, 100_000]) };
     fill(&mut job, r);
     job
 }

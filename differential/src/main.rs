@@ -90,13 +90,14 @@ fn name_of(kind: Kind) -> &'static str {
     }
 }
 
-/// The jobs of a run: every short one, then random ones, the calls in turn.
+/// The jobs of a run, the calls in turn: of each four of a call one is a short one, as long as there are any.
 fn all_jobs(o: &Options, mut each: impl FnMut(Job)) {
     let mut r = Random(o.seed);
     for i in 0..o.jobs {
         let kind = o.kinds[i % o.kinds.len()];
         let index = i / o.kinds.len();
-        each(if index < generate::SHORT { generate::short(kind, index) } else { generate::random(kind, &mut r) });
+        let short = index / 4;
+        each(if index % 4 == 0 && short < generate::SHORT { generate::short(kind, short) } else { generate::random(kind, &mut r) });
     }
 }
 
