@@ -11,6 +11,7 @@ ghost use Rattle.generator_action.specs.Mass.{given};
 ghost use Rattle.combination.specs.Call.{ends};
 ghost use Rattle.phi_krylov.specs.Combine.{answering};
 ghost use Rattle.exports.specs.Told.{numbers, taylor-numbers};
+ghost use Rattle.exports_bytes.specs.declared.TaylorCall.the-variants.{Combination, Action, Batch};
 ghost use Rattle.exports_bytes.specs.Replies.{large, replies, replied, taylor};
 ghost use Rattle.exports_bytes.specs.Bytes.{half, word, double-at, numbers-of, doubles-of, byte-over, written-over};
 
@@ -283,4 +284,201 @@ fn run(
     pack_doubles(out_room, out);
     pack_doubles(work_room, work);
     number
+}
+
+// 255 for a large job.
+fn answer(
+    call: TaylorCall,
+    n: usize,
+    starts: &[u8],
+    cols: &[u8],
+    vals: &[u8],
+    with_mass: bool,
+    mass: &[u8],
+    tau: f64,
+    k: usize,
+    v: &[u8],
+    out: &mut [u8],
+    work: &mut [u8],
+    value: &mut f64,
+    s: &mut u32,
+    m: &mut u32,
+    applications: &mut u64,
+) -> u32
+    ensures { λ r. ⌜ replies (numbers r (now (value .exit)) (now (s .exit)) (now (m .exit)) (now (applications .exit))) (now (out .exit)) (now (work .exit)) ≡ replied (large n (length (now (starts .entry))) (length (now (cols .entry))) (length (now (vals .entry))) (length (now (mass .entry))) (length (now (v .entry))) (length (now (out .entry))) (length (now (work .entry)))) (replies (numbers 255 (now (value .entry)) (now (s .entry)) (now (m .entry)) (now (applications .entry))) (now (out .entry)) (now (work .entry))) (answering taylor-numbers (taylor call (csr n (numbers-of (now (starts .entry))) (numbers-of (now (cols .entry))) (doubles-of (now (vals .entry)))) (given «with_mass» (doubles-of (now (mass .entry)))) tau k (doubles-of (now (v .entry))) (doubles-of (now (out .entry))) (doubles-of (now (work .entry))))) ⌝ }
+{
+    if large(
+        n,
+        starts.len(),
+        cols.len(),
+        vals.len(),
+        mass.len(),
+        v.len(),
+        out.len(),
+        work.len(),
+    ) {
+        return 255;
+    }
+    let mut starts_room = [0u32; 512];
+    let mut cols_room = [0u32; 512];
+    let mut vals_room = [0.0f64; 512];
+    let mut mass_room = [0.0f64; 512];
+    let mut v_room = [0.0f64; 512];
+    let mut out_room = [0.0f64; 512];
+    let mut work_room = [0.0f64; 4096];
+    let starts_count = starts.len() / 4;
+    let cols_count = cols.len() / 4;
+    let vals_count = vals.len() / 8;
+    let mass_count = mass.len() / 8;
+    let v_count = v.len() / 8;
+    let out_count = out.len() / 8;
+    let work_count = work.len() / 8;
+    run(
+        call,
+        n,
+        starts,
+        cols,
+        vals,
+        with_mass,
+        mass,
+        tau,
+        k,
+        v,
+        out,
+        work,
+        value,
+        s,
+        m,
+        applications,
+        &mut starts_room[..starts_count],
+        &mut cols_room[..cols_count],
+        &mut vals_room[..vals_count],
+        &mut mass_room[..mass_count],
+        &mut v_room[..v_count],
+        &mut out_room[..out_count],
+        &mut work_room[..work_count],
+    )
+}
+
+// `phi_action::phi_combination`; `k` is its number of vectors.
+#[no_mangle]
+pub extern "C" fn hazhendu_phi_combination_bytes(
+    n: usize,
+    starts: &[u8],
+    cols: &[u8],
+    vals: &[u8],
+    with_mass: bool,
+    mass: &[u8],
+    tau: f64,
+    k: usize,
+    v: &[u8],
+    out: &mut [u8],
+    work: &mut [u8],
+    value: &mut f64,
+    s: &mut u32,
+    m: &mut u32,
+    applications: &mut u64,
+) -> u32
+    ensures { λ r. ⌜ replies (numbers r (now (value .exit)) (now (s .exit)) (now (m .exit)) (now (applications .exit))) (now (out .exit)) (now (work .exit)) ≡ replied (large n (length (now (starts .entry))) (length (now (cols .entry))) (length (now (vals .entry))) (length (now (mass .entry))) (length (now (v .entry))) (length (now (out .entry))) (length (now (work .entry)))) (replies (numbers 255 (now (value .entry)) (now (s .entry)) (now (m .entry)) (now (applications .entry))) (now (out .entry)) (now (work .entry))) (answering taylor-numbers (taylor Combination (csr n (numbers-of (now (starts .entry))) (numbers-of (now (cols .entry))) (doubles-of (now (vals .entry)))) (given «with_mass» (doubles-of (now (mass .entry)))) tau k (doubles-of (now (v .entry))) (doubles-of (now (out .entry))) (doubles-of (now (work .entry))))) ⌝ }
+{
+    answer(
+        TaylorCall::Combination,
+        n,
+        starts,
+        cols,
+        vals,
+        with_mass,
+        mass,
+        tau,
+        k,
+        v,
+        out,
+        work,
+        value,
+        s,
+        m,
+        applications,
+    )
+}
+
+// `phi_action::phi_action`; `k` is its index.
+#[no_mangle]
+pub extern "C" fn hazhendu_phi_action_bytes(
+    n: usize,
+    starts: &[u8],
+    cols: &[u8],
+    vals: &[u8],
+    with_mass: bool,
+    mass: &[u8],
+    tau: f64,
+    k: usize,
+    v: &[u8],
+    out: &mut [u8],
+    work: &mut [u8],
+    value: &mut f64,
+    s: &mut u32,
+    m: &mut u32,
+    applications: &mut u64,
+) -> u32
+    ensures { λ r. ⌜ replies (numbers r (now (value .exit)) (now (s .exit)) (now (m .exit)) (now (applications .exit))) (now (out .exit)) (now (work .exit)) ≡ replied (large n (length (now (starts .entry))) (length (now (cols .entry))) (length (now (vals .entry))) (length (now (mass .entry))) (length (now (v .entry))) (length (now (out .entry))) (length (now (work .entry)))) (replies (numbers 255 (now (value .entry)) (now (s .entry)) (now (m .entry)) (now (applications .entry))) (now (out .entry)) (now (work .entry))) (answering taylor-numbers (taylor Action (csr n (numbers-of (now (starts .entry))) (numbers-of (now (cols .entry))) (doubles-of (now (vals .entry)))) (given «with_mass» (doubles-of (now (mass .entry)))) tau k (doubles-of (now (v .entry))) (doubles-of (now (out .entry))) (doubles-of (now (work .entry))))) ⌝ }
+{
+    answer(
+        TaylorCall::Action,
+        n,
+        starts,
+        cols,
+        vals,
+        with_mass,
+        mass,
+        tau,
+        k,
+        v,
+        out,
+        work,
+        value,
+        s,
+        m,
+        applications,
+    )
+}
+
+// `phi_action::phi_action_batched`; `k` is its last index.
+#[no_mangle]
+pub extern "C" fn hazhendu_phi_action_batched_bytes(
+    n: usize,
+    starts: &[u8],
+    cols: &[u8],
+    vals: &[u8],
+    with_mass: bool,
+    mass: &[u8],
+    tau: f64,
+    k: usize,
+    v: &[u8],
+    out: &mut [u8],
+    work: &mut [u8],
+    value: &mut f64,
+    s: &mut u32,
+    m: &mut u32,
+    applications: &mut u64,
+) -> u32
+    ensures { λ r. ⌜ replies (numbers r (now (value .exit)) (now (s .exit)) (now (m .exit)) (now (applications .exit))) (now (out .exit)) (now (work .exit)) ≡ replied (large n (length (now (starts .entry))) (length (now (cols .entry))) (length (now (vals .entry))) (length (now (mass .entry))) (length (now (v .entry))) (length (now (out .entry))) (length (now (work .entry)))) (replies (numbers 255 (now (value .entry)) (now (s .entry)) (now (m .entry)) (now (applications .entry))) (now (out .entry)) (now (work .entry))) (answering taylor-numbers (taylor Batch (csr n (numbers-of (now (starts .entry))) (numbers-of (now (cols .entry))) (doubles-of (now (vals .entry)))) (given «with_mass» (doubles-of (now (mass .entry)))) tau k (doubles-of (now (v .entry))) (doubles-of (now (out .entry))) (doubles-of (now (work .entry))))) ⌝ }
+{
+    answer(
+        TaylorCall::Batch,
+        n,
+        starts,
+        cols,
+        vals,
+        with_mass,
+        mass,
+        tau,
+        k,
+        v,
+        out,
+        work,
+        value,
+        s,
+        m,
+        applications,
+    )
 }
