@@ -1,0 +1,484 @@
+// The library for the differential driver: on numbers and bytes, unpacked into local arrays.
+ghost use mathlib.Core.Path.{_≡_};
+ghost use mathlib.Core.Bool.{_&&_, false};
+ghost use Prim.Native.Nat.{_+_, _*_, _/_, _≤_, _<_};
+ghost use lib.ListN.{length, getD};
+ghost use lib.Ieee.{binary64, isNan, ofBits, toBits};
+ghost use Rattle.lists.specs.Loop.{tabulate};
+ghost use Rattle.lists.specs.Window.{splice};
+ghost use Rattle.general_operator.specs.Csr.{csr};
+ghost use Rattle.generator_action.specs.Mass.{given};
+ghost use Rattle.combination.specs.Call.{ends};
+ghost use Rattle.phi_krylov.specs.Combine.{answering};
+ghost use Rattle.exports.specs.Told.{numbers, taylor-numbers};
+ghost use Rattle.exports_bytes.specs.declared.TaylorCall.the-variants.{Combination, Action, Batch};
+ghost use Rattle.exports_bytes.specs.Replies.{large, replies, replied, taylor};
+ghost use Rattle.exports_bytes.specs.Bytes.{half, word, double-at, numbers-of, doubles-of, byte-over, written-over};
+
+// Which of the Taylor calls.
+enum TaylorCall {
+    Combination,
+    Action,
+    Batch,
+}
+
+fn byte(b: &[u8], k: usize) -> u64
+    requires { ⌜ k < length (now b) ⌝ }
+    ensures { λ r. ⌜ (r ≡ getD (now (b .entry)) k 0) × (r < 256) ⌝ }
+{
+    b[k] as u64
+}
+
+fn half_at(b: &[u8], k: usize) -> u64
+    requires { ⌜ k + 4 ≤ length (now b) ⌝ }
+    ensures { λ r. ⌜ (r ≡ half (now (b .entry)) k) × (r < 4294967296) ⌝ }
+{
+    byte(b, k) + 256 * byte(b, k + 1) + 65536 * byte(b, k + 2) + 16777216 * byte(b, k + 3)
+}
+
+// The double of a pattern: of every NaN pattern, the one NaN.
+fn double(w: u64) -> f64
+    ensures { λ r. ⌜ r ≡ ofBits binary64 w ⌝ }
+{
+    if w % 0x8000_0000_0000_0000 > 0x7ff0_0000_0000_0000 {
+        return float::not_a_number();
+    }
+    f64::from_bits(w)
+}
+
+fn double_at(b: &[u8], k: usize) -> f64
+    requires { ⌜ k + 8 ≤ length (now b) ⌝ }
+    ensures { λ r. ⌜ r ≡ double-at (now (b .entry)) k ⌝ }
+{
+    double(half_at(b, k) + 4294967296 * half_at(b, k + 4))
+}
+
+fn pattern(x: f64) -> u64
+    ensures { λ r. ⌜ r ≡ toBits binary64 x ⌝ }
+{
+    if x != x {
+        return 0x7ff8_0000_0000_0000;
+    }
+    f64::to_bits(x)
+}
+
+// A NaN over a NaN.
+fn stays(x: f64, b: &[u8], p: usize) -> bool
+    requires { ⌜ p + 8 ≤ length (now b) ⌝ }
+    ensures { λ r. ⌜ r ≡ (isNan x && isNan (double-at (now (b .entry)) p)) ⌝ }
+{
+    if x != x {
+        let y = double_at(b, p);
+        return y != y;
+    }
+    false
+}
+
+fn unpack_numbers(src: &[u8], dst: &mut [u32])
+    requires { ⌜ length (now dst) ≡ length (now src) / 4 ⌝ }
+    ensures { λ _. ⌜ now (dst .exit) ≡ numbers-of (now (src .entry)) ⌝ }
+{
+    for k in 0..dst.len() {
+        dst[k] = half_at(src, 4 * k) as u32;
+    }
+}
+
+fn unpack_doubles(src: &[u8], dst: &mut [f64])
+    requires { ⌜ length (now dst) ≡ length (now src) / 8 ⌝ }
+    ensures { λ _. ⌜ now (dst .exit) ≡ doubles-of (now (src .entry)) ⌝ }
+{
+    for k in 0..dst.len() {
+        dst[k] = double_at(src, 8 * k);
+    }
+}
+
+fn put(x: f64, dst: &mut [u8], p: usize)
+    requires { ⌜ p + 8 ≤ length (now dst) ⌝ }
+    ensures { λ _. ⌜ now (dst .exit) ≡ splice p (tabulate 8 (byte-over x (now (dst .entry)) p)) (now (dst .entry)) ⌝ }
+{
+    if stays(x, dst, p) {
+        return;
+    }
+    let w = pattern(x);
+    for j in 0..8usize {
+        dst[p + j] = ((w >> (8 * j)) % 256) as u8;
+    }
+}
+
+fn pack_doubles(src: &[f64], dst: &mut [u8])
+    requires { ⌜ 8 * length (now src) ≤ length (now dst) ⌝ }
+    ensures { λ _. ⌜ now (dst .exit) ≡ written-over (now (src .entry)) (now (dst .entry)) ⌝ }
+{
+    for k in 0..src.len() {
+        put(src[k], dst, 8 * k);
+    }
+}
+
+// Lengths in bytes.
+fn large(
+    n: usize,
+    starts: usize,
+    cols: usize,
+    vals: usize,
+    mass: usize,
+    v: usize,
+    out: usize,
+    work: usize,
+) -> bool
+    ensures { λ r. ⌜ r ≡ large n starts cols vals mass v out work ⌝ }
+    ensures { λ r. ⌜ (r ≡ false → (starts / 4 ≤ 512) × (cols / 4 ≤ 512) × (vals / 8 ≤ 512) × (mass / 8 ≤ 512) × (v / 8 ≤ 512) × (out / 8 ≤ 512) × (work / 8 ≤ 4096)) ⌝ }
+{
+    if n > 64 {
+        return true;
+    }
+    if starts / 4 > 512 {
+        return true;
+    }
+    if cols / 4 > 512 {
+        return true;
+    }
+    if vals / 8 > 512 {
+        return true;
+    }
+    if mass / 8 > 512 {
+        return true;
+    }
+    if v / 8 > 512 {
+        return true;
+    }
+    if out / 8 > 512 {
+        return true;
+    }
+    work / 8 > 4096
+}
+
+fn solve(
+    call: TaylorCall,
+    n: usize,
+    starts: &[u32],
+    cols: &[u32],
+    vals: &[f64],
+    with_mass: bool,
+    mass: &[f64],
+    tau: f64,
+    k: usize,
+    v: &[f64],
+    out: &mut [f64],
+    work: &mut [f64],
+    value: &mut f64,
+    s: &mut u32,
+    m: &mut u32,
+    applications: &mut u64,
+) -> u32
+    ensures { λ r. ⌜ ends (numbers r (now (value .exit)) (now (s .exit)) (now (m .exit)) (now (applications .exit))) (now (out .exit)) (now (work .exit)) ≡ answering taylor-numbers (taylor call (csr n (now (starts .entry)) (now (cols .entry)) (now (vals .entry))) (given «with_mass» (now (mass .entry))) tau k (now (v .entry)) (now (out .entry)) (now (work .entry))) ⌝ }
+{
+    match call {
+        TaylorCall::Combination => exports::hazhendu_phi_combination(
+            n,
+            starts,
+            cols,
+            vals,
+            with_mass,
+            mass,
+            tau,
+            k,
+            v,
+            out,
+            work,
+            value,
+            s,
+            m,
+            applications,
+        ),
+        TaylorCall::Action => exports::hazhendu_phi_action(
+            n,
+            starts,
+            cols,
+            vals,
+            with_mass,
+            mass,
+            tau,
+            k,
+            v,
+            out,
+            work,
+            value,
+            s,
+            m,
+            applications,
+        ),
+        TaylorCall::Batch => exports::hazhendu_phi_action_batched(
+            n,
+            starts,
+            cols,
+            vals,
+            with_mass,
+            mass,
+            tau,
+            k,
+            v,
+            out,
+            work,
+            value,
+            s,
+            m,
+            applications,
+        ),
+    }
+}
+
+// The slices unpacked into exactly the room that they need, the call, and what it leaves packed.
+fn run(
+    call: TaylorCall,
+    n: usize,
+    starts: &[u8],
+    cols: &[u8],
+    vals: &[u8],
+    with_mass: bool,
+    mass: &[u8],
+    tau: f64,
+    k: usize,
+    v: &[u8],
+    out: &mut [u8],
+    work: &mut [u8],
+    value: &mut f64,
+    s: &mut u32,
+    m: &mut u32,
+    applications: &mut u64,
+    starts_room: &mut [u32],
+    cols_room: &mut [u32],
+    vals_room: &mut [f64],
+    mass_room: &mut [f64],
+    v_room: &mut [f64],
+    out_room: &mut [f64],
+    work_room: &mut [f64],
+) -> u32
+    requires { ⌜ (length (now «starts_room») ≡ length (now starts) / 4) × (length (now «cols_room») ≡ length (now cols) / 4) × (length (now «vals_room») ≡ length (now vals) / 8) × (length (now «mass_room») ≡ length (now mass) / 8) × (length (now «v_room») ≡ length (now v) / 8) × (length (now «out_room») ≡ length (now out) / 8) × (length (now «work_room») ≡ length (now work) / 8) ⌝ }
+    ensures { λ r. ⌜ replies (numbers r (now (value .exit)) (now (s .exit)) (now (m .exit)) (now (applications .exit))) (now (out .exit)) (now (work .exit)) ≡ replied false (replies (numbers 255 (now (value .entry)) (now (s .entry)) (now (m .entry)) (now (applications .entry))) (now (out .entry)) (now (work .entry))) (answering taylor-numbers (taylor call (csr n (numbers-of (now (starts .entry))) (numbers-of (now (cols .entry))) (doubles-of (now (vals .entry)))) (given «with_mass» (doubles-of (now (mass .entry)))) tau k (doubles-of (now (v .entry))) (doubles-of (now (out .entry))) (doubles-of (now (work .entry))))) ⌝ }
+{
+    unpack_numbers(starts, starts_room);
+    unpack_numbers(cols, cols_room);
+    unpack_doubles(vals, vals_room);
+    unpack_doubles(mass, mass_room);
+    unpack_doubles(v, v_room);
+    unpack_doubles(out, out_room);
+    unpack_doubles(work, work_room);
+    let number = solve(
+        call,
+        n,
+        starts_room,
+        cols_room,
+        vals_room,
+        with_mass,
+        mass_room,
+        tau,
+        k,
+        v_room,
+        out_room,
+        work_room,
+        value,
+        s,
+        m,
+        applications,
+    );
+    pack_doubles(out_room, out);
+    pack_doubles(work_room, work);
+    number
+}
+
+// 255 for a large job.
+fn answer(
+    call: TaylorCall,
+    n: usize,
+    starts: &[u8],
+    cols: &[u8],
+    vals: &[u8],
+    with_mass: bool,
+    mass: &[u8],
+    tau: f64,
+    k: usize,
+    v: &[u8],
+    out: &mut [u8],
+    work: &mut [u8],
+    value: &mut f64,
+    s: &mut u32,
+    m: &mut u32,
+    applications: &mut u64,
+) -> u32
+    ensures { λ r. ⌜ replies (numbers r (now (value .exit)) (now (s .exit)) (now (m .exit)) (now (applications .exit))) (now (out .exit)) (now (work .exit)) ≡ replied (large n (length (now (starts .entry))) (length (now (cols .entry))) (length (now (vals .entry))) (length (now (mass .entry))) (length (now (v .entry))) (length (now (out .entry))) (length (now (work .entry)))) (replies (numbers 255 (now (value .entry)) (now (s .entry)) (now (m .entry)) (now (applications .entry))) (now (out .entry)) (now (work .entry))) (answering taylor-numbers (taylor call (csr n (numbers-of (now (starts .entry))) (numbers-of (now (cols .entry))) (doubles-of (now (vals .entry)))) (given «with_mass» (doubles-of (now (mass .entry)))) tau k (doubles-of (now (v .entry))) (doubles-of (now (out .entry))) (doubles-of (now (work .entry))))) ⌝ }
+{
+    if large(
+        n,
+        starts.len(),
+        cols.len(),
+        vals.len(),
+        mass.len(),
+        v.len(),
+        out.len(),
+        work.len(),
+    ) {
+        return 255;
+    }
+    let mut starts_room = [0u32; 512];
+    let mut cols_room = [0u32; 512];
+    let mut vals_room = [0.0f64; 512];
+    let mut mass_room = [0.0f64; 512];
+    let mut v_room = [0.0f64; 512];
+    let mut out_room = [0.0f64; 512];
+    let mut work_room = [0.0f64; 4096];
+    let starts_count = starts.len() / 4;
+    let cols_count = cols.len() / 4;
+    let vals_count = vals.len() / 8;
+    let mass_count = mass.len() / 8;
+    let v_count = v.len() / 8;
+    let out_count = out.len() / 8;
+    let work_count = work.len() / 8;
+    run(
+        call,
+        n,
+        starts,
+        cols,
+        vals,
+        with_mass,
+        mass,
+        tau,
+        k,
+        v,
+        out,
+        work,
+        value,
+        s,
+        m,
+        applications,
+        &mut starts_room[..starts_count],
+        &mut cols_room[..cols_count],
+        &mut vals_room[..vals_count],
+        &mut mass_room[..mass_count],
+        &mut v_room[..v_count],
+        &mut out_room[..out_count],
+        &mut work_room[..work_count],
+    )
+}
+
+// `phi_action::phi_combination`; `k` is its number of vectors.
+#[no_mangle]
+pub extern "C" fn hazhendu_phi_combination_bytes(
+    n: usize,
+    starts: &[u8],
+    cols: &[u8],
+    vals: &[u8],
+    with_mass: bool,
+    mass: &[u8],
+    tau: f64,
+    k: usize,
+    v: &[u8],
+    out: &mut [u8],
+    work: &mut [u8],
+    value: &mut f64,
+    s: &mut u32,
+    m: &mut u32,
+    applications: &mut u64,
+) -> u32
+    ensures { λ r. ⌜ replies (numbers r (now (value .exit)) (now (s .exit)) (now (m .exit)) (now (applications .exit))) (now (out .exit)) (now (work .exit)) ≡ replied (large n (length (now (starts .entry))) (length (now (cols .entry))) (length (now (vals .entry))) (length (now (mass .entry))) (length (now (v .entry))) (length (now (out .entry))) (length (now (work .entry)))) (replies (numbers 255 (now (value .entry)) (now (s .entry)) (now (m .entry)) (now (applications .entry))) (now (out .entry)) (now (work .entry))) (answering taylor-numbers (taylor Combination (csr n (numbers-of (now (starts .entry))) (numbers-of (now (cols .entry))) (doubles-of (now (vals .entry)))) (given «with_mass» (doubles-of (now (mass .entry)))) tau k (doubles-of (now (v .entry))) (doubles-of (now (out .entry))) (doubles-of (now (work .entry))))) ⌝ }
+{
+    answer(
+        TaylorCall::Combination,
+        n,
+        starts,
+        cols,
+        vals,
+        with_mass,
+        mass,
+        tau,
+        k,
+        v,
+        out,
+        work,
+        value,
+        s,
+        m,
+        applications,
+    )
+}
+
+// `phi_action::phi_action`; `k` is its index.
+#[no_mangle]
+pub extern "C" fn hazhendu_phi_action_bytes(
+    n: usize,
+    starts: &[u8],
+    cols: &[u8],
+    vals: &[u8],
+    with_mass: bool,
+    mass: &[u8],
+    tau: f64,
+    k: usize,
+    v: &[u8],
+    out: &mut [u8],
+    work: &mut [u8],
+    value: &mut f64,
+    s: &mut u32,
+    m: &mut u32,
+    applications: &mut u64,
+) -> u32
+    ensures { λ r. ⌜ replies (numbers r (now (value .exit)) (now (s .exit)) (now (m .exit)) (now (applications .exit))) (now (out .exit)) (now (work .exit)) ≡ replied (large n (length (now (starts .entry))) (length (now (cols .entry))) (length (now (vals .entry))) (length (now (mass .entry))) (length (now (v .entry))) (length (now (out .entry))) (length (now (work .entry)))) (replies (numbers 255 (now (value .entry)) (now (s .entry)) (now (m .entry)) (now (applications .entry))) (now (out .entry)) (now (work .entry))) (answering taylor-numbers (taylor Action (csr n (numbers-of (now (starts .entry))) (numbers-of (now (cols .entry))) (doubles-of (now (vals .entry)))) (given «with_mass» (doubles-of (now (mass .entry)))) tau k (doubles-of (now (v .entry))) (doubles-of (now (out .entry))) (doubles-of (now (work .entry))))) ⌝ }
+{
+    answer(
+        TaylorCall::Action,
+        n,
+        starts,
+        cols,
+        vals,
+        with_mass,
+        mass,
+        tau,
+        k,
+        v,
+        out,
+        work,
+        value,
+        s,
+        m,
+        applications,
+    )
+}
+
+// `phi_action::phi_action_batched`; `k` is its last index.
+#[no_mangle]
+pub extern "C" fn hazhendu_phi_action_batched_bytes(
+    n: usize,
+    starts: &[u8],
+    cols: &[u8],
+    vals: &[u8],
+    with_mass: bool,
+    mass: &[u8],
+    tau: f64,
+    k: usize,
+    v: &[u8],
+    out: &mut [u8],
+    work: &mut [u8],
+    value: &mut f64,
+    s: &mut u32,
+    m: &mut u32,
+    applications: &mut u64,
+) -> u32
+    ensures { λ r. ⌜ replies (numbers r (now (value .exit)) (now (s .exit)) (now (m .exit)) (now (applications .exit))) (now (out .exit)) (now (work .exit)) ≡ replied (large n (length (now (starts .entry))) (length (now (cols .entry))) (length (now (vals .entry))) (length (now (mass .entry))) (length (now (v .entry))) (length (now (out .entry))) (length (now (work .entry)))) (replies (numbers 255 (now (value .entry)) (now (s .entry)) (now (m .entry)) (now (applications .entry))) (now (out .entry)) (now (work .entry))) (answering taylor-numbers (taylor Batch (csr n (numbers-of (now (starts .entry))) (numbers-of (now (cols .entry))) (doubles-of (now (vals .entry)))) (given «with_mass» (doubles-of (now (mass .entry)))) tau k (doubles-of (now (v .entry))) (doubles-of (now (out .entry))) (doubles-of (now (work .entry))))) ⌝ }
+{
+    answer(
+        TaylorCall::Batch,
+        n,
+        starts,
+        cols,
+        vals,
+        with_mass,
+        mass,
+        tau,
+        k,
+        v,
+        out,
+        work,
+        value,
+        s,
+        m,
+        applications,
+    )
+}
