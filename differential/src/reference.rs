@@ -23,6 +23,9 @@ pub fn added(job: &Job) -> Option<(u32, f64)> {
     (job.work < job.need()).then_some((26, f64::NAN))
 }
 
+/// Longer slices are not made: a job that wants them is refused by 1, 12 or 13 before their lengths count.
+const LONGEST: usize = 1 << 24;
+
 /// A job that passes or fails the checks below the added refusal's as `job` does, and that the Rust takes.
 fn tamed(job: &Job, number: u32) -> Job {
     let mut t = job.clone();
@@ -31,10 +34,10 @@ fn tamed(job: &Job, number: u32) -> Job {
         t.count = 4;
     }
     if t.w.len() != t.vectors() {
-        t.w = vec![0.0; t.vectors()];
+        t.w = vec![0.0; t.vectors().min(LONGEST)];
     }
     if matches!(t.call, Call::Action | Call::Batched) {
-        t.out = t.output();
+        t.out = t.output().min(LONGEST);
     }
     if let Call::Krylov { m, limit, .. } = &mut t.call {
         *m = (*m).min(2);

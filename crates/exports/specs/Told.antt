@@ -1,4 +1,4 @@
--- An answer as the numbers that an exported function hands back. Definitions only.
+-- An answer as the numbers that an exported function hands back (document 01, 'Oracle'). Definitions only.
 use Prim.Native.Nat.{ℕ}
 use lib.Ieee.{Float}
 use Rattle.phi_action.specs.declared.TaylorReport.{TaylorReport}
@@ -30,5 +30,6 @@ unfoldable pub krylov-numbers : KrylovAnswer → Numbers
 krylov-numbers (krylov.Refusal k x) = numbers k x 0 0 0
 krylov-numbers (krylov.Soaked r) = numbers 0 (r .«est_error») (r .substeps) (r .matvecs) (r .rejected)
 
+-- tol, m and max_substeps, handed in as numbers (phi_krylov.rs, `KrylovPhiOptions`)
 abbrev pub options : Float → ℕ → ℕ → KrylovPhiOptions
 options tol m limit = record { tol = tol; m = m; «max_substeps» = limit }

@@ -1,4 +1,4 @@
--- Numbers and doubles as bytes, lowest first. Definitions only.
+-- Numbers and doubles as bytes, lowest first (document 01, 'Oracle'). Definitions only.
 -- A slice of bytes stands for the list of its whole elements: bytes behind the last whole element are not read and not written.
 -- Every NaN pattern stands for the one NaN. A NaN is written as 0x7ff8_0000_0000_0000, but not over a NaN: so the bytes of a double that a call
 -- leaves as it was are left as they were, whatever they are.
@@ -19,10 +19,11 @@ half b k = getD b k 0 + 256 * getD b (k + 1) 0 + 65536 * getD b (k + 2) 0 + 1677
 unfoldable pub word : List ℕ → ℕ → ℕ
 word b k = half b k + 4294967296 * half b (k + 4)
 
+-- the double whose eight bytes start at k
 unfoldable pub double-at : List ℕ → ℕ → Float
 double-at b k = ofBits binary64 (word b k)
 
--- the whole elements
+-- the whole elements, of four bytes and of eight
 unfoldable pub numbers-of : List ℕ → List ℕ
 numbers-of b = tabulate (length b / 4) (λ k. half b (4 * k))
 

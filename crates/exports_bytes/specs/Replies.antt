@@ -1,4 +1,4 @@
--- What a call on bytes answers. Definitions only.
+-- What a call on bytes answers (document 01, 'Oracle'). Definitions only.
 -- A job is large when it has more than 64 rows, more than 512 whole elements in one of the slices that hold the matrix, the mass, the vectors and
 -- the output, or more than 4,096 doubles of working memory: the local arrays hold no more. A large job gets 255, and nothing is changed. Every
 -- other is the call on the lists that its slices stand for: a slice that is too long for its job is refused by the check that tests its length,
@@ -36,10 +36,12 @@ pub record Reply : Type 0 where
 abbrev pub replies : Numbers → List ℕ → List ℕ → Reply
 replies t output memory = record { told = t; output = output; memory = memory }
 
+-- a large job changes nothing; of any other the answer's numbers, and output and memory written over the bytes handed in
 unfoldable pub replied : Bool → Reply → Call Numbers → Reply
 replied true unchanged c = unchanged
 replied false unchanged c = replies (c .answer) (written-over (c .output) (unchanged .output)) (written-over (c .memory) (unchanged .memory))
 
+-- the three Taylor calls (phi_action.rs)
 unfoldable pub taylor : TaylorCall → Csr → Mass → Float → ℕ → List Float → List Float → List Float → Call TaylorAnswer
 taylor Combination = phi-combination
 taylor Action = phi-action

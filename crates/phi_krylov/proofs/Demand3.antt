@@ -112,11 +112,16 @@ module _ (a : Csr) (mass : Mass) (tau : Float) (count : ℕ) (w : List Float) (o
           reached = h .outcome;
         }
 
-    pub krylov-cost : {r : KrylovPhiReport} → end .answer ≡ Soaked r → (s : State) × ((s .report ≡ r) × KrylovCost M (o .«max_substeps») trace attempts s)
+    -- of a run that finished in s
+    ended : (e : End) (s : State) {r : KrylovPhiReport} → e ≡ finished s → s .report ≡ r → Whole M (o .«max_substeps») trace attempts e
+        → (e ≡ finished (last e)) × (last e .report ≡ r) × KrylovCost M (o .«max_substeps») trace attempts (last e)
+    ended e s {r} f g h = subst (λ (x : End). (x ≡ finished (last x)) × (last x .report ≡ r) × KrylovCost M (o .«max_substeps») trace attempts (last x)) (sym f) (refl, g, cost-of s (subst (λ (x : End). Whole M (o .«max_substeps») trace attempts x) f h))
+
+    pub krylov-cost : {r : KrylovPhiReport} → end .answer ≡ Soaked r → (run ≡ finished (last run)) × (last run .report ≡ r) × KrylovCost M (o .«max_substeps») trace attempts (last run)
     unfolding phi-combination-krylov
     krylov-cost e =
         let h = accepted (first checks) run _ e in
-        (h .1 .0, (h .1 .1 .1, cost-of (h .1 .0) (subst (λ (x : End). Whole M (o .«max_substeps») trace attempts x) (h .1 .1 .0) (whole (h .0)))))
+        ended run (h .1 .0) (h .1 .1 .0) (h .1 .1 .1) (whole (h .0))
 
     -- 27 is not of the checks
     refused-run : (c : Checked) (e : End) (need : ℕ) {x : Float} → c ≡ first checks → unless-refused Refusal c output memory (after-run (a .n) need memory e) .answer ≡ Refusal 27 x

@@ -17,7 +17,7 @@ use Rattle.phi_action.specs.Calls.{combination-checks, phi-combination, action-
 use Rattle.phi_action.specs.Cost.{TaylorCost, Exactly25}
 use Rattle.phi_action.specs.declared.TaylorReport.{TaylorReport}
 use Rattle.phi_action.specs.declared.TaylorAnswer.the-variants as taylor
-use Rattle.phi_krylov_arnoldi.specs.Run.{State, End, expv}
+use Rattle.phi_krylov_arnoldi.specs.Run.{State, End, finished, expv}
 use Rattle.phi_krylov_arnoldi.specs.declared.KrylovPhiReport.{KrylovPhiReport}
 use Rattle.whole_run.specs.Trace.{Accepted, Attempt, total, time-after, expv-trace, expv-attempts}
 use Rattle.whole_run.specs.Claim.{Each, last, Short, Steps}
@@ -26,7 +26,7 @@ use Rattle.phi_krylov.specs.declared.KrylovPhiOptions.{KrylovPhiOptions}
 use Rattle.phi_krylov.specs.declared.KrylovAnswer.the-variants.{Refusal, Soaked}
 
 -- ---- a Krylov call
--- an accepted job of dimension M, whose run accepted the substeps l and tried the lengths t
+-- an accepted job of dimension M, whose run accepted the substeps l, tried the lengths t and ended in the state s
 pub record KrylovCost (M limit : ℕ) (l : List Accepted) (t : List Attempt) (s : State) : Type 0 where
   -- each count is the number made
   pub substeps : s .report .substeps ≡ length l
@@ -76,7 +76,9 @@ pub record Demand3 (a : Csr) (mass : Mass) (tau : Float) (output memory : List F
   pub combination-no-plan : (count : ℕ) (w : List Float) → Exactly25 (phi-combination a mass tau count w output memory) (combination-checks a mass tau count w (length output) (length memory)) tau (row-sum-norm (quotients a mass))
   pub action-no-plan : (k : ℕ) (v : List Float) → Exactly25 (phi-action a mass tau k v output memory) (action-checks a mass tau k v (length output) (a .n) (length memory)) tau (row-sum-norm (quotients a mass))
   pub batch-no-plan : (p : ℕ) (v : List Float) → Exactly25 (phi-action-batched a mass tau p v output memory) (action-checks a mass tau p v (length output) (suc p * a .n) (length memory)) tau (row-sum-norm (quotients a mass))
-  -- Krylov: the run's counts and times; 27 exactly at the limit
+  -- Krylov: the report is that of the run's last state, with its counts and its time; 27 exactly at the limit
   pub krylov : (count : ℕ) (w : List Float) (o : KrylovPhiOptions) {r : KrylovPhiReport} → phi-combination-krylov a mass tau count w o output memory .answer ≡ Soaked r
-      → (s : State) × ((s .report ≡ r) × KrylovCost (dimension (a .n) (count - 1) (o .m)) (o .«max_substeps») (trace-of a mass tau count w o) (attempts-of a mass tau count w o) s)
+      → (run-of a mass tau count w o ≡ finished (last (run-of a mass tau count w o)))
+      × (last (run-of a mass tau count w o) .report ≡ r)
+      × KrylovCost (dimension (a .n) (count - 1) (o .m)) (o .«max_substeps») (trace-of a mass tau count w o) (attempts-of a mass tau count w o) (last (run-of a mass tau count w o))
   pub at-limit : (count : ℕ) (w : List Float) (o : KrylovPhiOptions) → Exactly27 a mass tau count w o output memory

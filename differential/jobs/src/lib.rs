@@ -80,7 +80,7 @@ impl Job {
     /// M: m clamped to 2..max(2, n + d).
     pub fn dimension(&self) -> usize {
         match self.call {
-            Call::Krylov { m, .. } => m.clamp(2, (self.n + self.degree()).max(2)),
+            Call::Krylov { m, .. } => m.clamp(2, self.n.saturating_add(self.degree()).max(2)),
             _ => 0,
         }
     }
@@ -88,17 +88,20 @@ impl Job {
     /// The working memory that the job needs (document 01, 'What must change shape').
     pub fn need(&self) -> usize {
         let (n, d, m) = (self.n, self.degree(), self.dimension());
+        // A length beyond all memory saturates: no slice has it.
+        let (n, d, m) = (n as u128, d as u128, m as u128);
         let columns = match self.call {
-            Call::Krylov { .. } => n + (m + 3) * (n + d) + (m + 2) * (m + 2),
+            Call::Krylov { .. } => n + (m + 3).saturating_mul(n + d).saturating_add((m + 2).saturating_mul(m + 2)),
             _ => 3 * n + 2 * d,
         };
-        columns + if self.mass.is_some() { self.vals.len() } else { 0 }
+        let entries = if self.mass.is_some() { self.vals.len() as u128 } else { 0 };
+        columns.saturating_add(entries).try_into().unwrap_or(usize::MAX)
     }
 
     /// How long the output has to be.
     pub fn output(&self) -> usize {
         match self.call {
-            Call::Batched => (self.count + 1) * self.n,
+            Call::Batched => self.count.saturating_add(1).saturating_mul(self.n),
             _ => self.n,
         }
     }
@@ -106,7 +109,7 @@ impl Job {
     /// How long the vectors have to be.
     pub fn vectors(&self) -> usize {
         match self.call {
-            Call::Combination | Call::Krylov { .. } => self.count * self.n,
+            Call::Combination | Call::Krylov { .. } => self.count.saturating_mul(self.n),
             _ => self.n,
         }
     }
