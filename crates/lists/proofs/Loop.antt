@@ -15,7 +15,7 @@ use Rattle.lists.specs.Loop.{iter, tabulate, zipWith}
 use Rattle.lists.specs.Window.{window, splice, over}
 use Rattle.lists.specs.Bounds.{Disjoint, Apart}
 use Rattle.lists.proofs.Bounds.{disjoint-cases}
-use Rattle.lists.proofs.Window.{splice-more, splice-snoc, splice-nil, getD-window, length-window, length-splice, getD-splice-after, getD-splice-before, splice-whole, window-splice-before, window-splice-after}
+use Rattle.lists.proofs.Window.{splice-more, splice-snoc, splice-nil, getD-window, length-window, length-splice, getD-splice-after, getD-splice-before, getD-splice-in, splice-splice, splice-window, splice-whole, window-splice-before, window-splice-after}
 
 module _ {A : Type 0} where
   pub iter-none : (step : ℕ → A → A) (a : A) → iter step 0 a ≡ a
@@ -149,6 +149,15 @@ module _ {A : Type 0} where
   pub finished-all : {i : ℕ} {f : ℕ → A} {w₀ w : List A} → Filled 0 i f w₀ w → (n : ℕ) → i ≤ n → n ≤ i → length w₀ ≡ n → w ≡ tabulate n f
   finished-all {i} {f} {w₀} {w} h n l m e = finished h n l m ∙ splice-whole (tabulate n f) w₀ (length-tabulate n f ∙ sym e)
 
+  -- a loop over a window that a loop before has written: its element k, made from the one that stands there, takes that one's place
+  pub passed : (p n : ℕ) (f : ℕ → A) (g : ℕ → A → A) (w₀ : List A) (d : A) {w₁ w₂ : List A} → p + n ≤ length w₀ → w₁ ≡ splice p (tabulate n f) w₀ → w₂ ≡ splice p (tabulate n (λ k. g k (getD w₁ (p + k) d))) w₁ → w₂ ≡ splice p (tabulate n (λ k. g k (f k))) w₀
+  passed p n f g w₀ d {w₁} {w₂} l e₁ e₂ =
+      let there : (k : ℕ) → k < n → getD w₁ (p + k) d ≡ f k =
+      λ k h. ap (λ (r : List A). getD r (p + k) d) e₁ ∙ getD-splice-in p (tabulate n f) w₀ k d (simp length-tabulate h) (omega arith) ∙ getD-tabulate n f k d h in
+      e₂
+      ∙ (λ j. splice p (tabulate-ext n (λ k. g k (getD w₁ (p + k) d)) (λ k. g k (f k)) (λ k h. ap (g k) (there k h)) j) (e₁ j))
+      ∙ splice-splice p (tabulate n (λ k. g k (f k))) (tabulate n f) w₀ (simp length-tabulate (le-refl n))
+
   -- ---- vector operations, element by element
   pub zipWith-tabulate : (g : A → A → A) (xs ys : List A) (n : ℕ) (d : A) → length xs ≡ n → length ys ≡ n → zipWith g xs ys ≡ tabulate n (λ k. g (getD xs k d) (getD ys k d))
   unfolding zipWith tabulate
@@ -175,6 +184,10 @@ module _ {A : Type 0} where
       sym (tabulate-getD (window p n w) d)
       ∙ ap (λ (m : ℕ). tabulate m (λ k. getD (window p n w) k d)) (length-window p n w l)
       ∙ tabulate-ext n (λ k. getD (window p n w) k d) (λ k. getD w (p + k) d) (λ k h. getD-window p n w k d h)
+
+  -- the window as it is, by index
+  pub unwritten : (p n : ℕ) (w : List A) (d : A) → p + n ≤ length w → w ≡ splice p (tabulate n (λ k. getD w (p + k) d)) w
+  unwritten p n w d l = sym (splice-window p n w) ∙ ap (λ (r : List A). splice p r w) (window-tabulate p n w d l)
 
   pub replicate-tabulate : (n : ℕ) (a : A) → replicate n a ≡ tabulate n (λ k. a)
   unfolding tabulate

@@ -5,17 +5,17 @@ use mathlib.Core.List.{List, _++_}
 use Prim.Native.Nat.{ℕ, _+_, _≤_, _<_}
 use native.Mathlib.Omega.{arith}
 use borrow.Author.Tests.{lt-ltb, le-ltb}
-use lib.ListN.{length, length-append}
+use lib.ListN.{length, getD, length-append}
 use lib.Ieee.{Float, nan}
 use native.Mathlib.Nat.{add-zero}
 use Rattle.lists.specs.Bounds.{Disjoint}
-use Rattle.lists.specs.Loop.{tabulate}
+use Rattle.lists.specs.Loop.{iter, tabulate}
 use Rattle.lists.specs.Window.{window, splice}
 use Rattle.lists.proofs.Bounds.{lt-or-le, part-apart}
-use Rattle.lists.proofs.Loop.{tabulate-ext, length-tabulate}
+use Rattle.lists.proofs.Loop.{iter-none, iter-next, tabulate-ext, length-tabulate, passed, unwritten}
 use Rattle.lists.proofs.Window.{getD-window, window-window, splice-append, splice-comm}
 use Rattle.lists.proofs.Frame.{wrote, written, untouched}
-use Rattle.doubles.specs.F64.{at}
+use Rattle.doubles.specs.F64.{_⊕_, _⊗_, at}
 use Rattle.general_operator.specs.Csr.{apply-generator}
 use Rattle.general_operator.proofs.Rows.{length-apply}
 use Rattle.phi_action_helpers.specs.declared.Scales.{Scales}
@@ -39,7 +39,23 @@ pub length-aug-matvec : (b : Augmented) (k : Scales) (x : List Float) → length
 unfolding aug-matvec
 length-aug-matvec b k x = simp (length-append, length-top, length-bottom)
 
--- the rows as the loop over the memory makes them
+-- the columns one by one: none, and one more
+pub no-column : (vectors : List Float) (places : List ℕ) (sc : List Float) (w n : ℕ) (work : List Float) → w + n ≤ length work → work ≡ splice w (tabulate n (λ i. coupled vectors places 0 sc i (at work (w + i)))) work
+unfolding coupled
+no-column vectors places sc w n work l =
+    unwritten w n work nan l ∙ ap (λ r. splice w r work) (tabulate-ext n _ _ (λ i h. sym (iter-none (λ j a. a ⊕ at sc j ⊗ at vectors (getD places j 0 + i)) (at work (w + i)))))
+
+pub next-column : (vectors : List Float) (places : List ℕ) (sc : List Float) (w n j : ℕ) (work₀ : List Float) {work work₁ : List Float}
+    → work ≡ splice w (tabulate n (λ i. coupled vectors places j sc i (at work₀ (w + i)))) work₀
+    → work₁ ≡ splice w (tabulate n (λ i. at work (w + i) ⊕ at sc j ⊗ at vectors (getD places j 0 + i))) work
+    → w + n ≤ length work₀
+    → work₁ ≡ splice w (tabulate n (λ i. coupled vectors places (j + 1) sc i (at work₀ (w + i)))) work₀
+unfolding coupled
+next-column vectors places sc w n j work₀ e e₁ l =
+    passed w n (λ i. iter (λ k a. a ⊕ at sc k ⊗ at vectors (getD places k 0 + i)) j (at work₀ (w + i))) (λ i x. x ⊕ at sc j ⊗ at vectors (getD places j 0 + i)) work₀ nan l e e₁
+    ∙ ap (λ r. splice w r work₀) (tabulate-ext n _ _ (λ i h. sym (iter-next (λ k a. a ⊕ at sc k ⊗ at vectors (getD places k 0 + i)) j (at work₀ (w + i)))))
+
+-- the rows as the loops over the memory make them
 pub top-rows : (b : Augmented) (k : Scales) (w av : ℕ) (work c : List Float)
     → tabulate (b .matrix .n) (λ i. coupled (b .vectors) (b .places) (b .count) (scalars (b .gains) (b .count) (k .one) c) i (generator-term k (at work (av + i)) (at work (w + i))))
     ≡ top b k (window av (b .matrix .n) work) (window w (b .matrix .n) work) c

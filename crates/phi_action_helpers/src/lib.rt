@@ -6,7 +6,7 @@ ghost use Rattle.lists.specs.Loop.{iter, tabulate, zipWith};
 ghost use Rattle.lists.specs.Window.{window, splice};
 ghost use Rattle.lists.specs.Frame.{Kept};
 ghost use Rattle.lists.specs.Bounds.{Apart};
-ghost use Rattle.doubles.specs.F64.{if_then_else_, _⊕_, +0, at};
+ghost use Rattle.doubles.specs.F64.{if_then_else_, _⊕_, _⊗_, +0, at};
 ghost use Rattle.vectors.specs.Vectors.{scale};
 ghost use Rattle.general_operator.specs.Csr.{apply-generator};
 ghost use Rattle.phi_action_helpers.specs.Augmented.{scalars, coupled, generator-term, chain-term, bottom, aug-matvec};
@@ -57,26 +57,6 @@ fn scalars(gains: [f64; 3], count: usize, one: f64, c: &[f64]) -> [f64; 3]
     r
 }
 
-// acc and the columns' share of row i.
-fn coupled(
-    vectors: &[f64],
-    places: [usize; 3],
-    scalars: [f64; 3],
-    count: usize,
-    i: usize,
-    acc: f64,
-) -> f64
-    requires { ⌜ (count ≤ 3) × ((j : ℕ) → j < count → getD places j 0 + i < length (now vectors)) ⌝ }
-    ensures { λ r. ⌜ r ≡ coupled (now (vectors .entry)) places count scalars i acc ⌝ }
-{
-    let mut a = acc;
-    for j in 0..count {
-        let p = places[j];
-        a = a + scalars[j] * vectors[p + i];
-    }
-    a
-}
-
 // The generator's share of a row.
 fn generator_term(k: Scales, av: f64, u: f64) -> f64
     ensures { λ r. ⌜ r ≡ generator-term k av u ⌝ }
@@ -88,7 +68,28 @@ fn generator_term(k: Scales, av: f64, u: f64) -> f64
     }
 }
 
-// work[w + i] becomes row i of the product: work[av + i] is row i of G w.
+// work[w + i] becomes the generator's share of row i: work[av + i] is row i of G w.
+fn generator_terms_in(k: Scales, work: &mut [f64], w: usize, av: usize, n: usize)
+    requires { ⌜ (w + n ≤ length (now work)) × (av + n ≤ length (now work)) ⌝ }
+    requires { ⌜ Apart w av n ⌝ }
+    ensures { λ _. ⌜ now (work .exit) ≡ splice w (tabulate n (λ i. generator-term k (at (now (work .entry)) (av + i)) (at (now (work .entry)) (w + i)))) (now (work .entry)) ⌝ }
+{
+    for i in 0..n {
+        work[w + i] = generator_term(k, work[av + i], work[w + i]);
+    }
+}
+
+// work[w + i] = work[w + i] + s * vectors[p + i]
+fn add_column_in(vectors: &[f64], p: usize, s: f64, work: &mut [f64], w: usize, n: usize)
+    requires { ⌜ (p + n ≤ length (now vectors)) × (w + n ≤ length (now work)) ⌝ }
+    ensures { λ _. ⌜ now (work .exit) ≡ splice w (tabulate n (λ i. at (now (work .entry)) (w + i) ⊕ s ⊗ at (now (vectors .entry)) (p + i))) (now (work .entry)) ⌝ }
+{
+    for i in 0..n {
+        work[w + i] = work[w + i] + s * vectors[p + i];
+    }
+}
+
+// work[w + i] becomes row i of the product: work[av + i] is row i of G w. Column by column, so that each loop runs along the memory.
 fn top_in(
     vectors: &[f64],
     places: [usize; 3],
@@ -105,9 +106,10 @@ fn top_in(
     requires { ⌜ Apart w av n ⌝ }
     ensures { λ _. ⌜ now (work .exit) ≡ splice w (tabulate n (λ i. coupled (now (vectors .entry)) places count sc i (generator-term k (at (now (work .entry)) (av + i)) (at (now (work .entry)) (w + i))))) (now (work .entry)) ⌝ }
 {
-    for i in 0..n {
-        let t = generator_term(k, work[av + i], work[w + i]);
-        work[w + i] = coupled(vectors, places, sc, count, i, t);
+    generator_terms_in(k, work, w, av, n);
+    for j in 0..count {
+        let p = places[j];
+        add_column_in(vectors, p, sc[j], work, w, n);
     }
 }
 

@@ -2,41 +2,47 @@
 use borrow.Author.Needs.{needs}
 use native.Mathlib.Omega.{arith}
 use Prim.Native.Nat.{_+_, _-_, _≤_}
-use mathlib.Core.Path.{_∙_}
+use mathlib.Core.Path.{_≡_, refl, _∙_}
+use lib.ListN.{length}
 use lib.Ieee.{nan}
-use Rattle.lists.proofs.Loop.{Filled, started, turned, finished, read-here, read-apart}
+use Rattle.lists.specs.Loop.{tabulate}
+use Rattle.lists.specs.Window.{splice}
+use Rattle.lists.proofs.Loop.{passed}
 use Rattle.doubles.specs.F64.{at}
 use Rattle.phi_action_helpers.specs.Augmented.{coupled, generator-term}
+use Rattle.phi_action_helpers.proofs.Augmented.{no-column, next-column}
 use Rattle.phi_action_helpers.proofs.top_in.Statement.{statement}
 use Rattle.phi_action_helpers.proofs.top_in.Tie as tie
 
 abbrev Inv-loop : tie.InvT-loop
-Inv-loop vectors places sc count k work₀ w av n i₀ work i = (i ≤ n) × Filled w i (λ m. coupled vectors places count sc m (generator-term k (at work₀ (av + m)) (at work₀ (w + m)))) work₀ work
+Inv-loop vectors count work₁ w av n places sc j₀ work j = (j ≤ count) × (w + n ≤ length work₁) × (length work ≡ length work₁) × (work ≡ splice w (tabulate n (λ i. coupled vectors places j sc i (at work₁ (w + i)))) work₁)
 
 abbrev μ-loop : tie.MeasureT-loop
-μ-loop vectors places sc count k work₀ w av n i₀ work i = n - i
+μ-loop vectors count work₁ w av n places sc j₀ work j = count - j
+
+generator-terms-in-requires : tie.Need-generator-terms-in-requires Inv-loop μ-loop
+generator-terms-in-requires = λ c κs. search needs
 
 loop-holds : tie.Need-loop-holds Inv-loop μ-loop
-loop-holds c = (omega arith, started _ _ _)
+loop-holds c =
+    let a = c .before .before .before .before .before .before .args in
+    let l : a .w + a .n ≤ length (c .before .before .generator-terms-in .last .1 .0) = omega (arith, c .before .before .generator-terms-in .kept .1 .0) in
+    (omega arith, l, refl, no-column (a .vectors .now) (a .t2) (a .t3) (a .w) (a .n) (c .before .before .generator-terms-in .last .1 .0) l)
 
-coupled-requires : tie.Need-coupled-requires Inv-loop μ-loop
-coupled-requires c κs =
-    let s = c .before .before .before .before in
-    let pre = s .before .before .before .pre .0 in
-    (pre .0, (λ j h. omega (arith, pre .1 j h)))
+add-column-in-requires : tie.Need-add-column-in-requires Inv-loop μ-loop
+add-column-in-requires = λ c κs. (omega (arith, c .before .before .before .before .before .before .before .before .before .pre .0 .1 (c .before .before .loop .j) (c .before .loop-test .taken)), omega (arith, c .before .before .loop .inv .1, c .before .before .loop .inv .2))
 
 loop-again : tie.Need-loop-again Inv-loop μ-loop
 loop-again c =
-    let s = c .before .before .before .before .before in
-    let start = s .before .before .before in
-    let a = start .args in
-    let inv = s .loop .inv in
-    let here = read-here (inv .1) nan in
-    let there = read-apart (inv .1) (a .av) (a .n) (s .loop .i) nan (start .pre .1 .1) (inv .0) (omega arith) in
-    (omega arith, turned (inv .1) (c .coupled .ensures ∙ rw (c .before .generator-term .ensures, here, there)))
+    let a = c .before .before .before .before .before .before .before .before .before .before .before .before .args in
+    let inv = c .before .before .before .before .before .loop .inv in
+    (omega arith, inv .1, c .before .before .add-column-in .kept .1 .1 .1 .0 ∙ inv .2, next-column (a .vectors .now) (a .t2) (a .t3) (a .w) (a .n) (c .before .before .before .before .before .loop .j) (c .before .before .before .before .before .before .before .before .generator-terms-in .last .1 .0) (inv .3) (c .before .before .add-column-in .ensures) (inv .1))
 
 returns : tie.Need-returns Inv-loop μ-loop
-returns c = finished (c .before .loop .inv .1) _ (omega arith) (omega arith)
+returns c =
+    let a = c .before .before .before .before .before .before .before .before .args in
+    let e : c .before .loop .j ≡ a .count = omega arith in
+    passed (a .w) (a .n) (λ i. generator-term (a .k) (at (a .work .now) (a .av + i)) (at (a .work .now) (a .w + i))) (λ i x. coupled (a .vectors .now) (a .t2) (a .count) (a .t3) i x) (a .work .now) nan (omega arith) (c .before .before .before .before .generator-terms-in .ensures) (rw e at (c .before .loop .inv .3))
 
 pub top-in-spec : {M : Type 1} → statement M
 top-in-spec =
@@ -44,18 +50,13 @@ top-in-spec =
     (tie.spec
     Inv-loop
     μ-loop
+    generator-terms-in-requires
     loop-holds
     (λ c. omega arith)
     (λ c. omega arith)
     (λ c. omega arith)
     (λ c. omega arith)
-    (λ c. omega arith)
-    (λ c. omega arith)
-    (λ c κs. search needs)
-    coupled-requires
-    (λ c. omega arith)
-    (λ c. omega arith)
-    (λ c. omega arith)
+    add-column-in-requires
     (λ c. omega arith)
     (λ c. omega arith)
     loop-again

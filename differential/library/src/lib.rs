@@ -1,0 +1,103 @@
+//! The proved library (crates/exports, crates/exports_bytes): its exported functions, and a job put to them.
+
+mod slices;
+
+pub use slices::{answer, call};
+
+/// What a call hands back besides its slices: 0 or the refusal's number, the double, and the counts in the order of
+/// [`jobs::Answer`].
+pub struct Told {
+    pub number: u32,
+    pub value: f64,
+    pub counts: [u64; 3],
+}
+
+/// Declares one exported function on slices of `$u32` and `$f64`: a slice is a pointer and a length, a `&mut` number a pointer.
+macro_rules! exported {
+    ($name:ident, $u32:ty, $f64:ty, [$($option:ident: $option_type:ty),*], $a:ty, $b:ty, $c:ty) => {
+        extern "C" {
+            pub fn $name(
+                n: usize,
+                starts: *const $u32,
+                starts_len: usize,
+                cols: *const $u32,
+                cols_len: usize,
+                vals: *const $f64,
+                vals_len: usize,
+                with_mass: bool,
+                mass: *const $f64,
+                mass_len: usize,
+                tau: f64,
+                count: usize,
+                w: *const $f64,
+                w_len: usize,
+                $($option: $option_type,)*
+                out: *mut $f64,
+                out_len: usize,
+                work: *mut $f64,
+                work_len: usize,
+                value: *mut f64,
+                first: *mut $a,
+                second: *mut $b,
+                third: *mut $c,
+            ) -> u32;
+        }
+    };
+}
+
+/// Calls one of them. SAFETY: every pointer comes from a slice with its own length or from a local, and no two overlap; the
+/// functions are proved to stay within them.
+macro_rules! called {
+    ($name:path, $job:expr, $s:expr, [$($option:expr),*], $out:expr, $work:expr, $value:expr, $a:expr, $b:expr, $c:expr) => {
+        unsafe {
+            $name(
+                $job.n,
+                $s.starts.as_ptr(),
+                $s.starts.len(),
+                $s.cols.as_ptr(),
+                $s.cols.len(),
+                $s.vals.as_ptr(),
+                $s.vals.len(),
+                $job.mass.is_some(),
+                $s.mass.as_ptr(),
+                $s.mass.len(),
+                $job.tau,
+                $job.count,
+                $s.w.as_ptr(),
+                $s.w.len(),
+                $($option,)*
+                $out.as_mut_ptr(),
+                $out.len(),
+                $work.as_mut_ptr(),
+                $work.len(),
+                $value,
+                $a,
+                $b,
+                $c,
+            )
+        }
+    };
+}
+
+/// Puts `$job` to one of four functions, by its call, and gives what they tell.
+macro_rules! told {
+    ($job:expr, $s:expr, $out:expr, $work:expr, $combination:path, $action:path, $batched:path, $krylov:path) => {{
+        let (job, s, out, work) = ($job, $s, $out, $work);
+        let mut value = jobs::mark(0);
+        if let jobs::Call::Krylov { tol, m, limit } = job.call {
+            let (mut substeps, mut matvecs, mut rejected) = (!0, !0, !0);
+            let number =
+                called!($krylov, job, s, [tol, m, limit], out, work, &mut value, &mut substeps, &mut matvecs, &mut rejected);
+            $crate::Told { number, value, counts: [matvecs as u64, substeps as u64, rejected as u64] }
+        } else {
+            let (mut s_, mut m, mut applications) = (!0, !0, !0);
+            let number = match job.call {
+                jobs::Call::Action => called!($action, job, s, [], out, work, &mut value, &mut s_, &mut m, &mut applications),
+                jobs::Call::Batched => called!($batched, job, s, [], out, work, &mut value, &mut s_, &mut m, &mut applications),
+                _ => called!($combination, job, s, [], out, work, &mut value, &mut s_, &mut m, &mut applications),
+            };
+            $crate::Told { number, value, counts: [s_.into(), m.into(), applications] }
+        }
+    }};
+}
+use {called, exported, told};
