@@ -3,13 +3,15 @@ use mathlib.Core.List.{List}
 use mathlib.Core.Path.{_≡_, refl, sym, ap, _∙_}
 use Prim.Native.Nat.{ℕ, zero, suc, _+_, _-_, _*_, _≤_, _<_}
 use native.Mathlib.Omega.{arith}
-use lib.ListN.{length, set, take, drop, length-set}
+use native.Mathlib.Nat.{suc-mul}
+use native.Mathlib.Numerals.{add-one}
+use lib.ListN.{length, set, length-set}
 use lib.Ieee.{Float, neg}
 use Rattle.lists.specs.Loop.{iter}
 use Rattle.lists.specs.Window.{window, splice}
 use Rattle.lists.proofs.Loop.{iter-none, iter-next}
 use Rattle.lists.proofs.Bounds.{column-within, cell-within}
-use Rattle.lists.proofs.Window.{part-window, length-window, length-splice, window-splice-after, window-splice-same, splice-splice, splice-window, set-splice-after, set-splice-in}
+use Rattle.lists.proofs.Window.{length-window, length-splice, window-splice-after, window-splice-same, splice-splice, splice-window, set-splice-after, set-splice-in}
 use Rattle.vectors.specs.Vectors.{dot, axpy}
 use Rattle.vectors.proofs.Laws.{length-axpy}
 use Rattle.arnoldi.specs.Basis.{Rest, lessen, orthogonal}
@@ -63,12 +65,11 @@ began n q r dim j w = sym (rw (orthogonal-none, splice-window r (dim * dim) w) (
 -- what a turn leaves: the size is stored, and then the column taken away
 pub turn : (n q r dim j i : ℕ) (w₀ s s₂ : List Float) (c : Float) → j * n + n ≤ q → q + n ≤ r → r + dim * dim ≤ length w₀ → j < dim → i < j + 1
     → (let R = orthogonal (column n w₀) dim j i (rest-at n q r dim w₀) in s ≡ splice q (R .z) (splice r (R .h) w₀))
-    → c ≡ dot (take (q + n - q) (drop q s)) (take (i * n + n - i * n) (drop (i * n) s))
+    → c ≡ dot (window q n s) (window (i * n) n s)
     → s₂ ≡ splice q (axpy (neg c) (window (i * n) n (set s (r + (i * dim + j)) c)) (window q n (set s (r + (i * dim + j)) c))) (set s (r + (i * dim + j)) c)
     → (let R = orthogonal (column n w₀) dim j (i + 1) (rest-at n q r dim w₀) in s₂ ≡ splice q (R .z) (splice r (R .h) w₀))
 unfolding lessen
-turn n q r dim j i w₀ s s₂ c a b d jd l es ec₀ e₂ =
-    let ec : c ≡ dot (window q n s) (window (i * n) n s) = rw (part-window (i * n) n s, part-window q n s) at ec₀ in
+turn n q r dim j i w₀ s s₂ c a b d jd l es ec e₂ =
     let v = column n w₀ in
     let f = rest-at n q r dim w₀ in
     let R = orthogonal v dim j i f in
@@ -91,3 +92,18 @@ turn n q r dim j i w₀ s s₂ c a b d jd l es ec₀ e₂ =
     let wt : window q n (set s (r + k) c) ≡ u = ap (window q n) st ∙ window-splice-same q n u x₁ lu (omega arith) in
     let lt : length (axpy (neg g) (v i) u) ≡ n = length-axpy (neg g) (v i) u (length-column n w₀ i (omega arith) ∙ sym lu) ∙ lu in
     rw (e₂, vt, wt, st, cg, splice-splice q (axpy (neg g) (v i) u) u x₁ (omega arith), orthogonal-next v dim j i f)
+
+-- the next size: of what is left with the column behind
+pub next-size : (n q j i : ℕ) (t s₂ : List Float) (a c : Float) → j * n + n ≤ q → q + n ≤ length t → i < j
+    → s₂ ≡ splice q (axpy a (window (i * n) n t) (window q n t)) t
+    → c ≡ dot (axpy a (window (i * n) n t) (window q n t)) (window (i * n + n) n t)
+    → c ≡ dot (window q n s₂) (window ((i + 1) * n) n s₂)
+next-size n q j i t s₂ a c l m h e ec =
+    let u = axpy a (window (i * n) n t) (window q n t) in
+    let here : i * n + n ≤ j * n = column-within i j n h in
+    let next : (i + 1) * n ≡ i * n + n = ap (λ k. k * n) (add-one i) ∙ suc-mul i n in
+    let lq : length (window q n t) ≡ n = length-window q n t m in
+    let lu : length u ≡ n = length-axpy a (window (i * n) n t) (window q n t) (length-window (i * n) n t (omega arith) ∙ sym lq) ∙ lq in
+    let z : window q n s₂ ≡ u = ap (window q n) e ∙ window-splice-same q n u t lu m in
+    let v : window (i * n + n) n s₂ ≡ window (i * n + n) n t = ap (window (i * n + n) n) e ∙ window-splice-after (i * n + n) n q u t (omega arith) in
+    rw (next, z, v) ec

@@ -73,7 +73,8 @@ fn apply_in(
     phi_action_helpers::aug_matvec(starts, cols, vals, vectors, work, l, b, s);
 }
 
-// z less its parts along columns 0 to j, whose sizes go to column j of h: one pass of modified Gram-Schmidt.
+// z less its parts along columns 0 to j, whose sizes go to column j of h: one pass of modified Gram-Schmidt. Each part is taken away
+// in the loop that finds the next size.
 fn orthogonal(work: &mut [f64], z_at: usize, h_at: usize, dim: usize, len: usize, j: usize)
     requires { ⌜ j * len + len ≤ «z_at» ⌝ }
     requires { ⌜ «z_at» + len ≤ «h_at» ⌝ }
@@ -82,16 +83,17 @@ fn orthogonal(work: &mut [f64], z_at: usize, h_at: usize, dim: usize, len: usize
     ensures { λ _. ⌜ now (work .exit) ≡ behind «z_at» «h_at» (orthogonal (column len (now (work .entry))) dim j (j + 1) (rest-at len «z_at» «h_at» dim (now (work .entry)))) (now (work .entry)) ⌝ }
 {
     let z_end = z_at + len;
-    let count = j + 1;
-    for i in 0..count {
+    let s = &work[..];
+    let mut c = vectors::dot(&s[z_at..z_end], &s[0..len]);
+    for i in 0..j {
         let at = i * len;
-        let end = at + len;
-        let s = &work[..];
-        let c = vectors::dot(&s[z_at..z_end], &s[at..end]);
         let e = i * dim + j;
         work[h_at + e] = c;
-        vectors::axpy_in(work, z_at, at, len, -c);
+        c = vectors::axpy_dot_in(work, z_at, at, at + len, len, -c);
     }
+    let e = j * dim + j;
+    work[h_at + e] = c;
+    vectors::axpy_in(work, z_at, j * len, len, -c);
 }
 
 // The product of column j, orthogonal to columns 0 to j.

@@ -3,7 +3,7 @@ use native.Mathlib.Omega.{arith}
 use mathlib.Core.Logic.{_⊎_, inl, inr, ⊎-elim}
 use Prim.Native.Nat.{ℕ, zero, suc, _+_, _*_, _≤_, _<_}
 use native.Mathlib.Nat.{mul-le-mul, mul-le-mul-right, suc-mul}
-use Rattle.lists.specs.Bounds.{Disjoint}
+use Rattle.lists.specs.Bounds.{Disjoint, Apart}
 
 -- a product of two numbers with known bounds: at numerals A * B computes
 pub product-within : {a b : ℕ} (A B : ℕ) → a ≤ A → b ≤ B → a * b ≤ A * B
@@ -31,3 +31,8 @@ disjoint-cases p n q m h = ⊎-elim (λ (g : q < p + n). inr (h g)) (λ (g : p +
 pub part-apart : (p n q m r k : ℕ) → Disjoint p n q m → p ≤ r → r + k ≤ p + n → Disjoint q m r k
 part-apart p n q m r k h a b =
     ⊎-elim (λ (g : p + n ≤ q) (l : r < q + m). omega arith) (λ (g : q + m ≤ p) (l : r < q + m). omega arith) (disjoint-cases p n q m h)
+
+-- the same parts of two windows that are apart
+pub within-apart : (p q n i m : ℕ) → Apart p q n → i + m ≤ n → Apart (p + i) (q + i) m
+within-apart p q n i m h l =
+    ⊎-elim (λ (g : p + n ≤ q) (t : q + i < p + i + m). omega arith) (λ (g : q + n ≤ p) (t : q + i < p + i + m). omega arith) (disjoint-cases p n q n h)

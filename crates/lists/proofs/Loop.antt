@@ -149,13 +149,16 @@ module _ {A : Type 0} where
   pub finished-all : {i : ℕ} {f : ℕ → A} {w₀ w : List A} → Filled 0 i f w₀ w → (n : ℕ) → i ≤ n → n ≤ i → length w₀ ≡ n → w ≡ tabulate n f
   finished-all {i} {f} {w₀} {w} h n l m e = finished h n l m ∙ splice-whole (tabulate n f) w₀ (length-tabulate n f ∙ sym e)
 
+  -- what a loop has written
+  pub read-written : (p n : ℕ) (f : ℕ → A) (w₀ : List A) (k : ℕ) (d : A) {w : List A} → w ≡ splice p (tabulate n f) w₀ → p + n ≤ length w₀ → k < n → getD w (p + k) d ≡ f k
+  read-written p n f w₀ k d e l h =
+      ap (λ (r : List A). getD r (p + k) d) e ∙ getD-splice-in p (tabulate n f) w₀ k d (simp length-tabulate h) (omega arith) ∙ getD-tabulate n f k d h
+
   -- a loop over a window that a loop before has written: its element k, made from the one that stands there, takes that one's place
   pub passed : (p n : ℕ) (f : ℕ → A) (g : ℕ → A → A) (w₀ : List A) (d : A) {w₁ w₂ : List A} → p + n ≤ length w₀ → w₁ ≡ splice p (tabulate n f) w₀ → w₂ ≡ splice p (tabulate n (λ k. g k (getD w₁ (p + k) d))) w₁ → w₂ ≡ splice p (tabulate n (λ k. g k (f k))) w₀
   passed p n f g w₀ d {w₁} {w₂} l e₁ e₂ =
-      let there : (k : ℕ) → k < n → getD w₁ (p + k) d ≡ f k =
-      λ k h. ap (λ (r : List A). getD r (p + k) d) e₁ ∙ getD-splice-in p (tabulate n f) w₀ k d (simp length-tabulate h) (omega arith) ∙ getD-tabulate n f k d h in
       e₂
-      ∙ (λ j. splice p (tabulate-ext n (λ k. g k (getD w₁ (p + k) d)) (λ k. g k (f k)) (λ k h. ap (g k) (there k h)) j) (e₁ j))
+      ∙ (λ j. splice p (tabulate-ext n (λ k. g k (getD w₁ (p + k) d)) (λ k. g k (f k)) (λ k h. ap (g k) (read-written p n f w₀ k d e₁ l h)) j) (e₁ j))
       ∙ splice-splice p (tabulate n (λ k. g k (f k))) (tabulate n f) w₀ (simp length-tabulate (le-refl n))
 
   -- ---- vector operations, element by element

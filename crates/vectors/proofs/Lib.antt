@@ -1,3 +1,4 @@
 -- Laws of the definitions, and worked examples.
 pub mod Laws
 pub mod Examples
+pub mod Blocks
