@@ -1,7 +1,7 @@
 -- The search of `root_bits`: what a test says of `within`, and what lies between the two ends of the bracket. Assumes nothing.
 use mathlib.Core.Path.{_≡_, refl, sym, ap, _∙_, subst}
-use Prim.Native.Nat.{ℕ, zero, suc, _+_, _-_, _^_, _≤_, _<_, zero-le}
-use native.Mathlib.Nat.{le-antisymm, lt-of-not-le, lt-of-lt-of-le, le-of-lt, le-refl}
+use Prim.Native.Nat.{ℕ, _+_, _^_, _≤_, _<_, zero-le}
+use native.Mathlib.Nat.{le-antisymm, lt-of-lt-of-le, le-refl}
 use native.Mathlib.Omega.{arith}
 use mathlib.Core.Bool.{Bool, true, false, _&&_}
 use lib.Dec.{T, lit<, lit≤}

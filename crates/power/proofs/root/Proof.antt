@@ -1,6 +1,5 @@
 -- `power::root` meets its contract. Assumes nothing.
-use mathlib.Core.Path.{_≡_, sym, subst, ap, _∙_}
-use native.Mathlib.Nat.{le-refl}
+use mathlib.Core.Path.{ap, _∙_}
 use lib.Ieee.{binary64, ofBits, nanBits}
 use Rattle.doubles.proofs.Patterns.{finite-no-nan}
 use Rattle.doubles.proofs.Time.{above-zero}
