@@ -1,3 +1,3 @@
-pub mod Descent
 pub mod Cases
 pub mod Roots
+pub mod Bracket

@@ -67,7 +67,7 @@ bits-finite b h = go (ofBits binary64 b) (bits-value b h)
     go (fin s m e) h = tt
 
 module _ (t : Float) (q : ℕ) (tp : T (nonneg t)) where
-  down-closed : (a b : ℕ) → a ≤ b → T (within t q b) → T (within t q a)
+  pub down-closed : (a b : ℕ) → a ≤ b → T (within t q b) → T (within t q a)
   down-closed a b h p =
       let lb : b < 9218868437227405312 = ltb→lt b 9218868437227405312 (and-l (ltb b 9218868437227405312) (le (power (ofBits binary64 b) q) t) p) in
       let la : a < 9218868437227405312 = lt-of-le-of-lt h lb in
@@ -100,7 +100,7 @@ module _ (t : Float) (q : ℕ) (tp : T (nonneg t)) where
   unfolding ofBits
   zero-bits = refl
 
-  zero-passes : T (within t q 0)
+  pub zero-passes : T (within t q 0)
   zero-passes = subst (λ (x : Float). T (le (power x q) t)) (sym zero-bits) (subst (λ (x : Float). T (le x t)) (sym (zero-times (q - 1))) (zero-le-any t tp))
 
   found : Greatest (within t q) 0 (0 + 2 ^ 63) (greatest (within t q) 63 0)

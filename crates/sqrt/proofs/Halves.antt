@@ -1,21 +1,21 @@
 -- From the whole root of m * 2 ^ 54 to the double. Assumes nothing.
-use mathlib.Core.Path.{_≡_, refl, sym, ap, _∙_, subst}
+use mathlib.Core.Path.{_≡_, sym, ap, _∙_}
 use mathlib.Core.Logic.{_⊎_, inl, inr}
-use Prim.Native.Nat.{ℕ, zero, suc, _+_, _-_, _*_, _/_, _%_, _^_, _≤_, _<_}
-use native.Mathlib.Nat.{le-refl, le-trans, le-of-eq, le-of-lt, lt-of-lt-of-le, lt-of-le-of-lt, lt-of-not-le, not-le-of-lt, lt-irrefl, eq-or-lt-of-le, mul-le-mul, mul-le-mul-right, mul-comm, mul-assoc, mul-right-comm, mul-mul-mul-comm, mul-pos, mul-lt-mul-of-pos-right, one-mul, pow-succ'}
+use Prim.Native.Nat.{ℕ, suc, _+_, _-_, _*_, _/_, _%_, _^_, _≤_, _<_}
+use native.Mathlib.Nat.{le-trans, le-of-eq, lt-of-lt-of-le, lt-of-le-of-lt, lt-of-not-le, lt-irrefl, eq-or-lt-of-le, mul-le-mul, mul-le-mul-right, mul-assoc, mul-right-comm, mul-mul-mul-comm, mul-pos, mul-lt-mul-of-pos-right, one-mul, pow-succ'}
 use native.Mathlib.Omega.{arith}
 use lib.Pow.{pow-add, pow-pos, pow-mono}
 use lib.Ieee.{binary64, ofBits}
 use Rattle.sqrt.specs.Sqrt.{nearest-root}
-use Rattle.sqrt.proofs.Digits.{square-odd}
-use Rattle.sqrt.proofs.Near.{near-root, pattern-under, square-lt}
+use Rattle.sqrt.proofs.Squares.{square-lt, square-next}
+use Rattle.sqrt.proofs.Near.{near-root, pattern-under}
 
 square-scaled : (a p : ℕ) → a * p * (a * p) ≡ a * a * (p * p)
 square-scaled a p = mul-mul-mul-comm a p a p
 
 odd-square : (k m : ℕ) → (2 * k + 1) * (2 * k + 1) ≡ m * 18014398509481984 → ⊥
 odd-square k m e =
-    let s = square-odd (2 * k) in
+    let s = square-next (2 * k) in
     let t : 2 * k * (2 * k) ≡ 2 * 2 * (k * k) = mul-mul-mul-comm 2 k 2 k in
     omega arith
 

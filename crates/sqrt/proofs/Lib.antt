@@ -1,4 +1,5 @@
-pub mod Digits
+pub mod Squares
+pub mod Parts
 pub mod Whole
 pub mod Near
 pub mod Halves

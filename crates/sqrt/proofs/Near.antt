@@ -1,19 +1,18 @@
 -- The double nearest to √n / 2 ^ 1074, from the whole part of the root and whether it is exact. Assumes nothing.
 use mathlib.Core.Path.{_≡_, refl, sym, ap, _∙_, subst}
 use mathlib.Core.Logic.{_⊎_, inl, inr}
-use Prim.Native.Nat.{ℕ, zero, suc, _+_, _-_, _*_, _/_, _%_, _^_, _≤_, _<_, compare, Ordering, Ordering·lt, Ordering·eq, Ordering·gt}
-use native.Mathlib.Nat.{le-refl, le-trans, le-of-eq, le-of-lt, lt-of-lt-of-le, lt-of-le-of-lt, lt-of-not-le, not-le-of-lt, lt-irrefl, le-antisymm, le-of-suc-le-suc, eq-or-lt-of-le, mul-le-mul, mul-one, mul-comm, mul-assoc, mul-left-comm, mul-right-comm, mul-mul-mul-comm, mul-pos, mul-lt-mul-of-pos-right, lt-of-mul-lt-mul-right, mul-le-mul-right, div-add-mod', mod-lt, add-mul, one-mul, suc-mul, mul-div-cancel, div-mul-le-self, mul-div-mul-right, pow-succ'}
+use Prim.Native.Nat.{ℕ, suc, _+_, _-_, _*_, _/_, _^_, _≤_, _<_}
+use native.Mathlib.Nat.{le-of-eq, le-of-lt, lt-of-lt-of-le, lt-of-le-of-lt, lt-irrefl, eq-or-lt-of-le, mul-le-mul, mul-comm, mul-assoc, mul-left-comm, mul-pos, mul-lt-mul-of-pos-right, mul-div-mul-right, pow-succ'}
 use native.Mathlib.Omega.{arith}
 use native.Mathlib.Numerals.{add-one}
-use mathlib.Core.Bool.{Bool, true, false, not, cond}
-use lib.Dec.{T, ltb, eqb, leb, eqb→eq, leb→le, nleb→lt, eqb-refl, isLe, isEq, lit≤, lit<}
-use lib.Pow.{pow-add, pow-pos, pow-mono, pow-lt}
-use lib.Ieee.{Float, binary64, size, nearest, round, ofBits, fits}
+use mathlib.Core.Bool.{Bool, true, false, cond}
+use lib.Dec.{T, eqb, eqb→eq, lit<}
+use lib.Pow.{pow-pos, pow-mono}
+use lib.Ieee.{Float, binary64, size, round, ofBits, fits}
 use lib.Ieee.Fits.{round-fits}
 use lib.Ieee.Bits.{ofBits-fits}
-use lib.Ieee.Digits.{size-lt, size-le, size-reaches}
 use lib.Ieee.Nearest.{closest}
-use lib.Ieee.Order.{drop, kept}
+use lib.Ieee.Order.{drop}
 use lib.Ieee.Scale.{grid, round-val}
 use lib.Ieee.Exact.{HasValue}
 use Rattle.doubles.proofs.Patterns.{bits-value, val-carry}
@@ -21,15 +20,8 @@ use Rattle.doubles.specs.Value.{val}
 use Rattle.doubles.proofs.Unique.{value-unique}
 use Rattle.sqrt.specs.Sqrt.{isqrt, nearest-root}
 use Rattle.sqrt.proofs.Whole.{isqrt-is}
-use Rattle.sqrt.proofs.Digits.{square-odd}
+use Rattle.sqrt.proofs.Squares.{square-lt}
 use Rattle.doubles.proofs.Nearest.{closest-is, size-exact}
-
--- ---- squares
-square-mono : (a b : ℕ) → a ≤ b → a * a ≤ b * b
-square-mono a b h = mul-le-mul h h
-
-pub square-lt : (a b : ℕ) → a * a < b * b → a < b
-square-lt a b h = lt-of-not-le (λ (g : b ≤ a). not-le-of-lt h (square-mono b a g))
 
 -- ---- the root, doubled, with a last digit that says whether anything is left
 unfoldable pub sticky : ℕ → ℕ

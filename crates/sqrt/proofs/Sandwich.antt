@@ -3,13 +3,13 @@
 use mathlib.Core.Path.{_≡_, refl, sym, ap, _∙_, subst}
 use mathlib.Core.Logic.{_⊎_, inl, inr}
 use Prim.Native.Nat.{ℕ, zero, suc, _+_, _-_, _*_, _/_, _%_, _^_, _≤_, _<_}
-use native.Mathlib.Nat.{le-refl, le-trans, le-of-eq, le-of-lt, lt-of-lt-of-le, lt-of-le-of-lt, lt-of-not-le, not-le-of-lt, lt-irrefl, eq-or-lt-of-le, mul-one, one-mul, mul-comm, mul-assoc, mul-left-comm, mul-right-comm, mul-mul-mul-comm, mul-pos, mul-le-mul, mul-le-mul-right, mul-lt-mul-of-pos-right, div-add-mod', mod-lt, div-eq-of-lt-le, pow-succ', mul-div-cancel, zero-mul, add-mul, zero-lt-suc, le-of-mul-le-mul-right}
+use native.Mathlib.Nat.{le-refl, le-trans, le-of-eq, le-of-lt, lt-of-lt-of-le, lt-of-le-of-lt, lt-of-not-le, not-le-of-lt, lt-irrefl, one-mul, mul-comm, mul-assoc, mul-left-comm, mul-right-comm, mul-mul-mul-comm, mul-pos, mul-le-mul, mul-le-mul-right, mul-lt-mul-of-pos-right, div-add-mod', mod-lt, div-eq-of-lt-le, pow-succ', mul-div-cancel, zero-mul, add-mul, zero-lt-suc, le-of-mul-le-mul-right}
 use native.Mathlib.Omega.{arith}
 use mathlib.Core.Bool.{Bool, true, false, cond}
 use lib.IntN.{ℤ}
 use lib.Dec.{T, eqb, eqb→eq, eqb-refl, lit≤}
 use lib.Pow.{pow-pos, pow-mono}
-use lib.Ieee.{Float, nan, inf, fin, binary64, up, down, size, round, units, le, fits, toBits}
+use lib.Ieee.{Float, inf, fin, binary64, up, down, size, round, units, le, fits, toBits}
 use lib.Ieee.Fits.{round-is, down-pos, up-pos}
 use lib.Ieee.Digits.{size-lt, size-reaches}
 use lib.Ieee.Nearest.{closest}
@@ -21,7 +21,8 @@ use Rattle.doubles.proofs.Unique.{pattern-value}
 use Rattle.sqrt.specs.Sqrt.{isqrt, nearest-root, sqrt}
 use Rattle.sqrt.proofs.Whole.{isqrt-is}
 use Rattle.doubles.proofs.Nearest.{closest-is}
-use Rattle.sqrt.proofs.Near.{sticky, nearest-root-is, square-lt}
+use Rattle.sqrt.proofs.Squares.{square-lt}
+use Rattle.sqrt.proofs.Near.{sticky, nearest-root-is}
 
 -- ---- between two whole numbers s and s + 1 of units, s of 54 digits at least, all fractions round alike
 -- the multiple of 2 ^ k that they round to

@@ -1,5 +1,5 @@
 -- The whole part of a square root. Assumes nothing.
-use mathlib.Core.Path.{_≡_, refl, sym, ap, _∙_, subst}
+use mathlib.Core.Path.{sym}
 use Prim.Native.Nat.{ℕ, _+_, _*_, _^_, _≤_, _<_, zero-le}
 use native.Mathlib.Nat.{le-refl, le-trans, lt-of-le-of-lt, lt-of-not-le, mul-le-mul, mul-one, le-of-eq}
 use native.Mathlib.Omega.{arith}
@@ -10,12 +10,10 @@ use lib.Ieee.Digits.{size-lt}
 use Rattle.lists.specs.Greatest.{greatest}
 use Rattle.lists.proofs.Greatest.{Greatest, greatest-is}
 use Rattle.sqrt.specs.Sqrt.{isqrt}
+use Rattle.sqrt.proofs.Squares.{square-mono}
 
 self-le : (n : ℕ) → 0 < n → n ≤ n * n
 self-le n h = le-trans (le-of-eq (sym (mul-one n))) (mul-le-mul (le-refl n) h)
-
-square-mono : (a b : ℕ) → a ≤ b → a * a ≤ b * b
-square-mono a b h = mul-le-mul h h
 
 pub isqrt-is : (n : ℕ) → (isqrt n * isqrt n ≤ n) × (n < (isqrt n + 1) * (isqrt n + 1))
 unfolding isqrt

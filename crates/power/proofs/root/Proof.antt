@@ -1,9 +1,8 @@
 -- `power::root` meets its contract. Assumes nothing.
-use borrow.Author.Needs.{needs}
-use mathlib.Core.Path.{_≡_, sym, subst, ap, _∙_}
-use native.Mathlib.Nat.{le-refl}
+use mathlib.Core.Path.{ap, _∙_}
 use lib.Ieee.{binary64, ofBits, nanBits}
 use Rattle.doubles.proofs.Patterns.{finite-no-nan}
+use Rattle.doubles.proofs.Time.{above-zero}
 use Rattle.power.proofs.Cases.{when-zero, when-number, when-endless, when-not}
 use Rattle.power.proofs.root.Statement.{statement}
 use Rattle.power.proofs.root.Tie as tie
@@ -16,7 +15,7 @@ unfolding nanBits
 float-from-bits-if3 c = tt
 
 root-bits-requires : tie.Need-root-bits-requires
-root-bits-requires c κs = search needs
+root-bits-requires c κs = above-zero (c .before .before .before .args .t) (c .before .if2 .taken)
 
 float-from-bits-result : tie.Need-float-from-bits-result
 float-from-bits-result c = finite-no-nan (c .root-bits .result) (c .root-bits .ensures .1)

@@ -1,64 +1,75 @@
 -- `sqrt::root54` meets its contract. Assumes nothing.
-use Prim.Native.Nat.{ℕ, _-_, _<_}
+use borrow.Author.Needs.{needs}
+use Prim.Native.Nat.{ℕ, _-_, _*_, _/_, _%_, _≤_, _<_}
+use native.Mathlib.Nat.{div-add-mod, mod-lt}
 use native.Mathlib.Omega.{arith}
-use Rattle.sqrt.proofs.Digits.{Dig, start, root-lt, next-root-lt, step-up, step-down, done}
+use Rattle.sqrt.proofs.Parts.{square-small, s-high, s-low, low-most, kept, lowered}
 use Rattle.sqrt.proofs.root54.Statement.{statement}
 use Rattle.sqrt.proofs.root54.Tie as tie
 
-abbrev Inv-loop : tie.InvT-loop
-Inv-loop m root₀ rem₀ w₀ i₀ root rem w i = Dig m root rem w i
+high : (c : tie.After-root27) → c .root27 .result < 134217728
+high c = s-high _ _ (c .before .pre .0) (c .before .pre .1) (c .root27 .ensures .0) (c .root27 .ensures .1)
 
-abbrev μ-loop : tie.MeasureT-loop
-μ-loop m root₀ rem₀ w₀ i₀ root rem w i = 54 - i
+low : (c : tie.After-root27) → 67108864 ≤ c .root27 .result
+low c = s-low _ _ (c .before .pre .0) (c .before .pre .1) (c .root27 .ensures .0) (c .root27 .ensures .1)
 
-small : (c : tie.In-loop Inv-loop μ-loop) → c .before .loop .root < 9007199254740992
-small c = next-root-lt _ _ _ _ _ (c .before .loop .inv) (c .loop-test .taken)
+abbrev rest : tie.After-root27 → ℕ
+rest c = (c .before .args .m - c .root27 .result * c .root27 .result) * 67108864
 
-loop-holds : tie.Need-loop-holds Inv-loop μ-loop
-loop-holds c = start (c .args .m) (c .pre)
+quotient : (c : tie.After-root27) → rest c / c .root27 .result ≤ 134217728
+quotient c = low-most _ _ (c .before .pre .0) (c .before .pre .1) (c .root27 .ensures .0) (c .root27 .ensures .1)
 
-mul-have : tie.Need-mul-have Inv-loop μ-loop
-mul-have c = omega (arith, small c)
+left : (c : tie.After-root27) → rest c % c .root27 .result < c .root27 .result
+left c = mod-lt (rest c) (omega (arith, low c))
 
-add-have : tie.Need-add-have Inv-loop μ-loop
-add-have c = omega (arith, small c)
+mul-rest-2 : tie.Need-mul-rest-2
+mul-rest-2 c = omega (arith, high c)
 
-mul-need : tie.Need-mul-need Inv-loop μ-loop
-mul-need c = omega (arith, small c)
+div-low : tie.Need-div-low
+div-low c = omega (arith, low c)
 
-add-need : tie.Need-add-need Inv-loop μ-loop
-add-need c = omega (arith, small c)
+mul-root : tie.Need-mul-root
+mul-root c = omega (arith, high c)
 
-mul-w : tie.Need-mul-w Inv-loop μ-loop
-mul-w c = omega arith
+add-root : tie.Need-add-root
+add-root c = omega (arith, high c, quotient c)
 
-add-i : tie.Need-add-i Inv-loop μ-loop
-add-i c = omega arith
+rem-if1 : tie.Need-rem-if1
+rem-if1 c = omega (arith, low c)
 
-mul-root : tie.Need-mul-root Inv-loop μ-loop
-mul-root c = omega (arith, small (c .before))
+mul-if1 : tie.Need-mul-if1
+mul-if1 c = omega (arith, high c, left c)
 
-add-root : tie.Need-add-root Inv-loop μ-loop
-add-root c = omega (arith, small (c .before))
+mul-if1-2 : tie.Need-mul-if1-2
+mul-if1-2 c = omega (arith, square-small _ (quotient c))
 
-loop-less : tie.Need-loop-less Inv-loop μ-loop
-loop-less c = omega arith
+sub-result : tie.Need-sub-result
+sub-result c = omega (arith, low (c .before))
 
-loop-again : tie.Need-loop-again Inv-loop μ-loop
-loop-again c = step-up _ _ _ _ _ (c .before .before .loop .inv) (c .before .loop-test .taken) (c .if1 .taken)
+returns : tie.Need-returns
+returns c =
+    let a = c .before in
+    lowered (a .before .args .m) (a .root27 .result) (a .before .pre .0) (a .before .pre .1) (a .root27 .ensures .0) (a .root27 .ensures .1) _ _ (div-add-mod _ _) (left a) (quotient a) (c .if1 .taken)
 
-mul-root-2 : tie.Need-mul-root-2 Inv-loop μ-loop
-mul-root-2 c = omega (arith, small (c .before))
-
-loop-less-2 : tie.Need-loop-less-2 Inv-loop μ-loop
-loop-less-2 c = omega arith
-
-loop-again-2 : tie.Need-loop-again-2 Inv-loop μ-loop
-loop-again-2 c = step-down _ _ _ _ _ (c .before .before .loop .inv) (c .before .loop-test .taken) (c .if1 .left)
-
-returns : tie.Need-returns Inv-loop μ-loop
-returns c = done _ _ _ _ _ (c .before .loop .inv) (c .loop-test .left)
+returns-2 : tie.Need-returns-2
+returns-2 c =
+    let a = c .before in
+    kept (a .before .args .m) (a .root27 .result) (a .before .pre .0) (a .before .pre .1) (a .root27 .ensures .0) (a .root27 .ensures .1) _ _ (div-add-mod _ _) (left a) (quotient a) (c .if1 .left)
 
 pub root54-spec : {M : Type 1} → statement M
 root54-spec =
-    tie.close (tie.spec Inv-loop μ-loop loop-holds mul-have add-have mul-need add-need mul-w add-i mul-root add-root loop-less loop-again mul-root-2 loop-less-2 loop-again-2 returns)
+    tie.close
+    (tie.spec
+    (λ c κs. search needs)
+    (λ c. search needs)
+    (λ c. search needs)
+    mul-rest-2
+    div-low
+    mul-root
+    add-root
+    rem-if1
+    mul-if1
+    mul-if1-2
+    sub-result
+    returns
+    returns-2)
