@@ -127,8 +127,8 @@ enum hazhendu_refusal {
     HAZHENDU_WORK_LENGTH = 26,         /* work is too short                                     NaN */
 
     /* Krylov's run */
-    HAZHENDU_SUBSTEP_LIMIT = 27,       /* max_substeps made, and tau is not reached             estimated error, not relative */
-    HAZHENDU_LENGTHS_REJECTED = 28,    /* eleven lengths rejected in one substep                error allowed, not relative */
+    HAZHENDU_SUBSTEP_LIMIT = 27,       /* max_substeps made, and tau is not reached             estimated error so far, of the scaled start */
+    HAZHENDU_LENGTHS_REJECTED = 28,    /* eleven lengths rejected in one substep                error allowed, of the scaled start */
     HAZHENDU_NO_INNER_PLAN = 29        /* the small exponential has no plan                     its argument */
 };
 
