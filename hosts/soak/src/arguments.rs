@@ -135,6 +135,9 @@ impl Given {
 
     fn request(self) -> Result<Request, Failure> {
         let solver = self.solver()?;
+        if self.output.is_some() && self.output == self.plot {
+            return Err(Failure::Usage("--output and --plot name the same file".into()));
+        }
         Ok(Request {
             matrix: self.matrix.ok_or_else(|| Failure::Usage("MATRIX is missing".into()))?,
             tau: self.tau.ok_or_else(|| Failure::Usage("--tau is missing".into()))?,
