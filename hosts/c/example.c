@@ -1,0 +1,81 @@
+/* A rod of four aluminium pieces: starts 20 K above the room, is heated by 2 W at one end and cools at the other. */
+#include "hazhendu.h"
+
+#include <math.h>
+#include <stdio.h>
+
+enum { N = 4, ENTRIES = 10, COUNT = 2, KRYLOV_M = 30, WORK = 128 };
+
+/* Conductances in W/K: 0.5 between neighbours, 0.1 from the last piece to the room. */
+static const uint32_t starts[N + 1] = {0, 2, 5, 8, 10};
+static const uint32_t cols[ENTRIES] = {0, 1, 0, 1, 2, 1, 2, 3, 2, 3};
+static const double vals[ENTRIES] = {0.5, -0.5, -0.5, 1.0, -0.5, -0.5, 1.0, -0.5, -0.5, 0.6};
+/* Heat capacities in J/K. */
+static const double mass[N] = {8, 8, 8, 8};
+/* w_0, temperatures above the room in K; w_1, power divided by heat capacity in K/s. */
+static const double w[COUNT * N] = {20, 20, 20, 20, 0.25, 0, 0, 0};
+
+static void print_field(const double *field)
+{
+    for (size_t i = 0; i < N; i++)
+        printf("  %.17g\n", field[i]);
+}
+
+static uint32_t soak_taylor(double tau, double *out, double *work, size_t work_len)
+{
+    double value;
+    uint32_t s, m;
+    uint64_t applications;
+    uint32_t number = hazhendu_phi_combination(
+        N, starts, N + 1, cols, ENTRIES, vals, ENTRIES, true, mass, N, tau, COUNT, w, COUNT * N, out, N, work, work_len,
+        &value, &s, &m, &applications);
+    if (number == HAZHENDU_ACCEPTED)
+        printf("taylor: s %u, m %u, mu %.17g, %llu applications\n", s, m, value, (unsigned long long)applications);
+    else
+        printf("taylor: refused, number %u, double %g\n", number, value);
+    return number;
+}
+
+static uint32_t soak_krylov(double tau, size_t m, size_t max_substeps, double *out, double *work, size_t work_len)
+{
+    double value;
+    size_t substeps, matvecs, rejected;
+    uint32_t number = hazhendu_phi_combination_krylov(
+        N, starts, N + 1, cols, ENTRIES, vals, ENTRIES, true, mass, N, tau, COUNT, w, COUNT * N, 1e-10, m, max_substeps,
+        out, N, work, work_len, &value, &substeps, &matvecs, &rejected);
+    if (number == HAZHENDU_ACCEPTED)
+        printf("krylov: %zu substeps, %zu applications, %zu rejected, estimated error %.17g\n", substeps, matvecs, rejected, value);
+    else
+        printf("krylov: refused, number %u, double %g\n", number, value);
+    return number;
+}
+
+int main(void)
+{
+    double work[WORK];
+    double taylor[N], krylov[N];
+    size_t taylor_work = hazhendu_taylor_work(N, ENTRIES, true, COUNT);
+    size_t krylov_work = hazhendu_krylov_work(N, ENTRIES, true, COUNT, KRYLOV_M);
+    if (taylor_work > WORK || krylov_work > WORK)
+        return 1;
+
+    printf("temperatures above the room after 60 s, in K\n");
+    if (soak_taylor(60, taylor, work, taylor_work) != HAZHENDU_ACCEPTED)
+        return 1;
+    print_field(taylor);
+    if (soak_krylov(60, KRYLOV_M, 100000, krylov, work, krylov_work) != HAZHENDU_ACCEPTED)
+        return 1;
+    print_field(krylov);
+    for (size_t i = 0; i < N; i++)
+        if (!(fabs(taylor[i] - krylov[i]) <= 1e-8))
+            return 1;
+
+    printf("a time that is negative\n");
+    if (soak_taylor(-1, taylor, work, taylor_work) != HAZHENDU_TAU_RANGE)
+        return 1;
+    printf("a limit of three substeps that are short: what is left is the state after the third\n");
+    if (soak_krylov(60, 2, 3, krylov, work, krylov_work) != HAZHENDU_SUBSTEP_LIMIT)
+        return 1;
+    print_field(krylov);
+    return 0;
+}

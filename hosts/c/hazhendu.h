@@ -1,0 +1,233 @@
+/*
+ * Hazhendu: heat soak by phi-functions. The four exported calls of the proved library for C and C++ on x86-64 Linux.
+ *
+ * Link with target/staticlib/libexports.a, which `rt staticlib exports` writes (or `hosts/library`); hosts/c/run shows how.
+ *
+ *
+ * WHAT IS COMPUTED
+ *
+ * The matrix A has n rows and n columns. The generator is G = -A, or with a mass G = -A with each row divided by its mass.
+ *
+ *   hazhendu_phi_combination, hazhendu_phi_combination_krylov:  the sum over k of tau^k phi_k(tau G) w_k, for 1 to 4 vectors w_0, w_1, ...
+ *   hazhendu_phi_action:                                         phi_k(tau G) v
+ *   hazhendu_phi_action_batched:                                 phi_0(tau G) v, phi_1(tau G) v, ..., phi_p(tau G) v
+ *
+ * phi_0 is the exponential, and phi_k(z) = (phi_{k-1}(z) - 1/(k-1)!) / z. For heat, C dT/dt = -A T + q with T = T_0 at time 0, A in W/K,
+ * the heat capacities C in J/K and the power q in W: the mass is C, w_0 = T_0, w_1 = q / C, and the sum is T at time tau. A power that
+ * grows by r W in each second adds w_2 = r / C.
+ *
+ *
+ * PARAMETERS
+ *
+ *   n                     rows of A, 1 to 1,000,000
+ *   starts, starts_len    row starts, n + 1 of them: the entries of row i are those from starts[i] up to starts[i + 1]
+ *   cols, cols_len        the column of each entry, from 0; repeated columns in a row add up
+ *   vals, vals_len        the entries, at most 16,777,216
+ *   with_mass             whether there is a mass; if not, mass and mass_len are not looked at
+ *   mass, mass_len        one number above 0 for each row
+ *   tau                   the time, finite and not negative
+ *   count                 how many vectors, 1 to 4
+ *   w, w_len              the vectors one after the other, count * n numbers
+ *   k, p                  the index of a phi-function, 0 to 3
+ *   v, v_len              one vector of n numbers, which may be infinite or NaN
+ *   tol                   Krylov: the accuracy wanted, relative to the norm of the start, strictly between 0 and 1 (1e-10, say)
+ *   m                     Krylov: columns of a substep (30, say); M, which is m brought into the range from 2 to max(2, n + count - 1),
+ *                         may be at most 128
+ *   max_substeps          Krylov: the limit of substeps, 1 to 1,000,000
+ *   out, out_len          the answer is written here: n numbers, (p + 1) * n of a batch, the functions one after the other
+ *   work, work_len        working memory, at least as long as hazhendu_taylor_work, hazhendu_action_work or hazhendu_krylov_work says
+ *
+ * and what a call tells, each written at every call:
+ *
+ *   value                 accepted: mu, the shift of the Taylor plan (0 for none), or Krylov's estimated error, relative to the norm of the
+ *                         start; refused: the refusal's double
+ *   s, plan_m             Taylor's plan: sweeps, and the degree to which each goes
+ *   applications          Taylor: products with G that were made, over all functions of a batch
+ *   substeps, matvecs,    Krylov: substeps accepted, products with G, and lengths rejected. The counts of a refused job are 0.
+ *   rejected
+ *
+ * The result is 0, or the number of a refusal (enum hazhendu_refusal).
+ *
+ *
+ * WHAT THE CALLER OWES
+ *
+ * - A slice is a pointer and the number of its elements. The pointer must not be null and must be aligned for its element type, even if
+ *   the length is 0; all elements of the length must be readable, those of out and work writable too.
+ * - out, work and the places of the numbers told must overlap neither each other nor anything else that is handed in.
+ * - with_mass is 0 or 1.
+ *
+ * Nothing else is asked: every input gets a result or a refusal, and no call allocates, stops the program or keeps anything. Calls in
+ * several threads do not disturb each other. A call cannot be interrupted, and may take long: Taylor makes s * m products with G,
+ * Krylov at most (M + 1) * max_substeps.
+ *
+ *
+ * WHAT A CALL CHANGES
+ *
+ *   accepted           out is the answer; the needed length of work holds +0, the rest is unchanged
+ *   refused, 1 to 26   out and work are unchanged
+ *   refused, 27 to 29  out is the state after the last accepted substep (w_0 if there was none), the needed length of work holds +0
+ */
+#ifndef HAZHENDU_H
+#define HAZHENDU_H
+
+#include <stdbool.h>
+#include <stddef.h>
+#include <stdint.h>
+
+#ifdef __cplusplus
+extern "C" {
+#endif
+
+enum {
+    HAZHENDU_MAX_ROWS = 1000000,
+    HAZHENDU_MAX_ENTRIES = 16777216,
+    HAZHENDU_MAX_VECTORS = 4,
+    HAZHENDU_MAX_INDEX = 3,
+    HAZHENDU_MAX_DIMENSION = 128,
+    HAZHENDU_MAX_SUBSTEPS = 1000000
+};
+
+/* Why a job is refused, and the double reported with it. The checks run in number order, and the first that holds is told. */
+enum hazhendu_refusal {
+    HAZHENDU_ACCEPTED = 0,
+
+    /* the matrix and its mass                                                                  the double */
+    HAZHENDU_ROW_STARTS_LENGTH = 1,    /* n is 0, or the row starts are not n + 1               length of the row starts */
+    HAZHENDU_ENTRY_COUNT = 2,          /* columns and entries differ in count, or the last
+                                          row start is not that count                           number of entries */
+    HAZHENDU_MATRIX_TOO_LARGE = 3,     /* above 1,000,000 rows or 16,777,216 entries            NaN */
+    HAZHENDU_ROW_STARTS_FALL = 4,      /* a row starts after the next one                       the row, from 0 */
+    HAZHENDU_COLUMN_RANGE = 5,         /* a column is n or more                                 the column */
+    HAZHENDU_ENTRY_NOT_FINITE = 6,     /* an entry is infinite or NaN                           the entry */
+    HAZHENDU_MASS_LENGTH = 7,          /* the mass is not n long                                length of the mass */
+    HAZHENDU_MASS_RANGE = 8,           /* a mass is not finite or not above 0                   the mass */
+    HAZHENDU_MASS_ROW_START = 9,       /* with a mass, the first row start is not 0             NaN */
+    HAZHENDU_ROW_SUM_NOT_FINITE = 10,  /* with a mass: sizes in a row, divided, sum too high    the sum */
+    HAZHENDU_NORM_NOT_FINITE = 11,     /* without: sizes in a row sum too high                  the norm */
+
+    /* the job */
+    HAZHENDU_VECTOR_COUNT = 12,        /* vectors not 1 to 4                                    the count */
+    HAZHENDU_INDEX_RANGE = 13,         /* k or p above 3                                        the index */
+    HAZHENDU_TAU_RANGE = 14,           /* tau negative, infinite or NaN                         tau */
+    HAZHENDU_OUTPUT_LENGTH = 15,       /* out is not n or (p + 1) * n long                      length of out */
+    HAZHENDU_VECTOR_LENGTH = 16,       /* w is not count * n long, or v not n                   length of w or v */
+    HAZHENDU_VECTOR_NOT_FINITE = 17,   /* a number in w is infinite or NaN                      the number */
+    HAZHENDU_TOL_RANGE = 18,           /* tol not strictly between 0 and 1                      tol */
+    HAZHENDU_NO_SUBSTEPS = 19,         /* max_substeps is 0                                     0 */
+    HAZHENDU_OPTION_TOO_LARGE = 20,    /* M above 128 or max_substeps above 1,000,000           NaN */
+    HAZHENDU_MAGNITUDE_NOT_FINITE = 21,/* the sum of tau^k max|w_k|, k from 1, overflows        the sum */
+    HAZHENDU_GAIN_NOT_FINITE = 22,     /* tau^k, scaled for a w_k that is not 0, overflows      NaN */
+
+    /* the matrix and the job together */
+    HAZHENDU_NORM_RANGE = 23,          /* the norm of G is unusable (10 and 11 come before)     the norm */
+    HAZHENDU_ARGUMENT_NOT_FINITE = 24, /* tau times the norm of G overflows                     2 (tau norm + 2), Krylov half of it */
+    HAZHENDU_NO_PLAN = 25,             /* Taylor: more than 4,294,967,295 sweeps                2 (tau norm + 2) */
+
+    /* the host */
+    HAZHENDU_WORK_LENGTH = 26,         /* work is too short                                     NaN */
+
+    /* Krylov's run */
+    HAZHENDU_SUBSTEP_LIMIT = 27,       /* max_substeps made, and tau is not reached             estimated error so far, of the scaled start */
+    HAZHENDU_LENGTHS_REJECTED = 28,    /* eleven lengths rejected in one substep                error allowed, of the scaled start */
+    HAZHENDU_NO_INNER_PLAN = 29        /* the small exponential has no plan                     its argument */
+};
+
+/* ---- working memory, in doubles. 0 for jobs that are refused before the memory is looked at (n, entries, count or m too high). */
+
+/* M, the columns of a Krylov substep. */
+static inline size_t hazhendu_dimension(size_t n, size_t count, size_t m)
+{
+    size_t d = count == 0 ? 0 : count - 1;
+    size_t length = n > SIZE_MAX - d ? SIZE_MAX : n + d;
+    size_t most = length < 2 ? 2 : length;
+    return m < 2 ? 2 : m > most ? most : m;
+}
+
+static inline bool hazhendu_sizes_allowed(size_t n, size_t entries, size_t count)
+{
+    return n <= HAZHENDU_MAX_ROWS && entries <= HAZHENDU_MAX_ENTRIES && count >= 1 && count <= HAZHENDU_MAX_VECTORS;
+}
+
+/* For hazhendu_phi_combination. */
+static inline size_t hazhendu_taylor_work(size_t n, size_t entries, bool with_mass, size_t count)
+{
+    if (!hazhendu_sizes_allowed(n, entries, count))
+        return 0;
+    return 3 * n + 2 * (count - 1) + (with_mass ? entries : 0);
+}
+
+/* For hazhendu_phi_action and hazhendu_phi_action_batched. */
+static inline size_t hazhendu_action_work(size_t n, size_t entries, bool with_mass)
+{
+    return hazhendu_taylor_work(n, entries, with_mass, HAZHENDU_MAX_INDEX + 1);
+}
+
+/* For hazhendu_phi_combination_krylov. */
+static inline size_t hazhendu_krylov_work(size_t n, size_t entries, bool with_mass, size_t count, size_t m)
+{
+    size_t M = hazhendu_dimension(n, count, m);
+    if (!hazhendu_sizes_allowed(n, entries, count) || M > HAZHENDU_MAX_DIMENSION)
+        return 0;
+    return n + (M + 3) * (n + count - 1) + (M + 2) * (M + 2) + (with_mass ? entries : 0);
+}
+
+/* ---- the calls */
+
+/* The sum over k of tau^k phi_k(tau G) w_k, by Taylor sweeps. */
+uint32_t hazhendu_phi_combination(
+    size_t n,
+    const uint32_t *starts, size_t starts_len,
+    const uint32_t *cols, size_t cols_len,
+    const double *vals, size_t vals_len,
+    bool with_mass, const double *mass, size_t mass_len,
+    double tau,
+    size_t count, const double *w, size_t w_len,
+    double *out, size_t out_len,
+    double *work, size_t work_len,
+    double *value, uint32_t *s, uint32_t *plan_m, uint64_t *applications);
+
+/* phi_k(tau G) v, by Taylor sweeps. */
+uint32_t hazhendu_phi_action(
+    size_t n,
+    const uint32_t *starts, size_t starts_len,
+    const uint32_t *cols, size_t cols_len,
+    const double *vals, size_t vals_len,
+    bool with_mass, const double *mass, size_t mass_len,
+    double tau,
+    size_t k, const double *v, size_t v_len,
+    double *out, size_t out_len,
+    double *work, size_t work_len,
+    double *value, uint32_t *s, uint32_t *plan_m, uint64_t *applications);
+
+/* phi_0(tau G) v to phi_p(tau G) v, by Taylor sweeps. */
+uint32_t hazhendu_phi_action_batched(
+    size_t n,
+    const uint32_t *starts, size_t starts_len,
+    const uint32_t *cols, size_t cols_len,
+    const double *vals, size_t vals_len,
+    bool with_mass, const double *mass, size_t mass_len,
+    double tau,
+    size_t p, const double *v, size_t v_len,
+    double *out, size_t out_len,
+    double *work, size_t work_len,
+    double *value, uint32_t *s, uint32_t *plan_m, uint64_t *applications);
+
+/* The sum over k of tau^k phi_k(tau G) w_k, by Krylov substeps of adaptive length. */
+uint32_t hazhendu_phi_combination_krylov(
+    size_t n,
+    const uint32_t *starts, size_t starts_len,
+    const uint32_t *cols, size_t cols_len,
+    const double *vals, size_t vals_len,
+    bool with_mass, const double *mass, size_t mass_len,
+    double tau,
+    size_t count, const double *w, size_t w_len,
+    double tol, size_t m, size_t max_substeps,
+    double *out, size_t out_len,
+    double *work, size_t work_len,
+    double *value, size_t *substeps, size_t *matvecs, size_t *rejected);
+
+#ifdef __cplusplus
+}
+#endif
+
+#endif

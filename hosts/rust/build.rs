@@ -1,0 +1,18 @@
+//! Links target/staticlib/libexports.a; hosts/library writes it if it is missing or older than its sources.
+
+use std::path::Path;
+use std::process::{exit, Command};
+
+fn main() {
+    let root = Path::new(env!("CARGO_MANIFEST_DIR")).join("../..");
+    let folder = root.join("target/staticlib");
+    for source in ["crates", "crates.txt", "target/staticlib/libexports.a"] {
+        println!("cargo:rerun-if-changed={}", root.join(source).display());
+    }
+    if !Command::new("sh").arg(root.join("hosts/library")).status().is_ok_and(|status| status.success()) {
+        eprintln!("the proved library could not be built: see hosts/library");
+        exit(1);
+    }
+    println!("cargo:rustc-link-search=native={}", folder.display());
+    println!("cargo:rustc-link-lib=static=exports");
+}

@@ -1,0 +1,101 @@
+//! The four calls on memory that the caller lends: nothing is allocated.
+//!
+//! A refusal from 1 to 26 leaves `out` and `work` unchanged. After 27 to 29 `out` holds the state after the last accepted
+//! substep. After an accepted job, and after 27 to 29, the needed length of `work` holds +0. [`crate::sizes`] says how long
+//! `work` has to be.
+
+use crate::{sys, KrylovOptions, Matrix, Plan, Refusal, Report};
+
+/// 0 is no refusal.
+fn unless_refused<T>(number: u32, value: f64, told: T) -> Result<T, Refusal> {
+    match number {
+        0 => Ok(told),
+        _ => Err(Refusal { number, value }),
+    }
+}
+
+macro_rules! call {
+    ($name:ident, $a:expr, $tau:expr, $index:expr, $w:expr, [$($option:expr),*], $out:expr, $work:expr, $($told:expr),+) => {{
+        let mass = $a.mass.unwrap_or(&[]);
+        // SAFETY: every pointer comes from a slice, with that slice's length, or from a local, so that it is aligned, not null and valid
+        // for its length; what is written is borrowed exclusively. The functions are proved to stay within the lengths handed in.
+        unsafe {
+            sys::$name(
+                $a.n,
+                $a.starts.as_ptr(),
+                $a.starts.len(),
+                $a.columns.as_ptr(),
+                $a.columns.len(),
+                $a.entries.as_ptr(),
+                $a.entries.len(),
+                $a.mass.is_some(),
+                mass.as_ptr(),
+                mass.len(),
+                $tau,
+                $index,
+                $w.as_ptr(),
+                $w.len(),
+                $($option,)*
+                $out.as_mut_ptr(),
+                $out.len(),
+                $work.as_mut_ptr(),
+                $work.len(),
+                $($told),+
+            )
+        }
+    }};
+}
+
+macro_rules! taylor {
+    ($(#[$doc:meta])* $name:ident, $exported:ident, $index:ident, $w:ident) => {
+        $(#[$doc])*
+        pub fn $name(a: &Matrix, tau: f64, $index: usize, $w: &[f64], out: &mut [f64], work: &mut [f64]) -> Result<Plan, Refusal> {
+            let mut plan = Plan { s: 0, m: 0, mu: 0.0, applications: 0 };
+            let number =
+                call!($exported, a, tau, $index, $w, [], out, work, &mut plan.mu, &mut plan.s, &mut plan.m, &mut plan.applications);
+            unless_refused(number, plan.mu, plan)
+        }
+    };
+}
+
+taylor!(
+    /// The sum over k of tau^k phi_k(tau G) w_k for `count` vectors, one after the other in `w`, by Taylor sweeps.
+    phi_combination, hazhendu_phi_combination, count, w
+);
+taylor!(
+    /// phi_k(tau G) v, by Taylor sweeps.
+    phi_action, hazhendu_phi_action, k, v
+);
+taylor!(
+    /// phi_0(tau G) v to phi_p(tau G) v, one after the other in `out`, by Taylor sweeps.
+    phi_action_batched, hazhendu_phi_action_batched, p, v
+);
+
+/// The sum over k of tau^k phi_k(tau G) w_k for `count` vectors, one after the other in `w`, by Krylov substeps.
+pub fn phi_combination_krylov(
+    a: &Matrix,
+    tau: f64,
+    count: usize,
+    w: &[f64],
+    options: KrylovOptions,
+    out: &mut [f64],
+    work: &mut [f64],
+) -> Result<Report, Refusal> {
+    let KrylovOptions { tol, m, max_substeps } = options;
+    let mut report = Report { substeps: 0, matvecs: 0, rejected: 0, estimated_error: 0.0 };
+    let number = call!(
+        hazhendu_phi_combination_krylov,
+        a,
+        tau,
+        count,
+        w,
+        [tol, m, max_substeps],
+        out,
+        work,
+        &mut report.estimated_error,
+        &mut report.substeps,
+        &mut report.matvecs,
+        &mut report.rejected
+    );
+    unless_refused(number, report.estimated_error, report)
+}

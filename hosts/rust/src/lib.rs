@@ -1,0 +1,173 @@
+//! Heat soak by phi-functions: the proved library behind a safe interface.
+//!
+//! The generator is G = -A, or with a mass G = -A with each row divided by its mass, where A is a sparse matrix by rows. For
+//! C dT/dt = -A T + q with T = T_0 at time 0, the mass is C, w_0 = T_0, w_1 = q / C, and T at time tau is
+//! the sum over k of tau^k phi_k(tau G) w_k:
+//!
+//! ```
+//! use hazhendu::{combine, Matrix, Solver};
+//!
+//! // Two bodies of 8 J/K, joined by 0.5 W/K; the second loses 0.1 W/K to the room; 2 W heat the first.
+//! let a = Matrix::new(2, &[0, 2, 4], &[0, 1, 0, 1], &[0.5, -0.5, -0.5, 0.6]).with_mass(&[8.0, 8.0]);
+//! let w = [20.0, 20.0, 2.0 / 8.0, 0.0];
+//! let soaked = combine(Solver::Taylor, &a, 60.0, 2, &w)?;
+//! assert_eq!(soaked.field.len(), 2);
+//! assert!(soaked.field[0] > soaked.field[1]);
+//! # Ok::<(), hazhendu::Error>(())
+//! ```
+//!
+//! Every input gets a result or a numbered [`Refusal`]; whether a matrix or a job is valid is the library's to say, and
+//! nothing here panics. The functions here allocate output and working memory; those of [`lent`] work on memory that the
+//! caller lends. A call cannot be interrupted.
+
+#![deny(unsafe_op_in_unsafe_fn)]
+
+pub mod lent;
+mod refusal;
+pub mod sizes;
+pub mod sys;
+
+pub use refusal::{Error, Refusal};
+
+/// A sparse matrix by rows, as it is handed to the library, and a mass if there is one.
+#[derive(Clone, Copy, Debug, PartialEq)]
+pub struct Matrix<'a> {
+    pub n: usize,
+    /// n + 1 of them: the entries of row i are those from `starts[i]` up to `starts[i + 1]`.
+    pub starts: &'a [u32],
+    /// The column of each entry, from 0. Repeated columns in a row add up.
+    pub columns: &'a [u32],
+    pub entries: &'a [f64],
+    /// One number above 0 for each row.
+    pub mass: Option<&'a [f64]>,
+}
+
+impl<'a> Matrix<'a> {
+    pub fn new(n: usize, starts: &'a [u32], columns: &'a [u32], entries: &'a [f64]) -> Self {
+        Matrix { n, starts, columns, entries, mass: None }
+    }
+
+    pub fn with_mass(self, mass: &'a [f64]) -> Self {
+        Matrix { mass: Some(mass), ..self }
+    }
+}
+
+#[derive(Clone, Copy, Debug, PartialEq)]
+pub struct KrylovOptions {
+    /// The accuracy wanted, relative to the norm of the start; strictly between 0 and 1.
+    pub tol: f64,
+    /// Columns of a substep.
+    pub m: usize,
+    /// The limit of substeps.
+    pub max_substeps: usize,
+}
+
+impl Default for KrylovOptions {
+    fn default() -> Self {
+        KrylovOptions { tol: 1e-10, m: 30, max_substeps: 100_000 }
+    }
+}
+
+#[derive(Clone, Copy, Debug, PartialEq)]
+pub enum Solver {
+    Taylor,
+    Krylov(KrylovOptions),
+}
+
+/// What a Taylor job did.
+#[derive(Clone, Copy, Debug, PartialEq)]
+pub struct Plan {
+    /// Sweeps.
+    pub s: u32,
+    /// The degree to which each goes.
+    pub m: u32,
+    /// The shift, 0 for none.
+    pub mu: f64,
+    /// Products with the generator, over all functions of a batch.
+    pub applications: u64,
+}
+
+/// What a Krylov job did.
+#[derive(Clone, Copy, Debug, PartialEq)]
+pub struct Report {
+    /// Substeps accepted.
+    pub substeps: usize,
+    /// Products with the generator.
+    pub matvecs: usize,
+    /// Lengths rejected.
+    pub rejected: usize,
+    /// Relative to the norm of the start.
+    pub estimated_error: f64,
+}
+
+#[derive(Clone, Copy, Debug, PartialEq)]
+pub enum Cost {
+    Taylor(Plan),
+    Krylov(Report),
+}
+
+/// An accepted job: the field, and what it cost.
+#[derive(Clone, Debug, PartialEq)]
+pub struct Soaked<C> {
+    pub field: Vec<f64>,
+    pub cost: C,
+}
+
+/// The sum over k of tau^k phi_k(tau G) w_k for `count` vectors, one after the other in `w`, by Taylor sweeps.
+pub fn phi_combination(a: &Matrix, tau: f64, count: usize, w: &[f64]) -> Result<Soaked<Plan>, Error> {
+    let work = sizes::taylor_work(a.n, a.entries.len(), a.mass.is_some(), count);
+    with_memory(sizes::output(a.n, 0), work, |out, work| lent::phi_combination(a, tau, count, w, out, work))
+}
+
+/// phi_k(tau G) v, by Taylor sweeps.
+pub fn phi_action(a: &Matrix, tau: f64, k: usize, v: &[f64]) -> Result<Soaked<Plan>, Error> {
+    let work = sizes::action_work(a.n, a.entries.len(), a.mass.is_some());
+    with_memory(sizes::output(a.n, 0), work, |out, work| lent::phi_action(a, tau, k, v, out, work))
+}
+
+/// phi_0(tau G) v to phi_p(tau G) v, one after the other, by Taylor sweeps.
+pub fn phi_action_batched(a: &Matrix, tau: f64, p: usize, v: &[f64]) -> Result<Soaked<Plan>, Error> {
+    let work = sizes::action_work(a.n, a.entries.len(), a.mass.is_some());
+    with_memory(sizes::output(a.n, p), work, |out, work| lent::phi_action_batched(a, tau, p, v, out, work))
+}
+
+/// The sum over k of tau^k phi_k(tau G) w_k for `count` vectors, one after the other in `w`, by Krylov substeps.
+pub fn phi_combination_krylov(a: &Matrix, tau: f64, count: usize, w: &[f64], options: KrylovOptions) -> Result<Soaked<Report>, Error> {
+    let work = sizes::krylov_work(a.n, a.entries.len(), a.mass.is_some(), count, options.m);
+    with_memory(sizes::output(a.n, 0), work, |out, work| lent::phi_combination_krylov(a, tau, count, w, options, out, work))
+}
+
+/// The sum over k of tau^k phi_k(tau G) w_k, by either solver.
+pub fn combine(solver: Solver, a: &Matrix, tau: f64, count: usize, w: &[f64]) -> Result<Soaked<Cost>, Error> {
+    match solver {
+        Solver::Taylor => phi_combination(a, tau, count, w).map(|soaked| soaked.told_as(Cost::Taylor)),
+        Solver::Krylov(options) => phi_combination_krylov(a, tau, count, w, options).map(|soaked| soaked.told_as(Cost::Krylov)),
+    }
+}
+
+impl<C> Soaked<C> {
+    fn told_as(self, told: fn(C) -> Cost) -> Soaked<Cost> {
+        Soaked { field: self.field, cost: told(self.cost) }
+    }
+}
+
+fn with_memory<C>(out: usize, work: usize, call: impl FnOnce(&mut [f64], &mut [f64]) -> Result<C, Refusal>) -> Result<Soaked<C>, Error> {
+    let mut field = zeros(out)?;
+    match call(&mut field, &mut zeros(work)?) {
+        Ok(cost) => Ok(Soaked { field, cost }),
+        Err(refusal) => Err(Error::Refused { refusal, state: refusal.leaves_state().then_some(field) }),
+    }
+}
+
+fn zeros(doubles: usize) -> Result<Vec<f64>, Error> {
+    let mut memory = Vec::new();
+    memory.try_reserve_exact(doubles).map_err(|_| Error::OutOfMemory { doubles })?;
+    memory.resize(doubles, 0.0);
+    Ok(memory)
+}
+
+/// The shortest decimal that reads back as the same double.
+pub fn shortest(x: f64) -> String {
+    let text = format!("{x:?}");
+    text.strip_suffix(".0").map(str::to_owned).unwrap_or(text)
+}

@@ -1,0 +1,174 @@
+//! Why a job got no result.
+
+use crate::shortest;
+use std::fmt;
+
+/// A numbered refusal of the library, with the double that is reported with it.
+#[derive(Clone, Copy, Debug)]
+pub struct Refusal {
+    pub number: u32,
+    pub value: f64,
+}
+
+struct Meaning {
+    wrong: &'static str,
+    /// What the double is, or nothing where it tells nothing.
+    value: &'static str,
+    change: &'static str,
+}
+
+const fn meaning(wrong: &'static str, value: &'static str, change: &'static str) -> Meaning {
+    Meaning { wrong, value, change }
+}
+
+/// Refusal 1 first.
+const MEANINGS: [Meaning; 29] = [
+    meaning(
+        "the matrix has no rows, or there are not n + 1 row starts",
+        "number of row starts",
+        "give n + 1 row starts for a matrix of n rows, n at least 1",
+    ),
+    meaning(
+        "columns and entries differ in number, or the last row start is not their number",
+        "number of entries",
+        "give one column for each entry, and end the row starts with the number of entries",
+    ),
+    meaning("the matrix has more than 1,000,000 rows or 16,777,216 entries", "", "take a coarser model"),
+    meaning("a row starts after the next one", "the row, counted from 0", "let the row starts rise"),
+    meaning("a column is n or more", "the column", "count columns from 0 to n - 1"),
+    meaning("an entry of the matrix is infinite or not a number", "the entry", "give finite entries"),
+    meaning("the mass does not have one number for each row", "how many it has", "give n masses for a matrix of n rows"),
+    meaning("a mass is infinite, not a number, or not above 0", "the mass", "give finite masses above 0"),
+    meaning(
+        "there is a mass, and the first row start is not 0",
+        "",
+        "leave out the entries before the first row, and let the row starts begin with 0",
+    ),
+    meaning(
+        "the sizes of a row's entries, divided by its mass, have no finite sum",
+        "the sum",
+        "take other units, in which the entries are lower or the masses higher",
+    ),
+    meaning("the sizes of a row's entries have no finite sum", "the sum", "take other units, in which the entries are lower"),
+    meaning("there are not 1 to 4 vectors", "how many there are", "give w_0 and at most three more"),
+    meaning("the index of the phi-function is above 3", "the index", "ask for phi_0 to phi_3"),
+    meaning("tau is negative, infinite or not a number", "tau", "give a finite time of 0 or more"),
+    meaning("the output has the wrong length", "its length", "lend n numbers, for a batch (p + 1) * n"),
+    meaning("the vectors have the wrong length", "their length", "give n numbers in each vector for a matrix of n rows"),
+    meaning("a number in a vector is infinite or not a number", "the number", "give finite vectors"),
+    meaning("tol is not strictly between 0 and 1", "tol", "take 1e-10, say"),
+    meaning("no substep is allowed", "", "allow at least one; 100,000 will do for most jobs"),
+    meaning(
+        "a substep has more than 128 columns, or more than 1,000,000 substeps are allowed",
+        "",
+        "take an m of at most 128 (30, say) and a limit of at most 1,000,000",
+    ),
+    meaning(
+        "tau^k times the largest size in w_k, summed over k from 1, is not finite",
+        "the sum",
+        "shorten tau, or scale all vectors down: the answer scales with them",
+    ),
+    meaning(
+        "tau^k, scaled for a w_k whose numbers are all close to 0, is not finite",
+        "",
+        "scale all vectors up (the answer scales with them), or give 0 for such numbers",
+    ),
+    meaning("the norm of the generator is negative or not finite", "the norm", "take other units, in which the entries are lower"),
+    meaning("tau times the norm of the generator is not finite", "the schedule's argument", "shorten tau, or check its units"),
+    meaning(
+        "Taylor has no plan: it would need more than 4,294,967,295 sweeps",
+        "the schedule's argument",
+        "shorten tau, check its units, or take the Krylov solver",
+    ),
+    meaning("the working memory is too short", "", "lend as many doubles as the size functions say"),
+    meaning(
+        "the limit of substeps is used up before tau is reached",
+        "estimated error so far, of the scaled start",
+        "raise the limit, raise m, raise tol, or shorten tau",
+    ),
+    meaning(
+        "eleven step lengths were rejected in one substep",
+        "error allowed, of the scaled start",
+        "raise tol, raise m, or take the Taylor solver",
+    ),
+    meaning("the small exponential of a substep has no plan", "its argument", "shorten tau, check its units, or take the Taylor solver"),
+];
+
+/// The library is proved to answer no other number.
+const UNKNOWN: Meaning = meaning("a number that the library does not have", "", "check that header and library belong together");
+
+impl Refusal {
+    fn meaning(&self) -> &'static Meaning {
+        self.number.checked_sub(1).and_then(|i| MEANINGS.get(i as usize)).unwrap_or(&UNKNOWN)
+    }
+
+    /// What is wrong.
+    pub fn wrong(&self) -> &'static str {
+        self.meaning().wrong
+    }
+
+    /// What the double is, and the double; nothing where it tells nothing.
+    pub fn told(&self) -> Option<String> {
+        let is = self.meaning().value;
+        (!is.is_empty()).then(|| format!("{is}: {}", shortest(self.value)))
+    }
+
+    /// What to change.
+    pub fn change(&self) -> &'static str {
+        self.meaning().change
+    }
+
+    /// Whether a run was begun, so that the output holds the state after the last accepted substep (27 to 29).
+    pub fn leaves_state(&self) -> bool {
+        (27..=29).contains(&self.number)
+    }
+}
+
+impl fmt::Display for Refusal {
+    fn fmt(&self, f: &mut fmt::Formatter) -> fmt::Result {
+        write!(f, "refused ({}): {}", self.number, self.wrong())?;
+        if let Some(told) = self.told() {
+            write!(f, " ({told})")?;
+        }
+        write!(f, "; {}", self.change())
+    }
+}
+
+impl std::error::Error for Refusal {}
+
+/// A call without a result.
+#[derive(Clone, Debug)]
+pub enum Error {
+    /// `state` is what a run that was begun has left (27 to 29): the field after the last accepted substep.
+    Refused { refusal: Refusal, state: Option<Vec<f64>> },
+    /// The job is within the library's limits, but this many doubles are not to be had.
+    OutOfMemory { doubles: usize },
+}
+
+impl Error {
+    pub fn refusal(&self) -> Option<Refusal> {
+        match self {
+            Error::Refused { refusal, .. } => Some(*refusal),
+            Error::OutOfMemory { .. } => None,
+        }
+    }
+
+    /// The field after the last accepted substep of a run that was begun.
+    pub fn state(&self) -> Option<&[f64]> {
+        match self {
+            Error::Refused { state, .. } => state.as_deref(),
+            Error::OutOfMemory { .. } => None,
+        }
+    }
+}
+
+impl fmt::Display for Error {
+    fn fmt(&self, f: &mut fmt::Formatter) -> fmt::Result {
+        match self {
+            Error::Refused { refusal, .. } => refusal.fmt(f),
+            Error::OutOfMemory { doubles } => write!(f, "no memory for {doubles} doubles"),
+        }
+    }
+}
+
+impl std::error::Error for Error {}

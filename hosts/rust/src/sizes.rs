@@ -1,0 +1,59 @@
+//! The library's limits, and how much memory a job needs, in doubles.
+//!
+//! A job beyond a limit is refused (3, 12, 13 or 20) before the memory is looked at, so that it needs none: these functions
+//! give 0 for it, and no sum here overflows.
+
+pub const MAX_ROWS: usize = 1_000_000;
+pub const MAX_ENTRIES: usize = 16_777_216;
+pub const MAX_VECTORS: usize = 4;
+pub const MAX_INDEX: usize = 3;
+pub const MAX_DIMENSION: usize = 128;
+pub const MAX_SUBSTEPS: usize = 1_000_000;
+
+fn allowed(n: usize, entries: usize, count: usize) -> bool {
+    n <= MAX_ROWS && entries <= MAX_ENTRIES && (1..=MAX_VECTORS).contains(&count)
+}
+
+/// M, the columns of a Krylov substep: m brought into the range from 2 to max(2, n + count - 1).
+pub fn dimension(n: usize, count: usize, m: usize) -> usize {
+    m.clamp(2, n.saturating_add(count.saturating_sub(1)).max(2))
+}
+
+/// Working memory of `phi_combination`.
+pub fn taylor_work(n: usize, entries: usize, with_mass: bool, count: usize) -> usize {
+    if !allowed(n, entries, count) {
+        return 0;
+    }
+    3 * n + 2 * (count - 1) + quotients(entries, with_mass)
+}
+
+/// Working memory of `phi_action` and `phi_action_batched`.
+pub fn action_work(n: usize, entries: usize, with_mass: bool) -> usize {
+    taylor_work(n, entries, with_mass, MAX_INDEX + 1)
+}
+
+/// Working memory of `phi_combination_krylov`.
+pub fn krylov_work(n: usize, entries: usize, with_mass: bool, count: usize, m: usize) -> usize {
+    let columns = dimension(n, count, m);
+    if !allowed(n, entries, count) || columns > MAX_DIMENSION {
+        return 0;
+    }
+    n + (columns + 3) * (n + count - 1) + (columns + 2) * (columns + 2) + quotients(entries, with_mass)
+}
+
+/// The output's length for the functions phi_0 to phi_p; p is 0 for a single one.
+pub fn output(n: usize, p: usize) -> usize {
+    if n > MAX_ROWS || p > MAX_INDEX {
+        return 0;
+    }
+    (p + 1) * n
+}
+
+/// The entries divided by the mass take their place beside the vectors.
+fn quotients(entries: usize, with_mass: bool) -> usize {
+    if with_mass {
+        entries
+    } else {
+        0
+    }
+}

@@ -1,0 +1,37 @@
+//! The exported functions as they are linked. hosts/c/hazhendu.h describes each parameter and what the caller owes.
+
+macro_rules! exported {
+    ($name:ident, $($parameter:ident: $type:ty),+) => {
+        extern "C" {
+            /// A slice is a pointer and a length; the result is 0 or the number of a refusal.
+            pub fn $name(
+                n: usize,
+                starts: *const u32,
+                starts_len: usize,
+                cols: *const u32,
+                cols_len: usize,
+                vals: *const f64,
+                vals_len: usize,
+                with_mass: bool,
+                mass: *const f64,
+                mass_len: usize,
+                tau: f64,
+                $($parameter: $type,)+
+            ) -> u32;
+        }
+    };
+}
+
+macro_rules! exported_taylor {
+    ($name:ident, $index:ident, $w:ident, $w_len:ident) => {
+        exported!($name, $index: usize, $w: *const f64, $w_len: usize, out: *mut f64, out_len: usize, work: *mut f64,
+            work_len: usize, value: *mut f64, s: *mut u32, plan_m: *mut u32, applications: *mut u64);
+    };
+}
+
+exported_taylor!(hazhendu_phi_combination, count, w, w_len);
+exported_taylor!(hazhendu_phi_action, k, v, v_len);
+exported_taylor!(hazhendu_phi_action_batched, p, v, v_len);
+exported!(hazhendu_phi_combination_krylov, count: usize, w: *const f64, w_len: usize, tol: f64, m: usize, max_substeps: usize,
+    out: *mut f64, out_len: usize, work: *mut f64, work_len: usize, value: *mut f64, substeps: *mut usize,
+    matvecs: *mut usize, rejected: *mut usize);

@@ -1,0 +1,52 @@
+//! No combination of lengths and sizes panics, and none allocates beyond the library's limits.
+
+use hazhendu::{combine, phi_action, phi_action_batched, sizes, Error, KrylovOptions, Matrix, Solver};
+
+const ODD: [usize; 10] = [0, 1, 2, 3, 5, 129, 1_000_001, usize::MAX / 8, usize::MAX - 1, usize::MAX];
+
+fn told<T>(answer: Result<T, Error>) {
+    match answer {
+        Ok(_) => {}
+        Err(Error::Refused { refusal, .. }) => assert!((1..=29).contains(&refusal.number)),
+        Err(Error::OutOfMemory { doubles }) => panic!("{doubles} doubles asked for"),
+    }
+}
+
+#[test]
+fn every_odd_size_is_answered() {
+    let starts = [0, 1, 2, 3, 4, 5];
+    let numbers = [0.5; 6];
+    for n in ODD {
+        for starts_len in [0, 1, 2, 3, 6] {
+            for len in [0, 1, 2, 3, 6] {
+                let bare = Matrix::new(n, &starts[..starts_len], &starts[..len], &numbers[..len]);
+                for a in [bare, bare.with_mass(&numbers[..len]), bare.with_mass(&[])] {
+                    for count in ODD {
+                        told(combine(Solver::Taylor, &a, 1.0, count, &numbers[..len]));
+                        told(phi_action(&a, 1.0, count, &numbers[..len]));
+                        told(phi_action_batched(&a, 1.0, count, &numbers[..len]));
+                        let options = KrylovOptions { tol: 1e-6, m: count, max_substeps: n };
+                        told(combine(Solver::Krylov(options), &a, 1.0, len, &numbers[..len]));
+                    }
+                }
+            }
+        }
+    }
+}
+
+#[test]
+fn sizes_never_overflow() {
+    let most = sizes::krylov_work(sizes::MAX_ROWS, sizes::MAX_ENTRIES, true, sizes::MAX_VECTORS, sizes::MAX_DIMENSION);
+    for n in ODD {
+        for entries in ODD {
+            for count in ODD {
+                for m in ODD {
+                    assert!(sizes::krylov_work(n, entries, true, count, m) <= most);
+                    assert!(sizes::dimension(n, count, m) >= 2);
+                }
+                assert!(sizes::taylor_work(n, entries, true, count) <= most);
+                assert!(sizes::output(n, count) <= most);
+            }
+        }
+    }
+}

@@ -1,0 +1,77 @@
+//! Why the command ends without a field, and its status.
+
+use hazhendu::Refusal;
+use std::fmt;
+use std::io;
+use std::path::{Path, PathBuf};
+
+#[derive(Debug)]
+pub enum Failure {
+    Usage(String),
+    /// A file whose contents are wrong, and where that shows, as FILE:LINE.
+    BadFile {
+        place: String,
+        wrong: String,
+    },
+    CannotRead {
+        path: PathBuf,
+        error: io::Error,
+    },
+    OutOfMemory {
+        doubles: usize,
+    },
+    CannotWrite {
+        name: String,
+        error: io::Error,
+    },
+    /// A refusal of the library; `place` says where in the files or options its cause is, if that is known.
+    Refused {
+        refusal: Refusal,
+        place: Option<String>,
+    },
+}
+
+impl Failure {
+    pub fn cannot_read(path: &Path, error: io::Error) -> Self {
+        Failure::CannotRead { path: path.to_owned(), error }
+    }
+
+    /// A refusal's number is its status; the others are those of sysexits.h, beyond all refusals.
+    pub fn status(&self) -> u8 {
+        match self {
+            Failure::Usage(_) => 64,
+            Failure::BadFile { .. } => 65,
+            Failure::CannotRead { .. } => 66,
+            Failure::OutOfMemory { .. } => 71,
+            Failure::CannotWrite { .. } => 74,
+            Failure::Refused { refusal, .. } => u8::try_from(refusal.number).unwrap_or(70),
+        }
+    }
+
+    /// Whoever closes the pipe that reads the field does not want to hear of it.
+    pub fn is_quiet(&self) -> bool {
+        matches!(self, Failure::CannotWrite { error, .. } if error.kind() == io::ErrorKind::BrokenPipe)
+    }
+}
+
+impl fmt::Display for Failure {
+    fn fmt(&self, f: &mut fmt::Formatter) -> fmt::Result {
+        match self {
+            Failure::Usage(wrong) => write!(f, "soak: {wrong}\nsoak --help tells how it is used"),
+            Failure::BadFile { place, wrong } => write!(f, "{place}: {wrong}"),
+            Failure::CannotRead { path, error } => write!(f, "soak: cannot read {}: {error}", path.display()),
+            Failure::OutOfMemory { doubles } => write!(f, "soak: no memory for {doubles} numbers"),
+            Failure::CannotWrite { name, error } => write!(f, "soak: cannot write {name}: {error}"),
+            Failure::Refused { refusal, place } => {
+                write!(f, "soak: refused ({}): {}", refusal.number, refusal.wrong())?;
+                if let Some(told) = refusal.told() {
+                    write!(f, "\n  {told}")?;
+                }
+                if let Some(place) = place {
+                    write!(f, "\n  where: {place}")?;
+                }
+                write!(f, "\n  what to change: {}", refusal.change())
+            }
+        }
+    }
+}
