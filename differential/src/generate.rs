@@ -1,5 +1,5 @@
-//! Jobs: every short matrix, random jobs, jobs around the boundaries, and damaged copies of good ones.
-//! At most 64 rows, 512 entries and 4,096 doubles of working memory.
+//! Jobs: every short matrix, random jobs, jobs around the boundaries, and damaged copies of good ones. Most have at
+//! most 64 rows, 512 entries and 4,096 doubles of working memory.
 
 use jobs::{Call, Job};
 
@@ -48,6 +48,11 @@ const SPECIAL: [f64; 20] = [
 /// How many jobs [`short`] numbers.
 pub const SHORT: usize = 3 * 40 * 13 * 13;
 
+/// A job that the functions on bytes refuse by 255.
+pub fn large(job: &Job) -> bool {
+    job.n > ROWS || job.cols.len() > ENTRIES || job.vals.len() > ENTRIES || job.work > WORK
+}
+
 /// Every matrix of at most two rows, three row starts, two columns and two entries of a few values each.
 pub fn short(kind: Kind, index: usize) -> Job {
     let (n, rest) = (index % 3, index / 3);
@@ -87,7 +92,11 @@ fn word(mut index: usize, longest: u32) -> Vec<u32> {
 
 /// A random job.
 pub fn random(kind: Kind, r: &mut Random) -> Job {
+    if r.once_in(5000) {
+        return beyond_limits(kind, r);
+    }
     let mut job = match r.below(20) {
+        _ if r.once_in(100) => many_rows(kind, r),
         0 => at_plan_boundary(kind, r),
         1 => at_overflow(kind, r),
         2 if kind == Kind::Krylov => decaying(r),
@@ -174,7 +183,7 @@ fn matrix(n: usize, r: &mut Random) -> (Vec<u32>, Vec<u32>, Vec<f64>) {
             4 => {}
             5 if n <= 16 => (0..n).for_each(|c| put(c, number(r))),
             6 => {}
-            _ => (0..r.below(5).min(ENTRIES / n - 1)).for_each(|_| put(r.below(n), number(r))),
+            _ => (0..r.below(5).min((ENTRIES / n).max(4) - 1)).for_each(|_| put(r.below(n), number(r))),
         }
     }
     starts.push(vals.len() as u32);
@@ -225,11 +234,39 @@ fn fill(job: &mut Job, r: &mut Random) {
         }
     }
     job.out = job.output();
-    while job.need() > WORK {
+    while job.n <= ROWS && job.need() > WORK {
         let Call::Krylov { m, .. } = &mut job.call else { unreachable!() };
         *m = (*m).min(2 * ROWS) / 2;
     }
     job.work = job.need() + if r.once_in(3) { r.below(6) } else { 0 };
+}
+
+/// More rows than the functions on bytes take.
+fn many_rows(kind: Kind, r: &mut Random) -> Job {
+    let mut job = good(kind, r);
+    job.n = if r.once_in(10) { 2000 } else { r.from_to(65, 300) as usize };
+    (job.starts, job.cols, job.vals) = matrix(job.n, r);
+    job.mass = r.once_in(3).then(|| (0..job.n).map(|_| 0.5 + r.unit()).collect());
+    let norm = norm(&job);
+    job.tau = 10.0_f64.powf(3.0 * r.unit() - 2.0) / if norm > 0.0 && norm.is_finite() { norm } else { 1.0 };
+    fill(&mut job, r);
+    job
+}
+
+/// One row more than 1,000,000, or just as many; seldom one entry more than 16,777,216.
+fn beyond_limits(kind: Kind, r: &mut Random) -> Job {
+    let entries = if r.once_in(20) { 16_777_217 } else { 0 };
+    let n = if entries > 0 { 1 } else { r.pick(&[1_000_000, 1_000_001]) };
+    let mut job = good(kind, r);
+    job.n = n;
+    job.starts = vec![0; n + 1];
+    job.starts[n] = entries;
+    job.cols = vec![0; entries as usize];
+    job.vals = vec![0.0; entries as usize];
+    job.mass = None;
+    job.w = vec![];
+    (job.out, job.work) = (0, 0);
+    job
 }
 
 /// One row, and an argument within some units of s radii.
@@ -390,7 +427,7 @@ fn damage(job: &mut Job, r: &mut Random) {
     let any = r.pick(&SPECIAL);
     let odd = r.pick(&SPECIAL[17..]);
     let row = |job: &Job, r: &mut Random| r.below(job.starts.len().max(1));
-    match r.below(30) {
+    match r.below(31) {
         0 => job.n = r.pick(&[0, job.n + 1, job.n.saturating_sub(1)]),
         1 => drop(job.starts.pop()),
         2 => job.starts.push(job.vals.len() as u32),
@@ -460,7 +497,17 @@ fn damage(job: &mut Job, r: &mut Random) {
                 (*limit, *m) = r.pick(&[(0, *m), (1_000_000, *m), (1_000_001, *m), (*limit, 129), (*limit, 1000)]);
             }
         }
-        28 => job.work = job.work.saturating_sub(r.pick(&[1, 1, 6, 50])),
+        28 => {
+            // a slice longer than any that fits
+            match r.below(5) {
+                0 => job.starts.resize(513 + r.below(100), 0),
+                1 => job.mass = Some(vec![1.0; 513 + r.below(100)]),
+                2 => job.w.resize(513 + r.below(100), 1.0),
+                3 => job.out = 513 + r.below(100),
+                _ => job.work = WORK + r.below(3),
+            }
+        }
+        29 => job.work = job.work.saturating_sub(r.pick(&[1, 1, 6, 50])),
         _ => job.work = job.need().saturating_sub(1).min(WORK),
     }
 }

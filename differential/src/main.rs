@@ -2,7 +2,6 @@
 
 mod generate;
 mod random;
-mod rattle;
 mod reference;
 
 use std::collections::BTreeMap;
@@ -13,16 +12,16 @@ use jobs::{Answer, Call, Job};
 use random::Random;
 
 const USAGE: &str = "usage:
-  differential run [--seed N] [--jobs N] [--calls combination,krylov,action,batched] [--cost N] [--show N] [--libm] [--find NUMBER|PATH]
+  differential run [--seed N] [--jobs N] [--calls combination,krylov,action,batched] [--cost N] [--show N] [--libm] [--find NUMBER|PATH] [--threads N]
   differential jobs [--seed N] [--jobs N] [--calls ...]
-  differential replay FILE --side rust|transcribed|rattle";
+  differential replay FILE --side rust|transcribed|rattle|bytes";
 
 fn main() -> ExitCode {
     let words: Vec<String> = std::env::args().skip(1).collect();
     let done = match words.first().map(String::as_str) {
         Some("run") => Options::read(&words[1..]).map(|o| run(&o)),
         Some("jobs") => Options::read(&words[1..]).map(|o| {
-            all_jobs(&o, |job| println!("{}", job.print()));
+            (0..o.jobs).for_each(|i| println!("{}", job(&o, i).print()));
             true
         }),
         Some("replay") if words.len() == 4 && words[2] == "--side" => replay(&words[1], &words[3]),
@@ -50,11 +49,13 @@ struct Options {
     find: Option<String>,
     /// Also lists where the Rust with its own libm differs from the transcribed.
     libm: bool,
+    threads: usize,
 }
 
 impl Options {
     fn read(words: &[String]) -> Result<Options, String> {
-        let mut o = Options { seed: 1, jobs: 100_000, kinds: KINDS.to_vec(), cost: 20_000_000, show: 5, find: None, libm: false };
+        let threads = std::thread::available_parallelism().map_or(1, usize::from);
+        let mut o = Options { seed: 1, jobs: 100_000, kinds: KINDS.to_vec(), cost: 20_000_000, show: 5, find: None, libm: false, threads };
         let mut words = words.iter();
         while let Some(word) = words.next() {
             if word == "--libm" {
@@ -69,6 +70,7 @@ impl Options {
                 "--cost" => o.cost = number()?,
                 "--find" => o.find = Some(value.clone()),
                 "--show" => o.show = number()? as usize,
+                "--threads" => o.threads = number()?.max(1) as usize,
                 "--calls" => o.kinds = value.split(',').map(kind).collect::<Result<_, _>>()?,
                 _ => return Err(format!("no option {word}\n{USAGE}")),
             }
@@ -90,14 +92,15 @@ fn name_of(kind: Kind) -> &'static str {
     }
 }
 
-/// The jobs of a run, the calls in turn: of each four of a call one is a short one, as long as there are any.
-fn all_jobs(o: &Options, mut each: impl FnMut(Job)) {
-    let mut r = Random(o.seed);
-    for i in 0..o.jobs {
-        let kind = o.kinds[i % o.kinds.len()];
-        let index = i / o.kinds.len();
-        let short = index / 4;
-        each(if index % 4 == 0 && short < generate::SHORT { generate::short(kind, short) } else { generate::random(kind, &mut r) });
+/// Job i of a run: the calls in turn, of each four of a call one a short one, as long as there are any.
+fn job(o: &Options, i: usize) -> Job {
+    let kind = o.kinds[i % o.kinds.len()];
+    let index = i / o.kinds.len();
+    let short = index / 4;
+    if index % 4 == 0 && short < generate::SHORT {
+        generate::short(kind, short)
+    } else {
+        generate::random(kind, &mut Random::of(o.seed, i))
     }
 }
 
@@ -105,7 +108,9 @@ fn all_jobs(o: &Options, mut each: impl FnMut(Job)) {
 #[derive(Default)]
 struct Tally {
     compared: u64,
-    not_exported: u64,
+    on_bytes: u64,
+    large_on_bytes: u64,
+    above_64_rows: u64,
     costly: u64,
     different: u64,
     libm_different: u64,
@@ -113,10 +118,38 @@ struct Tally {
     paths: BTreeMap<&'static str, u64>,
 }
 
+impl Tally {
+    fn add(&mut self, other: Tally) {
+        self.compared += other.compared;
+        self.on_bytes += other.on_bytes;
+        self.large_on_bytes += other.large_on_bytes;
+        self.above_64_rows += other.above_64_rows;
+        self.costly += other.costly;
+        self.different += other.different;
+        self.libm_different += other.libm_different;
+        for (key, hits) in other.numbers {
+            *self.numbers.entry(key).or_default() += hits;
+        }
+        for (key, hits) in other.paths {
+            *self.paths.entry(key).or_default() += hits;
+        }
+    }
+}
+
+/// Every thread takes its share of the jobs.
 fn run(o: &Options) -> bool {
+    let share = |first: usize| {
+        let mut t = Tally::default();
+        (first..o.jobs).step_by(o.threads).for_each(|i| one(o, &job(o, i), i, &mut t));
+        t
+    };
     let mut t = Tally::default();
-    all_jobs(o, |job| one(o, &job, &mut t));
-    println!("jobs {}, compared {}, not exported {}, above the cost {}", o.jobs, t.compared, t.not_exported, t.costly);
+    std::thread::scope(|scope| {
+        let shares: Vec<_> = (0..o.threads).map(|first| scope.spawn(move || share(first))).collect();
+        shares.into_iter().for_each(|s| t.add(s.join().expect("a thread that ends")));
+    });
+    println!("jobs {}, compared {} ({} of more than 64 rows), above the cost {}", o.jobs, t.compared, t.above_64_rows, t.costly);
+    println!("on bytes: compared {}, and {} large ones answered by 255", t.on_bytes, t.large_on_bytes);
     println!("answers of the Rust, by number and call:");
     for ((number, call), hits) in &t.numbers {
         println!("  {number:3} {call:12} {hits}");
@@ -132,7 +165,7 @@ fn run(o: &Options) -> bool {
     t.different == 0
 }
 
-fn one(o: &Options, job: &Job, t: &mut Tally) {
+fn one(o: &Options, job: &Job, index: usize, t: &mut Tally) {
     let call = match job.call {
         Call::Combination => "combination",
         Call::Krylov { .. } => "krylov",
@@ -164,15 +197,22 @@ fn one(o: &Options, job: &Job, t: &mut Tally) {
         }
     }
     let expected = if krylov || shifted { bits } else { plain.unwrap() };
-    let Some(got) = rattle::answer(job) else {
-        t.not_exported += 1;
-        return;
-    };
     t.compared += 1;
+    t.above_64_rows += u64::from(job.n > generate::ROWS);
+    let got = library::answer(job);
     let parts = got.differs(&expected);
     if !parts.is_empty() {
         t.different += 1;
         show(o, t.different, "rattle", job, &parts, &got, &expected);
+    }
+    let large = generate::large(job);
+    *(if large { &mut t.large_on_bytes } else { &mut t.on_bytes }) += 1;
+    let expected = if large { job.large() } else { expected };
+    let got = library::answer_on_bytes(job, index);
+    let parts = got.as_ref().map_or(vec!["a byte behind the last whole element"], |a| a.differs(&expected));
+    if !parts.is_empty() {
+        t.different += 1;
+        show(o, t.different, "rattle on bytes", job, &parts, &got.unwrap_or_else(|| job.large()), &expected);
     }
 }
 
@@ -192,12 +232,13 @@ fn replay(file: &str, side: &str) -> Result<bool, String> {
         let answer = match side {
             "rust" => reference::answer(&job, |j| oracle::answer(j, u64::MAX)),
             "transcribed" => reference::answer(&job, |j| transcribed::answer(j, u64::MAX)),
-            "rattle" => rattle::answer(&job),
+            "rattle" => Some(library::answer(&job)),
+            "bytes" => library::answer_on_bytes(&job, 0),
             _ => return Err(USAGE.into()),
         };
         let paths: Vec<_> = transcribed::probe::take_hits().into_keys().collect();
         let paths = if paths.is_empty() { String::new() } else { format!("  # {}", paths.join("; ")) };
-        println!("{}{paths}", answer.map_or("not exported".into(), |a| a.print()));
+        println!("{}{paths}", answer.map_or("none".into(), |a| a.print()));
     }
     Ok(true)
 }

@@ -3,6 +3,11 @@
 pub struct Random(pub u64);
 
 impl Random {
+    /// Those of job i of a run.
+    pub fn of(seed: u64, i: usize) -> Random {
+        Random(Random(seed).next() ^ Random(i as u64).next())
+    }
+
     pub fn next(&mut self) -> u64 {
         self.0 = self.0.wrapping_add(0x9e37_79b9_7f4a_7c15);
         let mut z = self.0;

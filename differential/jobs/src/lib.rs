@@ -127,6 +127,13 @@ impl Job {
         Answer { number, value, counts: [0; 3], out: self.marked_out(), work: self.marked_work() }
     }
 
+    /// What a function on bytes answers to a job that is too large for it: nothing is changed, the numbers included.
+    pub fn large(&self) -> Answer {
+        let (counts, max) = (u64::from(u32::MAX), u64::MAX);
+        let counts = if matches!(self.call, Call::Krylov { .. }) { [max; 3] } else { [counts, counts, max] };
+        Answer { counts, ..self.refused(255, mark(0)) }
+    }
+
     pub fn print(&self) -> String {
         let (call, options) = match self.call {
             Call::Combination => ("combination", String::new()),

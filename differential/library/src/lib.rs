@@ -1,7 +1,11 @@
 //! The proved library (crates/exports, crates/exports_bytes): its exported functions, and a job put to them.
 
+#[cfg(feature = "bytes")]
+mod bytes;
 mod slices;
 
+#[cfg(feature = "bytes")]
+pub use bytes::answer as answer_on_bytes;
 pub use slices::{answer, call};
 
 /// What a call hands back besides its slices: 0 or the refusal's number, the double, and the counts in the order of

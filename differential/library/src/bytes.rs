@@ -1,0 +1,63 @@
+//! On byte slices: numbers as four bytes and doubles as eight, lowest first.
+
+use jobs::{Answer, Job};
+
+use crate::{called, exported, told};
+
+exported!(hazhendu_phi_combination_bytes, u8, u8, [], u32, u32, u64);
+exported!(hazhendu_phi_action_bytes, u8, u8, [], u32, u32, u64);
+exported!(hazhendu_phi_action_batched_bytes, u8, u8, [], u32, u32, u64);
+exported!(hazhendu_phi_combination_krylov_bytes, u8, u8, [tol: f64, m: usize, max_substeps: usize], usize, usize, usize);
+
+struct Slices {
+    starts: Vec<u8>,
+    cols: Vec<u8>,
+    vals: Vec<u8>,
+    mass: Vec<u8>,
+    w: Vec<u8>,
+}
+
+/// The doubles' bytes, and `tail` more that make no whole element.
+fn doubles(list: &[f64], tail: usize) -> Vec<u8> {
+    let mut bytes: Vec<u8> = list.iter().flat_map(|x| x.to_le_bytes()).collect();
+    bytes.resize(8 * list.len() + tail % 8, 0xa5);
+    bytes
+}
+
+fn numbers(list: &[u32], tail: usize) -> Vec<u8> {
+    let mut bytes: Vec<u8> = list.iter().flat_map(|x| x.to_le_bytes()).collect();
+    bytes.resize(4 * list.len() + tail % 4, 0xa5);
+    bytes
+}
+
+fn whole_doubles(bytes: &[u8]) -> Vec<f64> {
+    bytes.chunks_exact(8).map(|b| f64::from_le_bytes(b.try_into().unwrap())).collect()
+}
+
+/// The answer, output and working memory marked beforehand; `None` if a byte behind the last whole element was written. `tail`
+/// tells how many such bytes each slice has.
+pub fn answer(job: &Job, tail: usize) -> Option<Answer> {
+    let s = Slices {
+        starts: numbers(&job.starts, tail),
+        cols: numbers(&job.cols, tail / 2),
+        vals: doubles(&job.vals, tail),
+        mass: doubles(job.mass.as_deref().unwrap_or(&[]), tail / 3),
+        w: doubles(&job.w, tail / 2),
+    };
+    let mut out = doubles(&job.marked_out(), tail / 5);
+    let mut work = doubles(&job.marked_work(), tail / 7);
+    let told = told!(
+        job,
+        s,
+        &mut out,
+        &mut work,
+        hazhendu_phi_combination_bytes,
+        hazhendu_phi_action_bytes,
+        hazhendu_phi_action_batched_bytes,
+        hazhendu_phi_combination_krylov_bytes
+    );
+    let kept = |bytes: &[u8]| bytes.chunks_exact(8).remainder().iter().all(|b| *b == 0xa5);
+    let answer =
+        Answer { number: told.number, value: told.value, counts: told.counts, out: whole_doubles(&out), work: whole_doubles(&work) };
+    (kept(&out) && kept(&work)).then_some(answer)
+}
