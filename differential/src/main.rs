@@ -113,7 +113,12 @@ struct Tally {
     above_64_rows: u64,
     costly: u64,
     different: u64,
+    libm_compared: u64,
     libm_different: u64,
+    /// How many of the latter differ in which parts.
+    libm_parts: BTreeMap<String, u64>,
+    /// The largest difference of two outputs, relative to the largest value.
+    libm_largest: f64,
     numbers: BTreeMap<(u32, &'static str), u64>,
     paths: BTreeMap<&'static str, u64>,
 }
@@ -126,7 +131,12 @@ impl Tally {
         self.above_64_rows += other.above_64_rows;
         self.costly += other.costly;
         self.different += other.different;
+        self.libm_compared += other.libm_compared;
         self.libm_different += other.libm_different;
+        self.libm_largest = self.libm_largest.max(other.libm_largest);
+        for (key, hits) in other.libm_parts {
+            *self.libm_parts.entry(key).or_default() += hits;
+        }
         for (key, hits) in other.numbers {
             *self.numbers.entry(key).or_default() += hits;
         }
@@ -159,7 +169,13 @@ fn run(o: &Options) -> bool {
         println!("  {path:28} {hits}");
     }
     if o.libm {
-        println!("own libm against transcribed: {} different", t.libm_different);
+        println!(
+            "own libm against transcribed: compared {}, different {}, outputs at most {:e} apart",
+            t.libm_compared, t.libm_different, t.libm_largest
+        );
+        for (parts, hits) in &t.libm_parts {
+            println!("  differ in {parts:24} {hits}");
+        }
     }
     println!("different: {}", t.different);
     t.different == 0
@@ -191,8 +207,13 @@ fn one(o: &Options, job: &Job, index: usize, t: &mut Tally) {
     let plain = if o.libm || !(krylov || shifted) { reference::answer(job, |j| oracle::answer(j, u64::MAX)) } else { None };
     if let (true, Some(own)) = (krylov || shifted, &plain) {
         let parts = own.differs(&bits);
+        t.libm_compared += 1;
         if !parts.is_empty() {
             t.libm_different += 1;
+            *t.libm_parts.entry(parts.join(", ")).or_default() += 1;
+            if own.number == 0 && bits.number == 0 {
+                t.libm_largest = t.libm_largest.max(distance(&own.out, &bits.out));
+            }
             show(o, t.libm_different, "own libm", job, &parts, own, &bits);
         }
     }
@@ -213,6 +234,17 @@ fn one(o: &Options, job: &Job, index: usize, t: &mut Tally) {
     if !parts.is_empty() {
         t.different += 1;
         show(o, t.different, "rattle on bytes", job, &parts, &got.unwrap_or_else(|| job.large()), &expected);
+    }
+}
+
+/// The largest difference of two fields, relative to the largest value of the second.
+fn distance(a: &[f64], b: &[f64]) -> f64 {
+    let largest = b.iter().fold(0.0, |m: f64, x| m.max(x.abs()));
+    let apart = a.iter().zip(b).fold(0.0, |m: f64, (x, y)| m.max((x - y).abs()));
+    if apart == 0.0 {
+        0.0
+    } else {
+        apart / largest
     }
 }
 

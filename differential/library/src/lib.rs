@@ -90,8 +90,7 @@ macro_rules! told {
         let mut value = jobs::mark(0);
         if let jobs::Call::Krylov { tol, m, limit } = job.call {
             let (mut substeps, mut matvecs, mut rejected) = (!0, !0, !0);
-            let number =
-                called!($krylov, job, s, [tol, m, limit], out, work, &mut value, &mut substeps, &mut matvecs, &mut rejected);
+            let number = called!($krylov, job, s, [tol, m, limit], out, work, &mut value, &mut substeps, &mut matvecs, &mut rejected);
             $crate::Told { number, value, counts: [matvecs as u64, substeps as u64, rejected as u64] }
         } else {
             let (mut s_, mut m, mut applications) = (!0, !0, !0);

@@ -19,23 +19,8 @@ struct Slices<'a> {
 
 /// The call alone.
 pub fn call(job: &Job, out: &mut [f64], work: &mut [f64]) -> Told {
-    let s = Slices {
-        starts: &job.starts,
-        cols: &job.cols,
-        vals: &job.vals,
-        mass: job.mass.as_deref().unwrap_or(&[]),
-        w: &job.w,
-    };
-    told!(
-        job,
-        s,
-        out,
-        work,
-        hazhendu_phi_combination,
-        hazhendu_phi_action,
-        hazhendu_phi_action_batched,
-        hazhendu_phi_combination_krylov
-    )
+    let s = Slices { starts: &job.starts, cols: &job.cols, vals: &job.vals, mass: job.mass.as_deref().unwrap_or(&[]), w: &job.w };
+    told!(job, s, out, work, hazhendu_phi_combination, hazhendu_phi_action, hazhendu_phi_action_batched, hazhendu_phi_combination_krylov)
 }
 
 /// The answer, output and working memory marked beforehand.
