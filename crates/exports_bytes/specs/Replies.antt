@@ -1,8 +1,8 @@
 -- What a call on bytes answers (document 01, 'Oracle'). Definitions only.
 -- A job is large when it has more than 64 rows, more than 512 columns or entries, or more than 4,096 doubles of working memory, whole elements
 -- counted: the local arrays hold no more. A large job gets 255, and nothing is changed. Every other job is the call on the lists that its slices
--- stand for. So row starts, a mass, vectors or an output of any length that are too long for the job get their numbered refusal (1, 7, 16, 15), or
--- one that comes before it, with the number of whole elements handed in.
+-- stand for. So row starts, a given mass, vectors or an output that are too long for the job, by however much, get their numbered refusal (1, 7,
+-- 16, 15), or one that comes before it, with the number of whole elements handed in.
 use mathlib.Core.Bool.{Bool, true, false, _&&_, _||_, cond}
 use mathlib.Core.List.{List}
 use mathlib.Core.Logic.{_⊎_}
