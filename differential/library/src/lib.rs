@@ -16,6 +16,15 @@ pub struct Told {
     pub counts: [u64; 3],
 }
 
+/// The slices that a job lends to be read.
+struct Slices<N, D> {
+    starts: N,
+    cols: N,
+    vals: D,
+    mass: D,
+    w: D,
+}
+
 /// Declares one exported function on slices of `$u32` and `$f64`: a slice is a pointer and a length, a `&mut` number a pointer.
 macro_rules! exported {
     ($name:ident, $u32:ty, $f64:ty, [$($option:ident: $option_type:ty),*], $a:ty, $b:ty, $c:ty) => {
@@ -90,8 +99,7 @@ macro_rules! told {
         let mut value = jobs::mark(0);
         if let jobs::Call::Krylov { tol, m, limit } = job.call {
             let (mut substeps, mut matvecs, mut rejected) = (!0, !0, !0);
-            let number =
-                called!($krylov, job, s, [tol, m, limit], out, work, &mut value, &mut substeps, &mut matvecs, &mut rejected);
+            let number = called!($krylov, job, s, [tol, m, limit], out, work, &mut value, &mut substeps, &mut matvecs, &mut rejected);
             $crate::Told { number, value, counts: [matvecs as u64, substeps as u64, rejected as u64] }
         } else {
             let (mut s_, mut m, mut applications) = (!0, !0, !0);
