@@ -15,8 +15,12 @@ const ROUNDS: usize = 7;
 const LEAST: f64 = 0.02;
 
 const KRYLOV: Call = Call::Krylov { tol: 1e-10, m: 30, limit: 100_000 };
-const CALLS: [(&str, Call, usize); 4] =
-    [("phi_combination", Call::Combination, 2), ("phi_action", Call::Action, 1), ("phi_action_batched", Call::Batched, 2), ("phi_combination_krylov", KRYLOV, 2)];
+const CALLS: [(&str, Call, usize); 4] = [
+    ("phi_combination", Call::Combination, 2),
+    ("phi_action", Call::Action, 1),
+    ("phi_action_batched", Call::Batched, 2),
+    ("phi_combination_krylov", KRYLOV, 2),
+];
 const SIZES: [(usize, usize); 4] = [(8, 8), (25, 40), (100, 100), (250, 400)];
 
 fn main() {

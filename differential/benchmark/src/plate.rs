@@ -43,19 +43,8 @@ fn masses(n: usize) -> Vec<f64> {
 pub fn job(size: (usize, usize), with_mass: bool, call: Call, count: usize) -> Job {
     let n = size.0 * size.1;
     let (starts, cols, vals) = matrix(size);
-    let mut job = Job {
-        call,
-        n,
-        starts,
-        cols,
-        vals,
-        mass: with_mass.then(|| masses(n)),
-        tau: STIFFNESS / 8.01,
-        count,
-        w: vec![],
-        out: 0,
-        work: 0,
-    };
+    let mut job =
+        Job { call, n, starts, cols, vals, mass: with_mass.then(|| masses(n)), tau: STIFFNESS / 8.01, count, w: vec![], out: 0, work: 0 };
     job.w = (0..job.vectors())
         .map(|i| if i < n { 1.0 / (1.0 + (i as f64 - n as f64 / 2.0).abs()) } else { 0.05 * ((i - n) % size.1 < 2) as u8 as f64 })
         .collect();
