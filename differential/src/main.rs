@@ -8,7 +8,7 @@ use std::process::ExitCode;
 
 use compare::{reference, Difference, Expected};
 use generate::{Kind, KINDS};
-use jobs::{Call, Job};
+use jobs::{Answer, Call, Job};
 use random::Random;
 
 const USAGE: &str = "usage:
@@ -113,7 +113,12 @@ struct Tally {
     above_64_rows: u64,
     costly: u64,
     different: u64,
+    libm_compared: u64,
     libm_different: u64,
+    /// How many of the latter differ in which parts.
+    libm_parts: BTreeMap<String, u64>,
+    /// The largest difference of two outputs, relative to the largest value.
+    libm_largest: f64,
     numbers: BTreeMap<(u32, &'static str), u64>,
     paths: BTreeMap<&'static str, u64>,
 }
@@ -126,7 +131,12 @@ impl Tally {
         self.above_64_rows += other.above_64_rows;
         self.costly += other.costly;
         self.different += other.different;
+        self.libm_compared += other.libm_compared;
         self.libm_different += other.libm_different;
+        self.libm_largest = self.libm_largest.max(other.libm_largest);
+        for (key, hits) in other.libm_parts {
+            *self.libm_parts.entry(key).or_default() += hits;
+        }
         for (key, hits) in other.numbers {
             *self.numbers.entry(key).or_default() += hits;
         }
@@ -159,7 +169,13 @@ fn run(o: &Options) -> bool {
         println!("  {path:28} {hits}");
     }
     if o.libm {
-        println!("own libm against transcribed: {} different", t.libm_different);
+        println!(
+            "own libm against transcribed: compared {}, different {}, outputs at most {:e} apart",
+            t.libm_compared, t.libm_different, t.libm_largest
+        );
+        for (parts, hits) in &t.libm_parts {
+            println!("  differ in {parts:24} {hits}");
+        }
     }
     println!("different: {}", t.different);
     t.different == 0
@@ -171,13 +187,35 @@ fn one(o: &Options, job: &Job, index: usize, t: &mut Tally) {
         return;
     };
     count(o, job, &expected, t);
-    if let Some(difference) = o.libm.then(|| compare::own_libm(job, &expected)).flatten() {
-        t.libm_different += 1;
-        show(o, t.libm_different, &difference, job);
+    if o.libm && expected.transcribed {
+        own_libm(o, job, &expected.answer, t);
     }
     for difference in compare::library(job, &expected.answer, index) {
         t.different += 1;
         show(o, t.different, &difference, job);
+    }
+}
+
+/// Sums up where the Rust with its own libm differs from the transcribed.
+fn own_libm(o: &Options, job: &Job, transcribed: &Answer, t: &mut Tally) {
+    t.libm_compared += 1;
+    let Some(difference) = compare::own_libm(job, transcribed) else { return };
+    t.libm_different += 1;
+    *t.libm_parts.entry(difference.parts.join(", ")).or_default() += 1;
+    if difference.got.number == 0 && transcribed.number == 0 {
+        t.libm_largest = t.libm_largest.max(distance(&difference.got.out, &transcribed.out));
+    }
+    show(o, t.libm_different, &difference, job);
+}
+
+/// The largest difference of two fields, relative to the largest value of the second.
+fn distance(a: &[f64], b: &[f64]) -> f64 {
+    let largest = b.iter().fold(0.0, |m: f64, x| m.max(x.abs()));
+    let apart = a.iter().zip(b).fold(0.0, |m: f64, (x, y)| m.max((x - y).abs()));
+    if apart == 0.0 {
+        0.0
+    } else {
+        apart / largest
     }
 }
 

@@ -1,7 +1,7 @@
 -- A call on the unpacked lists, its output and its memory packed. Assumes nothing.
 use mathlib.Core.Bool.{Bool, true, false}
 use mathlib.Core.List.{List}
-use mathlib.Core.Path.{_≡_, refl, _∙_, ap}
+use mathlib.Core.Path.{_≡_, _∙_, ap}
 use Prim.Native.Nat.{ℕ}
 use lib.Ieee.{Float}
 use Rattle.combination.specs.Call.{Call, ends}

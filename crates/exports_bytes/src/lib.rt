@@ -3,7 +3,7 @@ use phi_action::TaylorAnswer;
 use phi_krylov::KrylovAnswer;
 use phi_krylov::KrylovPhiOptions;
 ghost use mathlib.Core.Path.{_≡_};
-ghost use mathlib.Core.Bool.{_&&_, false};
+ghost use mathlib.Core.Bool.{_&&_, false, cond};
 ghost use Prim.Native.Nat.{_+_, _*_, _/_, _≤_, _<_};
 ghost use lib.ListN.{length, getD};
 ghost use lib.Ieee.{binary64, isNan, ofBits, toBits};
@@ -16,7 +16,7 @@ ghost use Rattle.phi_action.specs.Calls.{phi-combination, phi-action, phi-actio
 ghost use Rattle.phi_krylov.specs.KrylovCall.{phi-combination-krylov};
 ghost use Rattle.phi_krylov.specs.Combine.{answering};
 ghost use Rattle.exports.specs.Told.{numbers, taylor-numbers, krylov-numbers, options};
-ghost use Rattle.exports_bytes.specs.Replies.{large, replies, packed, replied, taylor-told, krylov-told, told, called};
+ghost use Rattle.exports_bytes.specs.Replies.{large, replies, packed, replied, taylor-told, krylov-told, told, revalued, Cut, long-told, called};
 ghost use Rattle.exports_bytes.specs.Bytes.{half, word, double-at, numbers-of, doubles-of, byte-over, written-over};
 
 // Which call; of Krylov with tol, m and max_substeps.
@@ -131,24 +131,12 @@ fn pack_doubles(src: &[f64], dst: &mut [u8])
     }
 }
 
-// Lengths in bytes.
-fn large(
-    n: usize,
-    starts: usize,
-    cols: usize,
-    vals: usize,
-    mass: usize,
-    v: usize,
-    out: usize,
-    work: usize,
-) -> bool
-    ensures { λ r. ⌜ r ≡ large n starts cols vals mass v out work ⌝ }
-    ensures { λ r. ⌜ (r ≡ false → (starts / 4 ≤ 512) × (cols / 4 ≤ 512) × (vals / 8 ≤ 512) × (mass / 8 ≤ 512) × (v / 8 ≤ 512) × (out / 8 ≤ 512) × (work / 8 ≤ 4096)) ⌝ }
+// By lengths in bytes.
+fn large(n: usize, cols: usize, vals: usize, work: usize) -> bool
+    ensures { λ r. ⌜ r ≡ large n cols vals work ⌝ }
+    ensures { λ r. ⌜ (r ≡ false → (n ≤ 64) × (cols / 4 ≤ 512) × (vals / 8 ≤ 512) × (work / 8 ≤ 4096)) ⌝ }
 {
     if n > 64 {
-        return true;
-    }
-    if starts / 4 > 512 {
         return true;
     }
     if cols / 4 > 512 {
@@ -157,16 +145,50 @@ fn large(
     if vals / 8 > 512 {
         return true;
     }
-    if mass / 8 > 512 {
-        return true;
-    }
-    if v / 8 > 512 {
-        return true;
-    }
-    if out / 8 > 512 {
-        return true;
-    }
     work / 8 > 4096
+}
+
+// A slice is cut to `most` bytes, which hold 512 elements and no more.
+fn part(len: usize, most: usize) -> usize
+    ensures { λ r. ⌜ (r ≤ len) × (r ≤ most) × Cut len most r ⌝ }
+{
+    if len > most {
+        return most;
+    }
+    len
+}
+
+// Without a mass none of its slice is read.
+fn used(with_mass: bool, mass: usize) -> usize
+    ensures { λ r. ⌜ (r ≡ cond «with_mass» mass 0) × (r ≤ mass) ⌝ }
+{
+    if with_mass {
+        return mass;
+    }
+    0
+}
+
+fn long_told(k: u32, len: usize, number: u32, value: f64) -> f64
+    ensures { λ r. ⌜ r ≡ long-told k len number value ⌝ }
+{
+    if len > 512 {
+        if number == k {
+            return float::count(len);
+        }
+    }
+    value
+}
+
+// The lengths handed in, where a refusal reports them.
+fn reported(t: Told, starts: usize, mass: usize, out: usize, v: usize) -> Told
+    ensures { λ r. ⌜ r ≡ revalued t (long-told 16 v (t .number) (long-told 15 out (t .number) (long-told 7 mass (t .number) (long-told 1 starts (t .number) (t .value))))) ⌝ }
+{
+    let mut r = t;
+    r.value = long_told(1, starts, t.number, r.value);
+    r.value = long_told(7, mass, t.number, r.value);
+    r.value = long_told(15, out, t.number, r.value);
+    r.value = long_told(16, v, t.number, r.value);
+    r
 }
 
 fn told_taylor(number: u32, value: f64, s: u32, m: u32, applications: u64) -> Told
@@ -345,8 +367,8 @@ fn run(
     answer
 }
 
-// A large job gets what it `was`.
-fn answer(
+// The local arrays.
+fn in_rooms(
     call: PhiCall,
     n: usize,
     starts: &[u8],
@@ -359,22 +381,10 @@ fn answer(
     v: &[u8],
     out: &mut [u8],
     work: &mut [u8],
-    was: Told,
 ) -> Told
-    ensures { λ r. ⌜ replies (told call r) (now (out .exit)) (now (work .exit)) ≡ replied (large n (length (now (starts .entry))) (length (now (cols .entry))) (length (now (vals .entry))) (length (now (mass .entry))) (length (now (v .entry))) (length (now (out .entry))) (length (now (work .entry)))) (replies (told call was) (now (out .entry)) (now (work .entry))) (called call (csr n (numbers-of (now (starts .entry))) (numbers-of (now (cols .entry))) (doubles-of (now (vals .entry)))) (given «with_mass» (doubles-of (now (mass .entry)))) tau k (doubles-of (now (v .entry))) (doubles-of (now (out .entry))) (doubles-of (now (work .entry)))) ⌝ }
+    requires { ⌜ (length (now starts) / 4 ≤ 512) × (length (now cols) / 4 ≤ 512) × (length (now vals) / 8 ≤ 512) × (length (now mass) / 8 ≤ 512) × (length (now v) / 8 ≤ 512) × (length (now out) / 8 ≤ 512) × (length (now work) / 8 ≤ 4096) ⌝ }
+    ensures { λ r. ⌜ replies (told call r) (now (out .exit)) (now (work .exit)) ≡ packed (called call (csr n (numbers-of (now (starts .entry))) (numbers-of (now (cols .entry))) (doubles-of (now (vals .entry)))) (given «with_mass» (doubles-of (now (mass .entry)))) tau k (doubles-of (now (v .entry))) (doubles-of (now (out .entry))) (doubles-of (now (work .entry)))) (now (out .entry)) (now (work .entry)) ⌝ }
 {
-    if large(
-        n,
-        starts.len(),
-        cols.len(),
-        vals.len(),
-        mass.len(),
-        v.len(),
-        out.len(),
-        work.len(),
-    ) {
-        return was;
-    }
     let mut starts_room = [0u32; 512];
     let mut cols_room = [0u32; 512];
     let mut vals_room = [0.0f64; 512];
@@ -412,6 +422,53 @@ fn answer(
     )
 }
 
+// A job that is not large is refused where row starts, a given mass, vectors or output have more than 512 elements. Cut slices are refused alike;
+// `reported` gives the length handed in.
+fn answer(
+    call: PhiCall,
+    n: usize,
+    starts: &[u8],
+    cols: &[u8],
+    vals: &[u8],
+    with_mass: bool,
+    mass: &[u8],
+    tau: f64,
+    k: usize,
+    v: &[u8],
+    out: &mut [u8],
+    work: &mut [u8],
+    unchanged: Told,
+) -> Told
+    ensures { λ r. ⌜ replies (told call r) (now (out .exit)) (now (work .exit)) ≡ replied (large n (length (now (cols .entry))) (length (now (vals .entry))) (length (now (work .entry)))) (replies (told call unchanged) (now (out .entry)) (now (work .entry))) (called call (csr n (numbers-of (now (starts .entry))) (numbers-of (now (cols .entry))) (doubles-of (now (vals .entry)))) (given «with_mass» (doubles-of (now (mass .entry)))) tau k (doubles-of (now (v .entry))) (doubles-of (now (out .entry))) (doubles-of (now (work .entry)))) ⌝ }
+{
+    if large(n, cols.len(), vals.len(), work.len()) {
+        return unchanged;
+    }
+    let starts_len = starts.len();
+    let mass_len = used(with_mass, mass.len());
+    let v_len = v.len();
+    let out_len = out.len();
+    let starts_part = part(starts_len, 2051);
+    let mass_part = part(mass_len, 4103);
+    let v_part = part(v_len, 4103);
+    let out_part = part(out_len, 4103);
+    let t = in_rooms(
+        call,
+        n,
+        &starts[..starts_part],
+        cols,
+        vals,
+        with_mass,
+        &mass[..mass_part],
+        tau,
+        k,
+        &v[..v_part],
+        &mut out[..out_part],
+        work,
+    );
+    reported(t, starts_len / 4, mass_len / 8, out_len / 8, v_len / 8)
+}
+
 fn tell_taylor(t: Told, value: &mut f64, s: &mut u32, m: &mut u32, applications: &mut u64) -> u32
     ensures { λ r. ⌜ numbers r (now (value .exit)) (now (s .exit)) (now (m .exit)) (now (applications .exit)) ≡ taylor-told t ⌝ }
 {
@@ -441,7 +498,7 @@ pub extern "C" fn hazhendu_phi_combination_bytes(
     m: &mut u32,
     applications: &mut u64,
 ) -> u32
-    ensures { λ r. ⌜ replies (numbers r (now (value .exit)) (now (s .exit)) (now (m .exit)) (now (applications .exit))) (now (out .exit)) (now (work .exit)) ≡ replied (large n (length (now (starts .entry))) (length (now (cols .entry))) (length (now (vals .entry))) (length (now (mass .entry))) (length (now (w .entry))) (length (now (out .entry))) (length (now (work .entry)))) (replies (numbers 255 (now (value .entry)) (now (s .entry)) (now (m .entry)) (now (applications .entry))) (now (out .entry)) (now (work .entry))) (answering taylor-numbers (phi-combination (csr n (numbers-of (now (starts .entry))) (numbers-of (now (cols .entry))) (doubles-of (now (vals .entry)))) (given «with_mass» (doubles-of (now (mass .entry)))) tau count (doubles-of (now (w .entry))) (doubles-of (now (out .entry))) (doubles-of (now (work .entry))))) ⌝ }
+    ensures { λ r. ⌜ replies (numbers r (now (value .exit)) (now (s .exit)) (now (m .exit)) (now (applications .exit))) (now (out .exit)) (now (work .exit)) ≡ replied (large n (length (now (cols .entry))) (length (now (vals .entry))) (length (now (work .entry)))) (replies (numbers 255 (now (value .entry)) (now (s .entry)) (now (m .entry)) (now (applications .entry))) (now (out .entry)) (now (work .entry))) (answering taylor-numbers (phi-combination (csr n (numbers-of (now (starts .entry))) (numbers-of (now (cols .entry))) (doubles-of (now (vals .entry)))) (given «with_mass» (doubles-of (now (mass .entry)))) tau count (doubles-of (now (w .entry))) (doubles-of (now (out .entry))) (doubles-of (now (work .entry))))) ⌝ }
 {
     let t = answer(
         PhiCall::Combination,
@@ -480,7 +537,7 @@ pub extern "C" fn hazhendu_phi_action_bytes(
     m: &mut u32,
     applications: &mut u64,
 ) -> u32
-    ensures { λ r. ⌜ replies (numbers r (now (value .exit)) (now (s .exit)) (now (m .exit)) (now (applications .exit))) (now (out .exit)) (now (work .exit)) ≡ replied (large n (length (now (starts .entry))) (length (now (cols .entry))) (length (now (vals .entry))) (length (now (mass .entry))) (length (now (v .entry))) (length (now (out .entry))) (length (now (work .entry)))) (replies (numbers 255 (now (value .entry)) (now (s .entry)) (now (m .entry)) (now (applications .entry))) (now (out .entry)) (now (work .entry))) (answering taylor-numbers (phi-action (csr n (numbers-of (now (starts .entry))) (numbers-of (now (cols .entry))) (doubles-of (now (vals .entry)))) (given «with_mass» (doubles-of (now (mass .entry)))) tau k (doubles-of (now (v .entry))) (doubles-of (now (out .entry))) (doubles-of (now (work .entry))))) ⌝ }
+    ensures { λ r. ⌜ replies (numbers r (now (value .exit)) (now (s .exit)) (now (m .exit)) (now (applications .exit))) (now (out .exit)) (now (work .exit)) ≡ replied (large n (length (now (cols .entry))) (length (now (vals .entry))) (length (now (work .entry)))) (replies (numbers 255 (now (value .entry)) (now (s .entry)) (now (m .entry)) (now (applications .entry))) (now (out .entry)) (now (work .entry))) (answering taylor-numbers (phi-action (csr n (numbers-of (now (starts .entry))) (numbers-of (now (cols .entry))) (doubles-of (now (vals .entry)))) (given «with_mass» (doubles-of (now (mass .entry)))) tau k (doubles-of (now (v .entry))) (doubles-of (now (out .entry))) (doubles-of (now (work .entry))))) ⌝ }
 {
     let t = answer(
         PhiCall::Action,
@@ -519,7 +576,7 @@ pub extern "C" fn hazhendu_phi_action_batched_bytes(
     m: &mut u32,
     applications: &mut u64,
 ) -> u32
-    ensures { λ r. ⌜ replies (numbers r (now (value .exit)) (now (s .exit)) (now (m .exit)) (now (applications .exit))) (now (out .exit)) (now (work .exit)) ≡ replied (large n (length (now (starts .entry))) (length (now (cols .entry))) (length (now (vals .entry))) (length (now (mass .entry))) (length (now (v .entry))) (length (now (out .entry))) (length (now (work .entry)))) (replies (numbers 255 (now (value .entry)) (now (s .entry)) (now (m .entry)) (now (applications .entry))) (now (out .entry)) (now (work .entry))) (answering taylor-numbers (phi-action-batched (csr n (numbers-of (now (starts .entry))) (numbers-of (now (cols .entry))) (doubles-of (now (vals .entry)))) (given «with_mass» (doubles-of (now (mass .entry)))) tau p (doubles-of (now (v .entry))) (doubles-of (now (out .entry))) (doubles-of (now (work .entry))))) ⌝ }
+    ensures { λ r. ⌜ replies (numbers r (now (value .exit)) (now (s .exit)) (now (m .exit)) (now (applications .exit))) (now (out .exit)) (now (work .exit)) ≡ replied (large n (length (now (cols .entry))) (length (now (vals .entry))) (length (now (work .entry)))) (replies (numbers 255 (now (value .entry)) (now (s .entry)) (now (m .entry)) (now (applications .entry))) (now (out .entry)) (now (work .entry))) (answering taylor-numbers (phi-action-batched (csr n (numbers-of (now (starts .entry))) (numbers-of (now (cols .entry))) (doubles-of (now (vals .entry)))) (given «with_mass» (doubles-of (now (mass .entry)))) tau p (doubles-of (now (v .entry))) (doubles-of (now (out .entry))) (doubles-of (now (work .entry))))) ⌝ }
 {
     let t = answer(
         PhiCall::Batch,
@@ -561,7 +618,7 @@ pub extern "C" fn hazhendu_phi_combination_krylov_bytes(
     matvecs: &mut usize,
     rejected: &mut usize,
 ) -> u32
-    ensures { λ r. ⌜ replies (numbers r (now (value .exit)) (now (substeps .exit)) (now (matvecs .exit)) (now (rejected .exit))) (now (out .exit)) (now (work .exit)) ≡ replied (large n (length (now (starts .entry))) (length (now (cols .entry))) (length (now (vals .entry))) (length (now (mass .entry))) (length (now (w .entry))) (length (now (out .entry))) (length (now (work .entry)))) (replies (numbers 255 (now (value .entry)) (now (substeps .entry)) (now (matvecs .entry)) (now (rejected .entry))) (now (out .entry)) (now (work .entry))) (answering krylov-numbers (phi-combination-krylov (csr n (numbers-of (now (starts .entry))) (numbers-of (now (cols .entry))) (doubles-of (now (vals .entry)))) (given «with_mass» (doubles-of (now (mass .entry)))) tau count (doubles-of (now (w .entry))) (options tol m «max_substeps») (doubles-of (now (out .entry))) (doubles-of (now (work .entry))))) ⌝ }
+    ensures { λ r. ⌜ replies (numbers r (now (value .exit)) (now (substeps .exit)) (now (matvecs .exit)) (now (rejected .exit))) (now (out .exit)) (now (work .exit)) ≡ replied (large n (length (now (cols .entry))) (length (now (vals .entry))) (length (now (work .entry)))) (replies (numbers 255 (now (value .entry)) (now (substeps .entry)) (now (matvecs .entry)) (now (rejected .entry))) (now (out .entry)) (now (work .entry))) (answering krylov-numbers (phi-combination-krylov (csr n (numbers-of (now (starts .entry))) (numbers-of (now (cols .entry))) (doubles-of (now (vals .entry)))) (given «with_mass» (doubles-of (now (mass .entry)))) tau count (doubles-of (now (w .entry))) (options tol m «max_substeps») (doubles-of (now (out .entry))) (doubles-of (now (work .entry))))) ⌝ }
 {
     let t = answer(
         PhiCall::Krylov(tol, m, max_substeps),

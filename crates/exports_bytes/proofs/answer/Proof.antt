@@ -1,61 +1,39 @@
 -- `exports_bytes::answer` meets its contract. Assumes nothing.
 use borrow.Author.Needs.{needs}
+use native.Mathlib.Omega.{arith}
 use mathlib.Core.Path.{sym, _∙_}
 use lib.Seq.{length-take-le}
+use Rattle.exports_bytes.specs.Bytes.{numbers-of, doubles-of}
 use Rattle.exports_bytes.proofs.Reply.{refused-large, not-large}
+use Rattle.exports_bytes.proofs.Cuts.{within-numbers, within-doubles, job-cut}
 use Rattle.exports_bytes.proofs.answer.Statement.{statement}
 use Rattle.exports_bytes.proofs.answer.Tie as tie
 
 returns : tie.Need-returns
 returns c = refused-large _ _ (sym (c .before .large .ensures .0) ∙ c .if1 .taken)
 
-array-borrow-prefix-starts-room : tie.Need-array-borrow-prefix-starts-room
-array-borrow-prefix-starts-room c = c .before .before .before .large .ensures .1 (c .before .before .if1 .left) .0
+slice-aggregate-in-rooms : tie.Need-slice-aggregate-in-rooms
+slice-aggregate-in-rooms c = sym (length-take-le _ _ (c .before .before .before .before .part .ensures .0))
 
-slice-aggregate-run : tie.Need-slice-aggregate-run
-slice-aggregate-run c = sym (length-take-le _ _ (c .before .before .before .before .large .ensures .1 (c .before .before .before .if1 .left) .0))
+slice-aggregate-in-rooms-2 : tie.Need-slice-aggregate-in-rooms-2
+slice-aggregate-in-rooms-2 c = sym (length-take-le _ _ (omega (arith, c .before .before .before .before .part2 .ensures .0, c .before .before .before .before .before .before .used .ensures .1)))
 
-array-borrow-prefix-cols-room : tie.Need-array-borrow-prefix-cols-room
-array-borrow-prefix-cols-room c = c .before .before .before .before .large .ensures .1 (c .before .before .before .if1 .left) .1
+slice-aggregate-in-rooms-3 : tie.Need-slice-aggregate-in-rooms-3
+slice-aggregate-in-rooms-3 c = sym (length-take-le _ _ (c .before .before .before .before .part3 .ensures .0))
 
-slice-aggregate-run-2 : tie.Need-slice-aggregate-run-2
-slice-aggregate-run-2 c = sym (length-take-le _ _ (c .before .before .before .before .before .large .ensures .1 (c .before .before .before .before .if1 .left) .1))
+slice-relend-prefix-in-rooms : tie.Need-slice-relend-prefix-in-rooms
+slice-relend-prefix-in-rooms c = c .before .before .before .part4 .ensures .0
 
-array-borrow-prefix-vals-room : tie.Need-array-borrow-prefix-vals-room
-array-borrow-prefix-vals-room c = c .before .before .before .before .before .large .ensures .1 (c .before .before .before .before .if1 .left) .2
+slice-aggregate-in-rooms-4 : tie.Need-slice-aggregate-in-rooms-4
+slice-aggregate-in-rooms-4 c = sym (length-take-le _ _ (c .before .before .before .before .part4 .ensures .0))
 
-slice-aggregate-run-3 : tie.Need-slice-aggregate-run-3
-slice-aggregate-run-3 c = sym (length-take-le _ _ (c .before .before .before .before .before .before .large .ensures .1 (c .before .before .before .before .before .if1 .left) .2))
-
-array-borrow-prefix-mass-room : tie.Need-array-borrow-prefix-mass-room
-array-borrow-prefix-mass-room c = c .before .before .before .before .before .before .large .ensures .1 (c .before .before .before .before .before .if1 .left) .3
-
-slice-aggregate-run-4 : tie.Need-slice-aggregate-run-4
-slice-aggregate-run-4 c = sym (length-take-le _ _ (c .before .before .before .before .before .before .before .large .ensures .1 (c .before .before .before .before .before .before .if1 .left) .3))
-
-array-borrow-prefix-v-room : tie.Need-array-borrow-prefix-v-room
-array-borrow-prefix-v-room c = c .before .before .before .before .before .before .before .large .ensures .1 (c .before .before .before .before .before .before .if1 .left) .4
-
-slice-aggregate-run-5 : tie.Need-slice-aggregate-run-5
-slice-aggregate-run-5 c = sym (length-take-le _ _ (c .before .before .before .before .before .before .before .before .large .ensures .1 (c .before .before .before .before .before .before .before .if1 .left) .4))
-
-array-borrow-prefix-out-room : tie.Need-array-borrow-prefix-out-room
-array-borrow-prefix-out-room c = c .before .before .before .before .before .before .before .before .large .ensures .1 (c .before .before .before .before .before .before .before .if1 .left) .5
-
-slice-aggregate-run-6 : tie.Need-slice-aggregate-run-6
-slice-aggregate-run-6 c = sym (length-take-le _ _ (c .before .before .before .before .before .before .before .before .before .large .ensures .1 (c .before .before .before .before .before .before .before .before .if1 .left) .5))
-
-array-borrow-prefix-work-room : tie.Need-array-borrow-prefix-work-room
-array-borrow-prefix-work-room c = c .before .before .before .before .before .before .before .before .before .large .ensures .1 (c .before .before .before .before .before .before .before .before .if1 .left) .6
-
-slice-aggregate-run-7 : tie.Need-slice-aggregate-run-7
-slice-aggregate-run-7 c = sym (length-take-le _ _ (c .before .before .before .before .before .before .before .before .before .before .large .ensures .1 (c .before .before .before .before .before .before .before .before .before .if1 .left) .6))
-
-run-requires : tie.Need-run-requires
-run-requires = λ c κs. (length-take-le _ _ (c .before .before .before .before .before .before .before .before .before .before .large .ensures .1 (c .before .before .before .before .before .before .before .before .before .if1 .left) .0), length-take-le _ _ (c .before .before .before .before .before .before .before .before .before .before .large .ensures .1 (c .before .before .before .before .before .before .before .before .before .if1 .left) .1), length-take-le _ _ (c .before .before .before .before .before .before .before .before .before .before .large .ensures .1 (c .before .before .before .before .before .before .before .before .before .if1 .left) .2), length-take-le _ _ (c .before .before .before .before .before .before .before .before .before .before .large .ensures .1 (c .before .before .before .before .before .before .before .before .before .if1 .left) .3), length-take-le _ _ (c .before .before .before .before .before .before .before .before .before .before .large .ensures .1 (c .before .before .before .before .before .before .before .before .before .if1 .left) .4), length-take-le _ _ (c .before .before .before .before .before .before .before .before .before .before .large .ensures .1 (c .before .before .before .before .before .before .before .before .before .if1 .left) .5), length-take-le _ _ (c .before .before .before .before .before .before .before .before .before .before .large .ensures .1 (c .before .before .before .before .before .before .before .before .before .if1 .left) .6))
+in-rooms-requires : tie.Need-in-rooms-requires
+in-rooms-requires = λ c κs. (within-numbers (c .before .before .before .before .before .before .before .before .before .before .before .before .before .before .before .before .before .before .before .args .starts .now) (c .before .before .before .before .before .before .before .before .part .ensures .0) (c .before .before .before .before .before .before .before .before .part .ensures .1), c .before .before .before .before .before .before .before .before .before .before .before .large .ensures .1 (c .before .before .before .before .before .before .before .before .before .before .if1 .left) .1, c .before .before .before .before .before .before .before .before .before .before .before .large .ensures .1 (c .before .before .before .before .before .before .before .before .before .before .if1 .left) .2, within-doubles (c .before .before .before .before .before .before .before .before .before .before .before .before .before .before .before .before .before .before .before .args .mass .now) (omega (arith, c .before .before .before .before .before .before .before .part2 .ensures .0, c .before .before .before .before .before .before .before .before .before .used .ensures .1)) (c .before .before .before .before .before .before .before .part2 .ensures .1), within-doubles (c .before .before .before .before .before .before .before .before .before .before .before .before .before .before .before .before .before .before .before .args .v .now) (c .before .before .before .before .before .before .part3 .ensures .0) (c .before .before .before .before .before .before .part3 .ensures .1), within-doubles (c .before .before .before .before .before .before .before .before .before .before .before .before .before .before .before .before .before .before .before .args .out .now) (c .before .before .before .before .before .part4 .ensures .0) (c .before .before .before .before .before .part4 .ensures .1), c .before .before .before .before .before .before .before .before .before .before .before .large .ensures .1 (c .before .before .before .before .before .before .before .before .before .before .if1 .left) .3)
 
 returns-2 : tie.Need-returns-2
-returns-2 c = not-large _ _ (sym (c .before .before .before .before .before .before .before .before .before .before .before .before .before .before .before .before .before .before .before .before .before .before .large .ensures .0) ∙ c .before .before .before .before .before .before .before .before .before .before .before .before .before .before .before .before .before .before .before .before .before .if1 .left) (c .before .before .before .before .before .before .before .before .before .before .before .run .ensures)
+returns-2 c = let a = c .before .before .before .before .before .before .before .before .before .before .before .before .before .before .before .before .before .before .before .before .before .before .before .before .before .args in
+    not-large _ _ (sym (c .before .before .before .before .before .before .before .before .before .before .before .before .before .before .before .before .before .large .ensures .0) ∙ c .before .before .before .before .before .before .before .before .before .before .before .before .before .before .before .before .if1 .left)
+    (job-cut (a .call) (a .n) (numbers-of (a .cols .now)) (doubles-of (a .vals .now)) (a .tau) (a .k) (doubles-of (a .work .now)) (c .before .before .before .before .before .before .before .before .before .before .before .before .before .before .before .before .before .large .ensures .1 (c .before .before .before .before .before .before .before .before .before .before .before .before .before .before .before .before .if1 .left) .0) (a .with-mass) (a .starts .now) (a .mass .now) (a .v .now) (a .out .now) (a .work .now) (c .before .before .before .before .before .before .before .before .before .before .before .before .before .before .before .used .result) (c .before .before .before .before .before .in-rooms .result) (c .reported .result) (λ i. omega (arith, c .before .before .before .before .before .before .before .before .before .before .before .before .before .before .before .before .before .before .before .slice-known .given i)) (c .before .before .before .before .before .before .before .before .before .before .before .before .before .before .before .used .ensures .0) (c .before .before .before .before .before .before .before .before .before .before .before .before .before .before .part .ensures .2) (c .before .before .before .before .before .before .before .before .before .before .before .before .before .part2 .ensures .2) (c .before .before .before .before .before .before .before .before .before .before .before .before .part3 .ensures .2) (c .before .before .before .before .before .before .before .before .before .before .before .part4 .ensures .2) (c .before .before .before .before .before .in-rooms .ensures) (c .reported .ensures))
 
 pub answer-spec : {M : Type 1} → statement M
 answer-spec =
@@ -63,21 +41,18 @@ answer-spec =
     (tie.spec
     (λ c κs. search needs)
     returns
-    array-borrow-prefix-starts-room
-    slice-aggregate-run
-    array-borrow-prefix-cols-room
-    slice-aggregate-run-2
-    array-borrow-prefix-vals-room
-    slice-aggregate-run-3
-    array-borrow-prefix-mass-room
-    slice-aggregate-run-4
-    array-borrow-prefix-v-room
-    slice-aggregate-run-5
-    array-borrow-prefix-out-room
-    slice-aggregate-run-6
-    array-borrow-prefix-work-room
-    slice-aggregate-run-7
-    run-requires
+    (λ c κs. search needs)
+    (λ c κs. search needs)
+    (λ c κs. search needs)
+    (λ c κs. search needs)
+    (λ c κs. search needs)
+    slice-aggregate-in-rooms
+    slice-aggregate-in-rooms-2
+    slice-aggregate-in-rooms-3
+    slice-relend-prefix-in-rooms
+    slice-aggregate-in-rooms-4
+    in-rooms-requires
+    (λ c κs. search needs)
     (λ c. search needs)
     (λ c. search needs)
     returns-2)
