@@ -1,13 +1,9 @@
 //! Jobs: every short matrix, random jobs, jobs around the boundaries, and damaged copies of good ones. Most have at
 //! most 64 rows, 512 entries and 4,096 doubles of working memory.
 
-use jobs::{Call, Job};
+use jobs::{Call, Job, ENTRIES, ROWS, SPECIAL, WORK};
 
 use crate::random::Random;
-
-pub const ROWS: usize = 64;
-pub const ENTRIES: usize = 512;
-pub const WORK: usize = 4096;
 
 #[derive(Clone, Copy, PartialEq)]
 pub enum Kind {
@@ -22,36 +18,8 @@ pub const KINDS: [Kind; 4] = [Kind::Combination, Kind::Krylov, Kind::Action, Kin
 /// Radii of the plan (expmv.rs, `THETA_M`): arguments near s of them are boundaries.
 const THETA: [f64; 8] = [1.091, 1.260, 1.438, 2.429, 3.540, 0.6411, 9.305e-1, 2.996e-1];
 
-const SPECIAL: [f64; 20] = [
-    0.0,
-    -0.0,
-    1.0,
-    -1.0,
-    0.5,
-    5e-324,
-    -5e-324,
-    f64::MIN_POSITIVE,
-    2.225_073_858_507_201e-308,
-    f64::EPSILON,
-    1e-300,
-    1e-160,
-    1e154,
-    1e160,
-    1e300,
-    f64::MAX,
-    f64::MIN,
-    f64::INFINITY,
-    f64::NEG_INFINITY,
-    f64::NAN,
-];
-
 /// How many jobs [`short`] numbers.
 pub const SHORT: usize = 3 * 40 * 13 * 13;
-
-/// A job that the functions on bytes refuse by 255.
-pub fn large(job: &Job) -> bool {
-    job.n > ROWS || job.cols.len() > ENTRIES || job.vals.len() > ENTRIES || job.work > WORK
-}
 
 /// Every matrix of at most two rows, three row starts, two columns and two entries of a few values each.
 pub fn short(kind: Kind, index: usize) -> Job {

@@ -2,11 +2,11 @@
 
 mod generate;
 mod random;
-mod reference;
 
 use std::collections::BTreeMap;
 use std::process::ExitCode;
 
+use compare::{reference, Difference, Expected};
 use generate::{Kind, KINDS};
 use jobs::{Answer, Call, Job};
 use random::Random;
@@ -97,7 +97,7 @@ fn job(o: &Options, i: usize) -> Job {
     let kind = o.kinds[i % o.kinds.len()];
     let index = i / o.kinds.len();
     let short = index / 4;
-    if index % 4 == 0 && short < generate::SHORT {
+    if index.is_multiple_of(4) && short < generate::SHORT {
         generate::short(kind, short)
     } else {
         generate::random(kind, &mut Random::of(o.seed, i))
@@ -182,59 +182,30 @@ fn run(o: &Options) -> bool {
 }
 
 fn one(o: &Options, job: &Job, index: usize, t: &mut Tally) {
-    let call = match job.call {
-        Call::Combination => "combination",
-        Call::Krylov { .. } => "krylov",
-        Call::Action => "action",
-        Call::Batched => "batched",
-    };
-    transcribed::probe::take_hits();
-    let Some(bits) = reference::answer(job, |j| transcribed::answer(j, o.cost)) else {
+    let Some(expected) = compare::expected(job, o.cost) else {
         t.costly += 1;
         return;
     };
-    *t.numbers.entry((bits.number, call)).or_default() += 1;
-    let paths = transcribed::probe::take_hits();
-    if o.find.as_ref().is_some_and(|f| *f == bits.number.to_string() || paths.contains_key(f.as_str())) {
-        println!("{}", job.print());
+    count(o, job, &expected, t);
+    if o.libm && expected.transcribed {
+        own_libm(o, job, &expected.answer, t);
     }
-    for path in paths.into_keys() {
-        *t.paths.entry(path).or_default() += 1;
-    }
-    let krylov = matches!(job.call, Call::Krylov { .. });
-    // Taylor without a shift is compared with the Rust as it is
-    let shifted = bits.number == 0 && bits.value != 0.0;
-    let plain = if o.libm || !(krylov || shifted) { reference::answer(job, |j| oracle::answer(j, u64::MAX)) } else { None };
-    if let (true, Some(own)) = (krylov || shifted, &plain) {
-        let parts = own.differs(&bits);
-        t.libm_compared += 1;
-        if !parts.is_empty() {
-            t.libm_different += 1;
-            *t.libm_parts.entry(parts.join(", ")).or_default() += 1;
-            if own.number == 0 && bits.number == 0 {
-                t.libm_largest = t.libm_largest.max(distance(&own.out, &bits.out));
-            }
-            show(o, t.libm_different, "own libm", job, &parts, own, &bits);
-        }
-    }
-    let expected = if krylov || shifted { bits } else { plain.unwrap() };
-    t.compared += 1;
-    t.above_64_rows += u64::from(job.n > generate::ROWS);
-    let got = library::answer(job);
-    let parts = got.differs(&expected);
-    if !parts.is_empty() {
+    for difference in compare::library(job, &expected.answer, index) {
         t.different += 1;
-        show(o, t.different, "rattle", job, &parts, &got, &expected);
+        show(o, t.different, &difference, job);
     }
-    let large = generate::large(job);
-    *(if large { &mut t.large_on_bytes } else { &mut t.on_bytes }) += 1;
-    let expected = if large { job.large() } else { expected };
-    let got = library::answer_on_bytes(job, index);
-    let parts = got.as_ref().map_or(vec!["a byte behind the last whole element"], |a| a.differs(&expected));
-    if !parts.is_empty() {
-        t.different += 1;
-        show(o, t.different, "rattle on bytes", job, &parts, &got.unwrap_or_else(|| job.large()), &expected);
+}
+
+/// Sums up where the Rust with its own libm differs from the transcribed.
+fn own_libm(o: &Options, job: &Job, transcribed: &Answer, t: &mut Tally) {
+    t.libm_compared += 1;
+    let Some(difference) = compare::own_libm(job, transcribed) else { return };
+    t.libm_different += 1;
+    *t.libm_parts.entry(difference.parts.join(", ")).or_default() += 1;
+    if difference.got.number == 0 && transcribed.number == 0 {
+        t.libm_largest = t.libm_largest.max(distance(&difference.got.out, &transcribed.out));
     }
+    show(o, t.libm_different, &difference, job);
 }
 
 /// The largest difference of two fields, relative to the largest value of the second.
@@ -248,9 +219,33 @@ fn distance(a: &[f64], b: &[f64]) -> f64 {
     }
 }
 
-fn show(o: &Options, count: u64, side: &str, job: &Job, parts: &[&str], got: &Answer, expected: &Answer) {
+/// Counts a job that is compared, and prints one that is looked for.
+fn count(o: &Options, job: &Job, expected: &Expected, t: &mut Tally) {
+    let number = expected.answer.number;
+    if o.find.as_ref().is_some_and(|f| *f == number.to_string() || expected.paths.contains(&f.as_str())) {
+        println!("{}", job.print());
+    }
+    *t.numbers.entry((number, call_name(job))).or_default() += 1;
+    for path in &expected.paths {
+        *t.paths.entry(path).or_default() += 1;
+    }
+    t.compared += 1;
+    t.above_64_rows += u64::from(job.n > jobs::ROWS);
+    *(if job.is_large() { &mut t.large_on_bytes } else { &mut t.on_bytes }) += 1;
+}
+
+fn call_name(job: &Job) -> &'static str {
+    match job.call {
+        Call::Combination => "combination",
+        Call::Krylov { .. } => "krylov",
+        Call::Action => "action",
+        Call::Batched => "batched",
+    }
+}
+
+fn show(o: &Options, count: u64, difference: &Difference, job: &Job) {
     if count <= o.show as u64 {
-        println!("{side} differs in {}:\n  job  {}\n  {side} {}\n  rust {}", parts.join(", "), job.print(), got.print(), expected.print());
+        println!("{}", difference.print(job));
     }
 }
 

@@ -22,6 +22,7 @@ impl Random {
     }
 
     /// From a to b, both included.
+    #[allow(clippy::wrong_self_convention)]
     pub fn from_to(&mut self, a: i64, b: i64) -> i64 {
         a + self.below((b - a + 1) as usize) as i64
     }

@@ -19,6 +19,35 @@
 //! Before a call, element i of the output holds [`mark`] i, element i of the working memory `mark` (2^32 + i). In an
 //! answer `.` stands for an element that still holds its mark, and `*k` after one for k equal ones.
 
+/// The largest job that the functions on bytes take: rows, entries, doubles of working memory.
+pub const ROWS: usize = 64;
+pub const ENTRIES: usize = 512;
+pub const WORK: usize = 4096;
+
+/// Doubles at the ends of their ranges, and those that are no finite number last.
+pub const SPECIAL: [f64; 20] = [
+    0.0,
+    -0.0,
+    1.0,
+    -1.0,
+    0.5,
+    5e-324,
+    -5e-324,
+    f64::MIN_POSITIVE,
+    2.225_073_858_507_201e-308,
+    f64::EPSILON,
+    1e-300,
+    1e-160,
+    1e154,
+    1e160,
+    1e300,
+    f64::MAX,
+    f64::MIN,
+    f64::INFINITY,
+    f64::NEG_INFINITY,
+    f64::NAN,
+];
+
 #[derive(Clone, Copy, Debug, PartialEq)]
 pub enum Call {
     Combination,
@@ -91,7 +120,7 @@ impl Job {
         // A length beyond all memory saturates: no slice has it.
         let (n, d, m) = (n as u128, d as u128, m as u128);
         let columns = match self.call {
-            Call::Krylov { .. } => n + (m + 3).saturating_mul(n + d).saturating_add((m + 2).saturating_mul(m + 2)),
+            Call::Krylov { .. } => (m + 3).saturating_mul(n + d).saturating_add((m + 2).saturating_mul(m + 2)).saturating_add(n),
             _ => 3 * n + 2 * d,
         };
         let entries = if self.mass.is_some() { self.vals.len() as u128 } else { 0 };
@@ -125,6 +154,11 @@ impl Job {
     /// The answer of a refusal that changes no lent memory.
     pub fn refused(&self, number: u32, value: f64) -> Answer {
         Answer { number, value, counts: [0; 3], out: self.marked_out(), work: self.marked_work() }
+    }
+
+    /// Whether the functions on bytes refuse it by 255.
+    pub fn is_large(&self) -> bool {
+        self.n > ROWS || self.cols.len() > ENTRIES || self.vals.len() > ENTRIES || self.work > WORK
     }
 
     /// What a function on bytes answers to a job that is too large for it: nothing is changed, the numbers included.

@@ -1,33 +1,23 @@
 //! On byte slices: numbers as four bytes and doubles as eight, lowest first.
 
+use std::iter::repeat_n;
+
 use jobs::{Answer, Job};
 
-use crate::{called, exported, told};
+use crate::{called, exported, told, Slices};
 
 exported!(hazhendu_phi_combination_bytes, u8, u8, [], u32, u32, u64);
 exported!(hazhendu_phi_action_bytes, u8, u8, [], u32, u32, u64);
 exported!(hazhendu_phi_action_batched_bytes, u8, u8, [], u32, u32, u64);
 exported!(hazhendu_phi_combination_krylov_bytes, u8, u8, [tol: f64, m: usize, max_substeps: usize], usize, usize, usize);
 
-struct Slices {
-    starts: Vec<u8>,
-    cols: Vec<u8>,
-    vals: Vec<u8>,
-    mass: Vec<u8>,
-    w: Vec<u8>,
-}
-
 /// The doubles' bytes, and `tail` more that make no whole element.
-fn doubles(list: &[f64], tail: usize) -> Vec<u8> {
-    let mut bytes: Vec<u8> = list.iter().flat_map(|x| x.to_le_bytes()).collect();
-    bytes.resize(8 * list.len() + tail % 8, 0xa5);
-    bytes
+fn doubles(list: &[f64], tail: usize) -> Box<[u8]> {
+    list.iter().flat_map(|x| x.to_le_bytes()).chain(repeat_n(0xa5, tail % 8)).collect()
 }
 
-fn numbers(list: &[u32], tail: usize) -> Vec<u8> {
-    let mut bytes: Vec<u8> = list.iter().flat_map(|x| x.to_le_bytes()).collect();
-    bytes.resize(4 * list.len() + tail % 4, 0xa5);
-    bytes
+fn numbers(list: &[u32], tail: usize) -> Box<[u8]> {
+    list.iter().flat_map(|x| x.to_le_bytes()).chain(repeat_n(0xa5, tail % 4)).collect()
 }
 
 fn whole_doubles(bytes: &[u8]) -> Vec<f64> {
@@ -35,7 +25,7 @@ fn whole_doubles(bytes: &[u8]) -> Vec<f64> {
 }
 
 /// The answer, output and working memory marked beforehand; `None` if a byte behind the last whole element was written. `tail`
-/// tells how many such bytes each slice has.
+/// tells how many such bytes each slice has. Every slice is a heap block of just its length.
 pub fn answer(job: &Job, tail: usize) -> Option<Answer> {
     let s = Slices {
         starts: numbers(&job.starts, tail),

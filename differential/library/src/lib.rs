@@ -16,6 +16,15 @@ pub struct Told {
     pub counts: [u64; 3],
 }
 
+/// The slices that a job lends to be read.
+struct Slices<N, D> {
+    starts: N,
+    cols: N,
+    vals: D,
+    mass: D,
+    w: D,
+}
+
 /// Declares one exported function on slices of `$u32` and `$f64`: a slice is a pointer and a length, a `&mut` number a pointer.
 macro_rules! exported {
     ($name:ident, $u32:ty, $f64:ty, [$($option:ident: $option_type:ty),*], $a:ty, $b:ty, $c:ty) => {

@@ -1,32 +1,45 @@
 //! Straight on slices of u32 and doubles.
 
+use std::ops::Deref;
+
 use jobs::{Answer, Job};
 
-use crate::{called, exported, told, Told};
+use crate::{called, exported, told, Slices, Told};
 
 exported!(hazhendu_phi_combination, u32, f64, [], u32, u32, u64);
 exported!(hazhendu_phi_action, u32, f64, [], u32, u32, u64);
 exported!(hazhendu_phi_action_batched, u32, f64, [], u32, u32, u64);
 exported!(hazhendu_phi_combination_krylov, u32, f64, [tol: f64, m: usize, max_substeps: usize], usize, usize, usize);
 
-struct Slices<'a> {
-    starts: &'a [u32],
-    cols: &'a [u32],
-    vals: &'a [f64],
-    mass: &'a [f64],
-    w: &'a [f64],
-}
-
 /// The call alone.
 pub fn call(job: &Job, out: &mut [f64], work: &mut [f64]) -> Told {
-    let s = Slices { starts: &job.starts, cols: &job.cols, vals: &job.vals, mass: job.mass.as_deref().unwrap_or(&[]), w: &job.w };
+    put(job, &lent::<&[u32], &[f64]>(job), out, work)
+}
+
+/// The job's lists, borrowed or copied.
+fn lent<'a, N: From<&'a [u32]>, D: From<&'a [f64]>>(job: &'a Job) -> Slices<N, D> {
+    Slices {
+        starts: N::from(&job.starts),
+        cols: N::from(&job.cols),
+        vals: D::from(&job.vals),
+        mass: D::from(job.mass.as_deref().unwrap_or(&[])),
+        w: D::from(&job.w),
+    }
+}
+
+fn put<N, D>(job: &Job, s: &Slices<N, D>, out: &mut [f64], work: &mut [f64]) -> Told
+where
+    N: Deref<Target = [u32]>,
+    D: Deref<Target = [f64]>,
+{
     told!(job, s, out, work, hazhendu_phi_combination, hazhendu_phi_action, hazhendu_phi_action_batched, hazhendu_phi_combination_krylov)
 }
 
-/// The answer, output and working memory marked beforehand.
+/// The answer, output and working memory marked beforehand. Every slice is a heap block of just its length, so that a
+/// memory checker sees an access beyond it.
 pub fn answer(job: &Job) -> Answer {
-    let mut out = job.marked_out();
-    let mut work = job.marked_work();
-    let told = call(job, &mut out, &mut work);
-    Answer { number: told.number, value: told.value, counts: told.counts, out, work }
+    let mut out = job.marked_out().into_boxed_slice();
+    let mut work = job.marked_work().into_boxed_slice();
+    let told = put(job, &lent::<Box<[u32]>, Box<[f64]>>(job), &mut out, &mut work);
+    Answer { number: told.number, value: told.value, counts: told.counts, out: out.into_vec(), work: work.into_vec() }
 }

@@ -1,5 +1,6 @@
 //! The reference answer of a job: the Rust's where the job is in its domain, and where document 01 adds a refusal
-//! (3, 9, 16, 20, 26, and 15 of the action calls) that number, unless the Rust refuses by a lower one.
+//! (3, 9, 16, 20, 26, and 15 of the action calls) that number, unless the Rust refuses by a lower one. So too where there
+//! would be more vectors (12) than a slice of slices can hold.
 
 use jobs::{Answer, Call, Job};
 
@@ -11,6 +12,9 @@ pub fn added(job: &Job) -> Option<(u32, f64)> {
     }
     if job.mass.is_some() && job.starts.first().is_some_and(|&s| s != 0) {
         return Some((9, f64::NAN));
+    }
+    if !action && job.count > LONGEST {
+        return Some((12, job.count as f64));
     }
     if action && job.out != job.output() {
         return Some((15, job.out as f64));
@@ -32,7 +36,7 @@ const LONGEST: usize = 1 << 24;
 /// A job that passes or fails the checks below the added refusal's as `job` does, and that the Rust takes.
 fn tamed(job: &Job, number: u32) -> Job {
     let mut t = job.clone();
-    if number <= 9 {
+    if number <= 12 {
         // only the checks of the matrix count
         t.call = Call::Action;
         t.count = 4;
@@ -41,7 +45,7 @@ fn tamed(job: &Job, number: u32) -> Job {
         t.w = vec![0.0; t.vectors().min(LONGEST)];
     }
     if matches!(t.call, Call::Action | Call::Batched) {
-        t.out = t.output().min(LONGEST);
+        t.out = t.output().min(t.n.saturating_mul(4)).min(LONGEST);
     }
     if let Call::Krylov { m, limit, .. } = &mut t.call {
         *m = (*m).min(2);

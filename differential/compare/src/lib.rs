@@ -1,0 +1,72 @@
+//! One job put to the Rust original and to the proved library, the answers compared bit for bit.
+
+pub mod reference;
+
+use jobs::{Answer, Call, Job};
+
+/// What the Rust answers.
+pub struct Expected {
+    pub answer: Answer,
+    /// Krylov and shifted Taylor: the transcribed Rust's answer. Taylor without a shift: that of the Rust as it is.
+    pub transcribed: bool,
+    /// The paths that the transcribed Rust took.
+    pub paths: Vec<&'static str>,
+}
+
+/// An answer other than the expected one.
+pub struct Difference {
+    pub side: &'static str,
+    pub parts: Vec<&'static str>,
+    pub got: Answer,
+    pub expected: Answer,
+}
+
+impl Difference {
+    fn of(side: &'static str, got: Answer, expected: &Answer) -> Option<Difference> {
+        let parts = got.differs(expected);
+        (!parts.is_empty()).then(|| Difference { side, parts, got, expected: expected.clone() })
+    }
+
+    pub fn print(&self, job: &Job) -> String {
+        let (side, parts, job) = (self.side, self.parts.join(", "), job.print());
+        format!("{side} differs in {parts}:\n  job  {job}\n  {side} {}\n  rust {}", self.got.print(), self.expected.print())
+    }
+}
+
+/// What the library has to answer; `None` where the run takes more than `cost` operations.
+pub fn expected(job: &Job, cost: u64) -> Option<Expected> {
+    transcribed::probe::take_hits();
+    let answer = reference::answer(job, |j| transcribed::answer(j, cost))?;
+    let paths = transcribed::probe::take_hits().into_keys().collect();
+    let shifted = answer.number == 0 && answer.value != 0.0;
+    let transcribed = shifted || matches!(job.call, Call::Krylov { .. });
+    let answer = if transcribed { answer } else { unaltered(job) };
+    Some(Expected { answer, transcribed, paths })
+}
+
+/// The answer of the Rust as it is.
+fn unaltered(job: &Job) -> Answer {
+    reference::answer(job, |j| oracle::answer(j, u64::MAX)).expect("an answer at any cost")
+}
+
+/// Where the Rust with its own libm differs from the transcribed.
+pub fn own_libm(job: &Job, transcribed: &Answer) -> Option<Difference> {
+    Difference::of("own libm", unaltered(job), transcribed)
+}
+
+/// Where the library differs, on slices and on bytes; `tail` tells how many bytes stand behind the last whole element.
+pub fn library(job: &Job, expected: &Answer, tail: usize) -> Vec<Difference> {
+    Difference::of("rattle", library::answer(job), expected).into_iter().chain(on_bytes(job, expected, tail)).collect()
+}
+
+fn on_bytes(job: &Job, expected: &Answer, tail: usize) -> Option<Difference> {
+    let side = "rattle on bytes";
+    let expected = if job.is_large() { &job.large() } else { expected };
+    match library::answer_on_bytes(job, tail) {
+        Some(got) => Difference::of(side, got, expected),
+        None => {
+            let parts = vec!["a byte behind the last whole element"];
+            Some(Difference { side, parts, got: job.large(), expected: expected.clone() })
+        }
+    }
+}
