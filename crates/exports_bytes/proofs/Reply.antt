@@ -7,16 +7,21 @@ use lib.Ieee.{Float}
 use Rattle.combination.specs.Call.{Call, ends}
 use Rattle.exports.specs.Told.{Numbers}
 use Rattle.exports_bytes.specs.Bytes.{written-over}
-use Rattle.exports_bytes.specs.Replies.{Reply, replies, replied}
+use Rattle.exports_bytes.specs.Replies.{Reply, replies, packed, replied}
 
-pub packed : {t : Numbers} {f g : List Float} (out work : List ℕ) {out₁ work₁ : List ℕ} (u : Numbers) (call : Call Numbers) → ends t f g ≡ call → out₁ ≡ written-over f out → work₁ ≡ written-over g work → replies t out₁ work₁ ≡ replied false (replies u out work) call
-unfolding replied
-packed {t} {f} {g} out work u call e eo ew = (λ i. replies t (eo i) (ew i)) ∙ ap (replied false (replies u out work)) e
+pub packing : {t : Numbers} {f g : List Float} (out work : List ℕ) {out₁ work₁ : List ℕ} (call : Call Numbers) → ends t f g ≡ call → out₁ ≡ written-over f out → work₁ ≡ written-over g work → replies t out₁ work₁ ≡ packed call out work
+packing {t} {f} {g} out work call e eo ew = (λ i. replies t (eo i) (ew i)) ∙ ap (λ c. packed c out work) e
 
 -- by whether the job is large
 pub refused-large : {large : Bool} (r : Reply) (call : Call Numbers) → large ≡ true → r ≡ replied large r call
 unfolding replied
 refused-large r call e = rw e
 
-pub not-large : {large : Bool} {r : Reply} (u : Reply) (call : Call Numbers) → large ≡ false → r ≡ replied false u call → r ≡ replied large u call
+pub not-large : {large : Bool} {r : Reply} (u : Reply) (call : Call Numbers) → large ≡ false → r ≡ packed call (u .output) (u .memory) → r ≡ replied large u call
+unfolding replied
 not-large u call e d = rw e d
+
+-- the same numbers, and those that a large job keeps
+pub kept : {t₁ t u₁ u : Numbers} {out₁ work₁ : List ℕ} (large : Bool) (out work : List ℕ) (call : Call Numbers) → t₁ ≡ t → u₁ ≡ u → replies t out₁ work₁ ≡ replied large (replies u₁ out work) call → replies t₁ out₁ work₁ ≡ replied large (replies u out work) call
+kept {out₁ = out₁} {work₁ = work₁} large out work call et eu e =
+    ap (λ x. replies x out₁ work₁) et ∙ e ∙ ap (λ x. replied large (replies x out work) call) eu

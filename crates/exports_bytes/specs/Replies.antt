@@ -11,12 +11,14 @@ use lib.Ieee.{Float}
 use Rattle.general_operator.specs.Csr.{Csr}
 use Rattle.generator_action.specs.Mass.{Mass}
 use Rattle.combination.specs.Call.{Call}
-use Rattle.phi_action.specs.declared.TaylorAnswer.{TaylorAnswer}
 use Rattle.phi_action.specs.Calls.{phi-combination, phi-action, phi-action-batched}
-use Rattle.exports.specs.Told.{Numbers}
+use Rattle.phi_krylov.specs.KrylovCall.{phi-combination-krylov}
+use Rattle.phi_krylov.specs.Combine.{answering}
+use Rattle.exports.specs.Told.{Numbers, numbers, taylor-numbers, krylov-numbers, options}
 use Rattle.exports_bytes.specs.Bytes.{written-over}
-use Rattle.exports_bytes.specs.declared.TaylorCall.{TaylorCall}
-use Rattle.exports_bytes.specs.declared.TaylorCall.the-variants.{Combination, Action, Batch}
+use Rattle.exports_bytes.specs.declared.Told.{Told}
+use Rattle.exports_bytes.specs.declared.PhiCall.{PhiCall}
+use Rattle.exports_bytes.specs.declared.PhiCall.the-variants.{Combination, Action, Batch, Krylov}
 
 -- by the rows and the lengths of the slices in bytes
 unfoldable pub large : ℕ → ℕ → ℕ → ℕ → ℕ → ℕ → ℕ → ℕ → Bool
@@ -36,13 +38,31 @@ pub record Reply : Type 0 where
 abbrev pub replies : Numbers → List ℕ → List ℕ → Reply
 replies t output memory = record { told = t; output = output; memory = memory }
 
--- a large job changes nothing; of any other the answer's numbers, and output and memory written over the bytes handed in
+-- the answer's numbers, and output and memory written over the bytes handed in
+abbrev pub packed : Call Numbers → List ℕ → List ℕ → Reply
+packed c output memory = replies (c .answer) (written-over (c .output) output) (written-over (c .memory) memory)
+
+-- a large job changes nothing
 unfoldable pub replied : Bool → Reply → Call Numbers → Reply
 replied true unchanged c = unchanged
-replied false unchanged c = replies (c .answer) (written-over (c .output) (unchanged .output)) (written-over (c .memory) (unchanged .memory))
+replied false unchanged c = packed c (unchanged .output) (unchanged .memory)
 
--- the three Taylor calls (phi_action.rs)
-unfoldable pub taylor : TaylorCall → Csr → Mass → Float → ℕ → List Float → List Float → List Float → Call TaylorAnswer
-taylor Combination = phi-combination
-taylor Action = phi-action
-taylor Batch = phi-action-batched
+-- the numbers of a Taylor call and those of a Krylov call
+abbrev pub taylor-told : Told → Numbers
+taylor-told t = numbers (t .number) (t .value) (t .s) (t .m) (t .applications)
+
+abbrev pub krylov-told : Told → Numbers
+krylov-told t = numbers (t .number) (t .value) (t .substeps) (t .matvecs) (t .rejected)
+
+unfoldable pub told : PhiCall → Told → Numbers
+told Combination = taylor-told
+told Action = taylor-told
+told Batch = taylor-told
+told (Krylov tol m limit) = krylov-told
+
+-- the four calls, told as numbers
+unfoldable pub called : PhiCall → Csr → Mass → Float → ℕ → List Float → List Float → List Float → Call Numbers
+called Combination a mass tau k v output memory = answering taylor-numbers (phi-combination a mass tau k v output memory)
+called Action a mass tau k v output memory = answering taylor-numbers (phi-action a mass tau k v output memory)
+called Batch a mass tau k v output memory = answering taylor-numbers (phi-action-batched a mass tau k v output memory)
+called (Krylov tol m limit) a mass tau k v output memory = answering krylov-numbers (phi-combination-krylov a mass tau k v (options tol m limit) output memory)

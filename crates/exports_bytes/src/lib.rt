@@ -1,4 +1,7 @@
 // The library for the differential driver: on numbers and bytes, unpacked into local arrays.
+use phi_action::TaylorAnswer;
+use phi_krylov::KrylovAnswer;
+use phi_krylov::KrylovPhiOptions;
 ghost use mathlib.Core.Path.{_≡_};
 ghost use mathlib.Core.Bool.{_&&_, false};
 ghost use Prim.Native.Nat.{_+_, _*_, _/_, _≤_, _<_};
@@ -9,17 +12,31 @@ ghost use Rattle.lists.specs.Window.{splice};
 ghost use Rattle.general_operator.specs.Csr.{csr};
 ghost use Rattle.generator_action.specs.Mass.{given};
 ghost use Rattle.combination.specs.Call.{ends};
+ghost use Rattle.phi_action.specs.Calls.{phi-combination, phi-action, phi-action-batched};
+ghost use Rattle.phi_krylov.specs.KrylovCall.{phi-combination-krylov};
 ghost use Rattle.phi_krylov.specs.Combine.{answering};
-ghost use Rattle.exports.specs.Told.{numbers, taylor-numbers};
-ghost use Rattle.exports_bytes.specs.declared.TaylorCall.the-variants.{Combination, Action, Batch};
-ghost use Rattle.exports_bytes.specs.Replies.{large, replies, replied, taylor};
+ghost use Rattle.exports.specs.Told.{numbers, taylor-numbers, krylov-numbers, options};
+ghost use Rattle.exports_bytes.specs.Replies.{large, replies, packed, replied, taylor-told, krylov-told, told, called};
 ghost use Rattle.exports_bytes.specs.Bytes.{half, word, double-at, numbers-of, doubles-of, byte-over, written-over};
 
-// Which of the Taylor calls.
-enum TaylorCall {
+// Which call; of Krylov with tol, m and max_substeps.
+enum PhiCall {
     Combination,
     Action,
     Batch,
+    Krylov(f64, usize, usize),
+}
+
+// What is handed back as numbers: the counts of a Taylor call, or those of a Krylov call.
+struct Told {
+    number: u32,
+    value: f64,
+    s: u32,
+    m: u32,
+    applications: u64,
+    substeps: usize,
+    matvecs: usize,
+    rejected: usize,
 }
 
 fn byte(b: &[u8], k: usize) -> u64
@@ -152,8 +169,56 @@ fn large(
     work / 8 > 4096
 }
 
+fn told_taylor(number: u32, value: f64, s: u32, m: u32, applications: u64) -> Told
+    ensures { λ r. ⌜ taylor-told r ≡ numbers number value s m applications ⌝ }
+{
+    Told {
+        number: number,
+        value: value,
+        s: s,
+        m: m,
+        applications: applications,
+        substeps: 0,
+        matvecs: 0,
+        rejected: 0,
+    }
+}
+
+fn told_krylov(number: u32, value: f64, substeps: usize, matvecs: usize, rejected: usize) -> Told
+    ensures { λ r. ⌜ krylov-told r ≡ numbers number value substeps matvecs rejected ⌝ }
+{
+    Told {
+        number: number,
+        value: value,
+        s: 0,
+        m: 0,
+        applications: 0,
+        substeps: substeps,
+        matvecs: matvecs,
+        rejected: rejected,
+    }
+}
+
+fn of_taylor(answer: TaylorAnswer) -> Told
+    ensures { λ r. ⌜ taylor-told r ≡ taylor-numbers answer ⌝ }
+{
+    match answer {
+        TaylorAnswer::Refusal(k, x) => told_taylor(k, x, 0, 0, 0),
+        TaylorAnswer::Soaked(r) => told_taylor(0, r.mu, r.s, r.m, r.applications),
+    }
+}
+
+fn of_krylov(answer: KrylovAnswer) -> Told
+    ensures { λ r. ⌜ krylov-told r ≡ krylov-numbers answer ⌝ }
+{
+    match answer {
+        KrylovAnswer::Refusal(k, x) => told_krylov(k, x, 0, 0, 0),
+        KrylovAnswer::Soaked(r) => told_krylov(0, r.est_error, r.substeps, r.matvecs, r.rejected),
+    }
+}
+
 fn solve(
-    call: TaylorCall,
+    call: PhiCall,
     n: usize,
     starts: &[u32],
     cols: &[u32],
@@ -165,15 +230,11 @@ fn solve(
     v: &[f64],
     out: &mut [f64],
     work: &mut [f64],
-    value: &mut f64,
-    s: &mut u32,
-    m: &mut u32,
-    applications: &mut u64,
-) -> u32
-    ensures { λ r. ⌜ ends (numbers r (now (value .exit)) (now (s .exit)) (now (m .exit)) (now (applications .exit))) (now (out .exit)) (now (work .exit)) ≡ answering taylor-numbers (taylor call (csr n (now (starts .entry)) (now (cols .entry)) (now (vals .entry))) (given «with_mass» (now (mass .entry))) tau k (now (v .entry)) (now (out .entry)) (now (work .entry))) ⌝ }
+) -> Told
+    ensures { λ r. ⌜ ends (told call r) (now (out .exit)) (now (work .exit)) ≡ called call (csr n (now (starts .entry)) (now (cols .entry)) (now (vals .entry))) (given «with_mass» (now (mass .entry))) tau k (now (v .entry)) (now (out .entry)) (now (work .entry)) ⌝ }
 {
     match call {
-        TaylorCall::Combination => exports::hazhendu_phi_combination(
+        PhiCall::Combination => of_taylor(phi_action::phi_combination(
             n,
             starts,
             cols,
@@ -185,12 +246,8 @@ fn solve(
             v,
             out,
             work,
-            value,
-            s,
-            m,
-            applications,
-        ),
-        TaylorCall::Action => exports::hazhendu_phi_action(
+        )),
+        PhiCall::Action => of_taylor(phi_action::phi_action(
             n,
             starts,
             cols,
@@ -202,12 +259,8 @@ fn solve(
             v,
             out,
             work,
-            value,
-            s,
-            m,
-            applications,
-        ),
-        TaylorCall::Batch => exports::hazhendu_phi_action_batched(
+        )),
+        PhiCall::Batch => of_taylor(phi_action::phi_action_batched(
             n,
             starts,
             cols,
@@ -219,17 +272,31 @@ fn solve(
             v,
             out,
             work,
-            value,
-            s,
-            m,
-            applications,
-        ),
+        )),
+        PhiCall::Krylov(tol, m, limit) => of_krylov(phi_krylov::phi_combination_krylov(
+            n,
+            starts,
+            cols,
+            vals,
+            with_mass,
+            mass,
+            tau,
+            k,
+            v,
+            KrylovPhiOptions {
+                tol: tol,
+                m: m,
+                max_substeps: limit,
+            },
+            out,
+            work,
+        )),
     }
 }
 
 // The slices unpacked into exactly the room that they need, the call, and what it leaves packed.
 fn run(
-    call: TaylorCall,
+    call: PhiCall,
     n: usize,
     starts: &[u8],
     cols: &[u8],
@@ -241,10 +308,6 @@ fn run(
     v: &[u8],
     out: &mut [u8],
     work: &mut [u8],
-    value: &mut f64,
-    s: &mut u32,
-    m: &mut u32,
-    applications: &mut u64,
     starts_room: &mut [u32],
     cols_room: &mut [u32],
     vals_room: &mut [f64],
@@ -252,9 +315,9 @@ fn run(
     v_room: &mut [f64],
     out_room: &mut [f64],
     work_room: &mut [f64],
-) -> u32
+) -> Told
     requires { ⌜ (length (now «starts_room») ≡ length (now starts) / 4) × (length (now «cols_room») ≡ length (now cols) / 4) × (length (now «vals_room») ≡ length (now vals) / 8) × (length (now «mass_room») ≡ length (now mass) / 8) × (length (now «v_room») ≡ length (now v) / 8) × (length (now «out_room») ≡ length (now out) / 8) × (length (now «work_room») ≡ length (now work) / 8) ⌝ }
-    ensures { λ r. ⌜ replies (numbers r (now (value .exit)) (now (s .exit)) (now (m .exit)) (now (applications .exit))) (now (out .exit)) (now (work .exit)) ≡ replied false (replies (numbers 255 (now (value .entry)) (now (s .entry)) (now (m .entry)) (now (applications .entry))) (now (out .entry)) (now (work .entry))) (answering taylor-numbers (taylor call (csr n (numbers-of (now (starts .entry))) (numbers-of (now (cols .entry))) (doubles-of (now (vals .entry)))) (given «with_mass» (doubles-of (now (mass .entry)))) tau k (doubles-of (now (v .entry))) (doubles-of (now (out .entry))) (doubles-of (now (work .entry))))) ⌝ }
+    ensures { λ r. ⌜ replies (told call r) (now (out .exit)) (now (work .exit)) ≡ packed (called call (csr n (numbers-of (now (starts .entry))) (numbers-of (now (cols .entry))) (doubles-of (now (vals .entry)))) (given «with_mass» (doubles-of (now (mass .entry)))) tau k (doubles-of (now (v .entry))) (doubles-of (now (out .entry))) (doubles-of (now (work .entry)))) (now (out .entry)) (now (work .entry)) ⌝ }
 {
     unpack_numbers(starts, starts_room);
     unpack_numbers(cols, cols_room);
@@ -263,7 +326,7 @@ fn run(
     unpack_doubles(v, v_room);
     unpack_doubles(out, out_room);
     unpack_doubles(work, work_room);
-    let number = solve(
+    let answer = solve(
         call,
         n,
         starts_room,
@@ -276,19 +339,15 @@ fn run(
         v_room,
         out_room,
         work_room,
-        value,
-        s,
-        m,
-        applications,
     );
     pack_doubles(out_room, out);
     pack_doubles(work_room, work);
-    number
+    answer
 }
 
-// 255 for a large job.
+// A large job gets what it `was`.
 fn answer(
-    call: TaylorCall,
+    call: PhiCall,
     n: usize,
     starts: &[u8],
     cols: &[u8],
@@ -300,12 +359,9 @@ fn answer(
     v: &[u8],
     out: &mut [u8],
     work: &mut [u8],
-    value: &mut f64,
-    s: &mut u32,
-    m: &mut u32,
-    applications: &mut u64,
-) -> u32
-    ensures { λ r. ⌜ replies (numbers r (now (value .exit)) (now (s .exit)) (now (m .exit)) (now (applications .exit))) (now (out .exit)) (now (work .exit)) ≡ replied (large n (length (now (starts .entry))) (length (now (cols .entry))) (length (now (vals .entry))) (length (now (mass .entry))) (length (now (v .entry))) (length (now (out .entry))) (length (now (work .entry)))) (replies (numbers 255 (now (value .entry)) (now (s .entry)) (now (m .entry)) (now (applications .entry))) (now (out .entry)) (now (work .entry))) (answering taylor-numbers (taylor call (csr n (numbers-of (now (starts .entry))) (numbers-of (now (cols .entry))) (doubles-of (now (vals .entry)))) (given «with_mass» (doubles-of (now (mass .entry)))) tau k (doubles-of (now (v .entry))) (doubles-of (now (out .entry))) (doubles-of (now (work .entry))))) ⌝ }
+    was: Told,
+) -> Told
+    ensures { λ r. ⌜ replies (told call r) (now (out .exit)) (now (work .exit)) ≡ replied (large n (length (now (starts .entry))) (length (now (cols .entry))) (length (now (vals .entry))) (length (now (mass .entry))) (length (now (v .entry))) (length (now (out .entry))) (length (now (work .entry)))) (replies (told call was) (now (out .entry)) (now (work .entry))) (called call (csr n (numbers-of (now (starts .entry))) (numbers-of (now (cols .entry))) (doubles-of (now (vals .entry)))) (given «with_mass» (doubles-of (now (mass .entry)))) tau k (doubles-of (now (v .entry))) (doubles-of (now (out .entry))) (doubles-of (now (work .entry)))) ⌝ }
 {
     if large(
         n,
@@ -317,7 +373,7 @@ fn answer(
         out.len(),
         work.len(),
     ) {
-        return 255;
+        return was;
     }
     let mut starts_room = [0u32; 512];
     let mut cols_room = [0u32; 512];
@@ -346,10 +402,6 @@ fn answer(
         v,
         out,
         work,
-        value,
-        s,
-        m,
-        applications,
         &mut starts_room[..starts_count],
         &mut cols_room[..cols_count],
         &mut vals_room[..vals_count],
@@ -360,7 +412,17 @@ fn answer(
     )
 }
 
-// `phi_action::phi_combination`; `k` is its number of vectors.
+fn tell_taylor(t: Told, value: &mut f64, s: &mut u32, m: &mut u32, applications: &mut u64) -> u32
+    ensures { λ r. ⌜ numbers r (now (value .exit)) (now (s .exit)) (now (m .exit)) (now (applications .exit)) ≡ taylor-told t ⌝ }
+{
+    *value = t.value;
+    *s = t.s;
+    *m = t.m;
+    *applications = t.applications;
+    t.number
+}
+
+// `phi_action::phi_combination`.
 #[no_mangle]
 pub extern "C" fn hazhendu_phi_combination_bytes(
     n: usize,
@@ -370,8 +432,8 @@ pub extern "C" fn hazhendu_phi_combination_bytes(
     with_mass: bool,
     mass: &[u8],
     tau: f64,
-    k: usize,
-    v: &[u8],
+    count: usize,
+    w: &[u8],
     out: &mut [u8],
     work: &mut [u8],
     value: &mut f64,
@@ -379,10 +441,10 @@ pub extern "C" fn hazhendu_phi_combination_bytes(
     m: &mut u32,
     applications: &mut u64,
 ) -> u32
-    ensures { λ r. ⌜ replies (numbers r (now (value .exit)) (now (s .exit)) (now (m .exit)) (now (applications .exit))) (now (out .exit)) (now (work .exit)) ≡ replied (large n (length (now (starts .entry))) (length (now (cols .entry))) (length (now (vals .entry))) (length (now (mass .entry))) (length (now (v .entry))) (length (now (out .entry))) (length (now (work .entry)))) (replies (numbers 255 (now (value .entry)) (now (s .entry)) (now (m .entry)) (now (applications .entry))) (now (out .entry)) (now (work .entry))) (answering taylor-numbers (taylor Combination (csr n (numbers-of (now (starts .entry))) (numbers-of (now (cols .entry))) (doubles-of (now (vals .entry)))) (given «with_mass» (doubles-of (now (mass .entry)))) tau k (doubles-of (now (v .entry))) (doubles-of (now (out .entry))) (doubles-of (now (work .entry))))) ⌝ }
+    ensures { λ r. ⌜ replies (numbers r (now (value .exit)) (now (s .exit)) (now (m .exit)) (now (applications .exit))) (now (out .exit)) (now (work .exit)) ≡ replied (large n (length (now (starts .entry))) (length (now (cols .entry))) (length (now (vals .entry))) (length (now (mass .entry))) (length (now (w .entry))) (length (now (out .entry))) (length (now (work .entry)))) (replies (numbers 255 (now (value .entry)) (now (s .entry)) (now (m .entry)) (now (applications .entry))) (now (out .entry)) (now (work .entry))) (answering taylor-numbers (phi-combination (csr n (numbers-of (now (starts .entry))) (numbers-of (now (cols .entry))) (doubles-of (now (vals .entry)))) (given «with_mass» (doubles-of (now (mass .entry)))) tau count (doubles-of (now (w .entry))) (doubles-of (now (out .entry))) (doubles-of (now (work .entry))))) ⌝ }
 {
-    answer(
-        TaylorCall::Combination,
+    let t = answer(
+        PhiCall::Combination,
         n,
         starts,
         cols,
@@ -390,18 +452,16 @@ pub extern "C" fn hazhendu_phi_combination_bytes(
         with_mass,
         mass,
         tau,
-        k,
-        v,
+        count,
+        w,
         out,
         work,
-        value,
-        s,
-        m,
-        applications,
-    )
+        told_taylor(255, *value, *s, *m, *applications),
+    );
+    tell_taylor(t, value, s, m, applications)
 }
 
-// `phi_action::phi_action`; `k` is its index.
+// `phi_action::phi_action`.
 #[no_mangle]
 pub extern "C" fn hazhendu_phi_action_bytes(
     n: usize,
@@ -420,10 +480,10 @@ pub extern "C" fn hazhendu_phi_action_bytes(
     m: &mut u32,
     applications: &mut u64,
 ) -> u32
-    ensures { λ r. ⌜ replies (numbers r (now (value .exit)) (now (s .exit)) (now (m .exit)) (now (applications .exit))) (now (out .exit)) (now (work .exit)) ≡ replied (large n (length (now (starts .entry))) (length (now (cols .entry))) (length (now (vals .entry))) (length (now (mass .entry))) (length (now (v .entry))) (length (now (out .entry))) (length (now (work .entry)))) (replies (numbers 255 (now (value .entry)) (now (s .entry)) (now (m .entry)) (now (applications .entry))) (now (out .entry)) (now (work .entry))) (answering taylor-numbers (taylor Action (csr n (numbers-of (now (starts .entry))) (numbers-of (now (cols .entry))) (doubles-of (now (vals .entry)))) (given «with_mass» (doubles-of (now (mass .entry)))) tau k (doubles-of (now (v .entry))) (doubles-of (now (out .entry))) (doubles-of (now (work .entry))))) ⌝ }
+    ensures { λ r. ⌜ replies (numbers r (now (value .exit)) (now (s .exit)) (now (m .exit)) (now (applications .exit))) (now (out .exit)) (now (work .exit)) ≡ replied (large n (length (now (starts .entry))) (length (now (cols .entry))) (length (now (vals .entry))) (length (now (mass .entry))) (length (now (v .entry))) (length (now (out .entry))) (length (now (work .entry)))) (replies (numbers 255 (now (value .entry)) (now (s .entry)) (now (m .entry)) (now (applications .entry))) (now (out .entry)) (now (work .entry))) (answering taylor-numbers (phi-action (csr n (numbers-of (now (starts .entry))) (numbers-of (now (cols .entry))) (doubles-of (now (vals .entry)))) (given «with_mass» (doubles-of (now (mass .entry)))) tau k (doubles-of (now (v .entry))) (doubles-of (now (out .entry))) (doubles-of (now (work .entry))))) ⌝ }
 {
-    answer(
-        TaylorCall::Action,
+    let t = answer(
+        PhiCall::Action,
         n,
         starts,
         cols,
@@ -435,14 +495,12 @@ pub extern "C" fn hazhendu_phi_action_bytes(
         v,
         out,
         work,
-        value,
-        s,
-        m,
-        applications,
-    )
+        told_taylor(255, *value, *s, *m, *applications),
+    );
+    tell_taylor(t, value, s, m, applications)
 }
 
-// `phi_action::phi_action_batched`; `k` is its last index.
+// `phi_action::phi_action_batched`.
 #[no_mangle]
 pub extern "C" fn hazhendu_phi_action_batched_bytes(
     n: usize,
@@ -452,7 +510,7 @@ pub extern "C" fn hazhendu_phi_action_batched_bytes(
     with_mass: bool,
     mass: &[u8],
     tau: f64,
-    k: usize,
+    p: usize,
     v: &[u8],
     out: &mut [u8],
     work: &mut [u8],
@@ -461,10 +519,10 @@ pub extern "C" fn hazhendu_phi_action_batched_bytes(
     m: &mut u32,
     applications: &mut u64,
 ) -> u32
-    ensures { λ r. ⌜ replies (numbers r (now (value .exit)) (now (s .exit)) (now (m .exit)) (now (applications .exit))) (now (out .exit)) (now (work .exit)) ≡ replied (large n (length (now (starts .entry))) (length (now (cols .entry))) (length (now (vals .entry))) (length (now (mass .entry))) (length (now (v .entry))) (length (now (out .entry))) (length (now (work .entry)))) (replies (numbers 255 (now (value .entry)) (now (s .entry)) (now (m .entry)) (now (applications .entry))) (now (out .entry)) (now (work .entry))) (answering taylor-numbers (taylor Batch (csr n (numbers-of (now (starts .entry))) (numbers-of (now (cols .entry))) (doubles-of (now (vals .entry)))) (given «with_mass» (doubles-of (now (mass .entry)))) tau k (doubles-of (now (v .entry))) (doubles-of (now (out .entry))) (doubles-of (now (work .entry))))) ⌝ }
+    ensures { λ r. ⌜ replies (numbers r (now (value .exit)) (now (s .exit)) (now (m .exit)) (now (applications .exit))) (now (out .exit)) (now (work .exit)) ≡ replied (large n (length (now (starts .entry))) (length (now (cols .entry))) (length (now (vals .entry))) (length (now (mass .entry))) (length (now (v .entry))) (length (now (out .entry))) (length (now (work .entry)))) (replies (numbers 255 (now (value .entry)) (now (s .entry)) (now (m .entry)) (now (applications .entry))) (now (out .entry)) (now (work .entry))) (answering taylor-numbers (phi-action-batched (csr n (numbers-of (now (starts .entry))) (numbers-of (now (cols .entry))) (doubles-of (now (vals .entry)))) (given «with_mass» (doubles-of (now (mass .entry)))) tau p (doubles-of (now (v .entry))) (doubles-of (now (out .entry))) (doubles-of (now (work .entry))))) ⌝ }
 {
-    answer(
-        TaylorCall::Batch,
+    let t = answer(
+        PhiCall::Batch,
         n,
         starts,
         cols,
@@ -472,13 +530,57 @@ pub extern "C" fn hazhendu_phi_action_batched_bytes(
         with_mass,
         mass,
         tau,
-        k,
+        p,
         v,
         out,
         work,
-        value,
-        s,
-        m,
-        applications,
-    )
+        told_taylor(255, *value, *s, *m, *applications),
+    );
+    tell_taylor(t, value, s, m, applications)
+}
+
+// `phi_krylov::phi_combination_krylov`.
+#[no_mangle]
+pub extern "C" fn hazhendu_phi_combination_krylov_bytes(
+    n: usize,
+    starts: &[u8],
+    cols: &[u8],
+    vals: &[u8],
+    with_mass: bool,
+    mass: &[u8],
+    tau: f64,
+    count: usize,
+    w: &[u8],
+    tol: f64,
+    m: usize,
+    max_substeps: usize,
+    out: &mut [u8],
+    work: &mut [u8],
+    value: &mut f64,
+    substeps: &mut usize,
+    matvecs: &mut usize,
+    rejected: &mut usize,
+) -> u32
+    ensures { λ r. ⌜ replies (numbers r (now (value .exit)) (now (substeps .exit)) (now (matvecs .exit)) (now (rejected .exit))) (now (out .exit)) (now (work .exit)) ≡ replied (large n (length (now (starts .entry))) (length (now (cols .entry))) (length (now (vals .entry))) (length (now (mass .entry))) (length (now (w .entry))) (length (now (out .entry))) (length (now (work .entry)))) (replies (numbers 255 (now (value .entry)) (now (substeps .entry)) (now (matvecs .entry)) (now (rejected .entry))) (now (out .entry)) (now (work .entry))) (answering krylov-numbers (phi-combination-krylov (csr n (numbers-of (now (starts .entry))) (numbers-of (now (cols .entry))) (doubles-of (now (vals .entry)))) (given «with_mass» (doubles-of (now (mass .entry)))) tau count (doubles-of (now (w .entry))) (options tol m «max_substeps») (doubles-of (now (out .entry))) (doubles-of (now (work .entry))))) ⌝ }
+{
+    let t = answer(
+        PhiCall::Krylov(tol, m, max_substeps),
+        n,
+        starts,
+        cols,
+        vals,
+        with_mass,
+        mass,
+        tau,
+        count,
+        w,
+        out,
+        work,
+        told_krylov(255, *value, *substeps, *matvecs, *rejected),
+    );
+    *value = t.value;
+    *substeps = t.substeps;
+    *matvecs = t.matvecs;
+    *rejected = t.rejected;
+    t.number
 }

@@ -1,20 +1,26 @@
 -- `exports_bytes::solve` meets its contract. Assumes nothing.
 use borrow.Author.Needs.{needs}
-use Rattle.exports_bytes.specs.Replies.{taylor}
+use Rattle.phi_krylov.proofs.Dispatch.{answered}
+use Rattle.exports.specs.Told.{taylor-numbers, krylov-numbers}
+use Rattle.exports_bytes.specs.Replies.{told, called}
 use Rattle.exports_bytes.proofs.solve.Statement.{statement}
 use Rattle.exports_bytes.proofs.solve.Tie as tie
 
 returns : tie.Need-returns
-unfolding taylor
-returns c = rw (c .before .before .before .before .before .before .before .before .before .before .before .enum-told .given .1) (c .before .before .before .before .hazhendu-phi-combination .ensures)
+unfolding told called
+returns c = rw (c .before .before .before .before .before .before .before .before .enum-told .given .1) (answered taylor-numbers _ (c .of-taylor .ensures) (c .before .before .before .before .before .phi-combination .ensures))
 
 returns-2 : tie.Need-returns-2
-unfolding taylor
-returns-2 c = rw (c .before .before .before .before .before .before .before .before .before .before .before .enum-told2 .given .1) (c .before .before .before .before .hazhendu-phi-action .ensures)
+unfolding told called
+returns-2 c = rw (c .before .before .before .before .before .before .before .before .enum-told2 .given .1) (answered taylor-numbers _ (c .of-taylor2 .ensures) (c .before .before .before .before .before .phi-action .ensures))
 
 returns-3 : tie.Need-returns-3
-unfolding taylor
-returns-3 c = rw (c .before .before .before .before .before .before .before .before .before .before .before .enum-told3 .given .1) (c .before .before .before .before .hazhendu-phi-action-batched .ensures)
+unfolding told called
+returns-3 c = rw (c .before .before .before .before .before .before .before .before .enum-told3 .given .1) (answered taylor-numbers _ (c .of-taylor3 .ensures) (c .before .before .before .before .before .phi-action-batched .ensures))
+
+returns-4 : tie.Need-returns-4
+unfolding told called
+returns-4 c = rw (c .before .before .before .before .before .before .before .before .before .call .given .1) (answered krylov-numbers _ (c .of-krylov .ensures) (c .before .before .before .before .before .phi-combination-krylov .ensures))
 
 pub solve-spec : {M : Type 1} → statement M
 solve-spec =
@@ -22,9 +28,15 @@ solve-spec =
     (tie.spec
     (λ c. search needs)
     (λ c κs. search needs)
-    (λ c. search needs)
     (λ c κs. search needs)
     (λ c. search needs)
+    (λ c κs. search needs)
+    (λ c κs. search needs)
+    (λ c. search needs)
+    (λ c κs. search needs)
+    (λ c κs. search needs)
+    (λ c. search needs)
+    (λ c κs. search needs)
     (λ c κs. search needs)
     (λ c. search needs)
     (λ c. search needs)
@@ -34,4 +46,7 @@ solve-spec =
     returns-2
     (λ c. search needs)
     (λ c. search needs)
-    returns-3)
+    returns-3
+    (λ c. search needs)
+    (λ c. search needs)
+    returns-4)
