@@ -3,7 +3,8 @@
 
     crates/replay/make.py
 
-asks the Rust original through differential/run, so the Rust sources have to be at hand (differential/README.md). The
+asks the Rust original through differential/run, so the Rust sources have to be at hand (differential/README.md); a word
+behind it names a driver that is built already (differential/target/release/differential). The
 jobs of the first section are those of differential/replay.jobs and differential/paths.jobs, of the second those of
 differential/documents.jobs. Taylor without a shift is answered by the Rust as it is, shifted Taylor and Krylov by the
 Rust with document 01's last three items transcribed. Where the comment above a job ends in ': NUMBER', that has to be
@@ -194,7 +195,8 @@ def main():
     names = ["answers of the Rust", "boundary jobs", "published values", "in all"]
     counts = [len(s) for s in sections]
     told = [f"{name}: {count} replayed, 0 different\n" for name, count in zip(names, counts + [sum(counts)])]
-    (HERE / "stdout").write_text("".join(told))
+    # document 01: m 128 accepted, 129 refused, by 20
+    (HERE / "stdout").write_text("".join(told) + "n = 200: m 128 gives 0, m 129 gives 20\n")
 
 
 main()

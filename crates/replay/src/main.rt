@@ -1,5 +1,5 @@
 // Replays a fixed list of answers through the exports on byte slices, and says how many differ. `make.py` writes the list
-// and describes its form. Output and working memory hold bytes of 90 before a call.
+// and describes its form. Before a call the double and the counts are 90, and so is every byte of output and working memory.
 use exports_bytes::double_at;
 use exports_bytes::half_at;
 use exports_bytes::pattern;
@@ -104,10 +104,10 @@ fn ask_combination(
     out: &mut [u8],
     work: &mut [u8],
 ) -> Answer {
-    let mut value = 0.0f64;
-    let mut s = 0u32;
-    let mut m = 0u32;
-    let mut applications = 0u64;
+    let mut value = 90.0f64;
+    let mut s = 90u32;
+    let mut m = 90u32;
+    let mut applications = 90u64;
     let number = exports_bytes::hazhendu_phi_combination_bytes(
         job.n,
         starts,
@@ -144,10 +144,10 @@ fn ask_action(
     out: &mut [u8],
     work: &mut [u8],
 ) -> Answer {
-    let mut value = 0.0f64;
-    let mut s = 0u32;
-    let mut m = 0u32;
-    let mut applications = 0u64;
+    let mut value = 90.0f64;
+    let mut s = 90u32;
+    let mut m = 90u32;
+    let mut applications = 90u64;
     let number = exports_bytes::hazhendu_phi_action_bytes(
         job.n,
         starts,
@@ -184,10 +184,10 @@ fn ask_batched(
     out: &mut [u8],
     work: &mut [u8],
 ) -> Answer {
-    let mut value = 0.0f64;
-    let mut s = 0u32;
-    let mut m = 0u32;
-    let mut applications = 0u64;
+    let mut value = 90.0f64;
+    let mut s = 90u32;
+    let mut m = 90u32;
+    let mut applications = 90u64;
     let number = exports_bytes::hazhendu_phi_action_batched_bytes(
         job.n,
         starts,
@@ -224,10 +224,10 @@ fn ask_krylov(
     out: &mut [u8],
     work: &mut [u8],
 ) -> Answer {
-    let mut value = 0.0f64;
-    let mut substeps = 0usize;
-    let mut matvecs = 0usize;
-    let mut rejected = 0usize;
+    let mut value = 90.0f64;
+    let mut substeps = 90usize;
+    let mut matvecs = 90usize;
+    let mut rejected = 90usize;
     let number = exports_bytes::hazhendu_phi_combination_krylov_bytes(
         job.n,
         starts,
@@ -314,8 +314,8 @@ fn part(b: &[u8], from: usize, to: usize) -> &[u8] {
     &b[from..to]
 }
 
-// Whether the parts of a body of this size follow one another.
-fn in_order(head: &[u8], size: usize) -> bool
+// Whether the parts of the body follow one another, and no more memory is cleared than there is.
+fn in_order(head: &[u8]) -> bool
     requires { ⌜ 168 ≤ length (now head) ⌝ }
 {
     if word_at(head, 64) > word_at(head, 72) {
@@ -330,7 +330,7 @@ fn in_order(head: &[u8], size: usize) -> bool
     if word_at(head, 88) > word_at(head, 96) {
         return false;
     }
-    word_at(head, 96) <= size as u64
+    word_at(head, 120) <= word_at(head, 112)
 }
 
 fn last_word(b: &[u8]) -> u64 {
@@ -385,7 +385,7 @@ fn replay_on(head: &[u8], body: &[u8], out: &mut [u8], work: &mut [u8], publishe
 fn replay_in(head: &[u8], body: &[u8], out: &mut [u8], work: &mut [u8], published: bool) -> bool
     requires { ⌜ 168 ≤ length (now head) ⌝ }
 {
-    if !in_order(head, body.len()) {
+    if !in_order(head) {
         return false;
     }
     let w = word_at(head, 96) as usize;
@@ -439,12 +439,17 @@ fn replay_next(published: bool) -> bool {
     false
 }
 
+// How many records follow; none where the list is damaged.
 fn read_count() -> u32 {
     let mut four = [0u8; 4];
     if io::read_full(0, &mut four) < 4 {
         return 0;
     }
-    half_at(&four, 0) as u32
+    let count = half_at(&four, 0);
+    if count > 10000 {
+        return 0;
+    }
+    count as u32
 }
 
 fn print_section(name: &[u8], replayed: u32, different: u32, first: u32) {
@@ -479,6 +484,43 @@ fn replay_section(name: &[u8], published: bool) -> Count {
     }
 }
 
+// 200 rows with no entries and one vector, on slices: a job too large for the exports on bytes.
+fn ask_200(starts: &[u32], w: &[f64], m: usize, out: &mut [f64], work: &mut [f64]) -> u32 {
+    let mut value = 90.0f64;
+    let mut substeps = 90usize;
+    let mut matvecs = 90usize;
+    let mut rejected = 90usize;
+    exports::hazhendu_phi_combination_krylov(
+        200,
+        starts,
+        &starts[..0],
+        &w[..0],
+        false,
+        &w[..0],
+        1.0,
+        1,
+        w,
+        1.0e-10,
+        m,
+        100,
+        out,
+        work,
+        &mut value,
+        &mut substeps,
+        &mut matvecs,
+        &mut rejected,
+    )
+}
+
+// With the memory that M = 128 needs.
+fn number_200(m: usize) -> u32 {
+    let starts = [0u32; 201];
+    let w = [1.0f64; 200];
+    let mut out = [90.0f64; 200];
+    let mut work = [90.0f64; 43300];
+    ask_200(&starts, &w, m, &mut out, &mut work)
+}
+
 fn main() {
     let a = replay_section(b"answers of the Rust: ", false);
     let b = replay_section(b"boundary jobs: ", false);
@@ -490,5 +532,9 @@ fn main() {
         1,
         a.different as u64 + b.different as u64 + c.different as u64,
     );
-    io::write_all(1, b" different\n");
+    io::write_all(1, b" different\nn = 200: m 128 gives ");
+    io::print_decimal(1, number_200(128) as u64);
+    io::write_all(1, b", m 129 gives ");
+    io::print_decimal(1, number_200(129) as u64);
+    io::write_all(1, b"\n");
 }
