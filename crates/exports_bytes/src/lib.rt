@@ -46,7 +46,7 @@ fn byte(b: &[u8], k: usize) -> u64
     b[k] as u64
 }
 
-fn half_at(b: &[u8], k: usize) -> u64
+pub fn half_at(b: &[u8], k: usize) -> u64
     requires { ⌜ k + 4 ≤ length (now b) ⌝ }
     ensures { λ r. ⌜ (r ≡ half (now (b .entry)) k) × (r < 4294967296) ⌝ }
 {
@@ -63,14 +63,14 @@ fn double(w: u64) -> f64
     f64::from_bits(w)
 }
 
-fn double_at(b: &[u8], k: usize) -> f64
+pub fn double_at(b: &[u8], k: usize) -> f64
     requires { ⌜ k + 8 ≤ length (now b) ⌝ }
     ensures { λ r. ⌜ r ≡ double-at (now (b .entry)) k ⌝ }
 {
     double(half_at(b, k) + 4294967296 * half_at(b, k + 4))
 }
 
-fn pattern(x: f64) -> u64
+pub fn pattern(x: f64) -> u64
     ensures { λ r. ⌜ r ≡ toBits binary64 x ⌝ }
 {
     if x != x {
