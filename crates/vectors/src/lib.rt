@@ -84,7 +84,7 @@ fn no_lanes() -> Lanes
     }
 }
 
-// The partial sums joined in pairs, and the n products from index 4 m.
+// The partial sums of all whole blocks joined in pairs, then what is left over.
 fn joined(acc: Lanes, x: &[f64], y: &[f64]) -> f64
     requires { ⌜ length (now x) ≡ length (now y) ⌝ }
     requires { ⌜ acc ≡ lanes (now x) (now y) (length (now x) / 4) ⌝ }
