@@ -3,6 +3,7 @@
 
 #include <math.h>
 #include <stdio.h>
+#include <string.h>
 
 enum { N = 4, ENTRIES = 10, COUNT = 2, KRYLOV_M = 30, WORK = 128 };
 
@@ -50,6 +51,31 @@ static uint32_t soak_krylov(double tau, size_t m, size_t max_substeps, double *o
     return number;
 }
 
+static uint32_t check(size_t entries)
+{
+    double value;
+    size_t row;
+    uint32_t number = hazhendu_check_generator(N, starts, N + 1, cols, entries, vals, entries, true, mass, N, &value, &row);
+    if (number == HAZHENDU_ACCEPTED)
+        printf("matrix: norm %.17g, row %zu\n", value, row);
+    else
+        printf("matrix: refused, number %u, double %g\n", number, value);
+    return number;
+}
+
+/* The same job by either solver must give what that solver's own call gave. */
+static bool same_by_choice(bool krylov, const double *field, double *work, size_t work_len)
+{
+    double value, out[N];
+    uint64_t first, second, third;
+    uint32_t number = hazhendu_combine(
+        N, starts, N + 1, cols, ENTRIES, vals, ENTRIES, true, mass, N, 60, COUNT, w, COUNT * N, krylov, 1e-10, KRYLOV_M, 100000,
+        out, N, work, work_len, &value, &first, &second, &third);
+    printf("combine: number %u, double %.17g, %llu, %llu, %llu\n", number, value, (unsigned long long)first, (unsigned long long)second,
+        (unsigned long long)third);
+    return memcmp(out, field, sizeof out) == 0;
+}
+
 int main(void)
 {
     double work[WORK];
@@ -57,6 +83,10 @@ int main(void)
     size_t taylor_work = hazhendu_taylor_work(N, ENTRIES, true, COUNT);
     size_t krylov_work = hazhendu_krylov_work(N, ENTRIES, true, COUNT, KRYLOV_M);
     if (taylor_work > WORK || krylov_work > WORK)
+        return 1;
+
+    printf("the matrix, and one with an entry fewer\n");
+    if (check(ENTRIES) != HAZHENDU_ACCEPTED || check(ENTRIES - 1) != HAZHENDU_ENTRY_COUNT)
         return 1;
 
     printf("temperatures above the room after 60 s, in K\n");
@@ -69,6 +99,8 @@ int main(void)
     for (size_t i = 0; i < N; i++)
         if (!(fabs(taylor[i] - krylov[i]) <= 1e-8))
             return 1;
+    if (!same_by_choice(false, taylor, work, taylor_work) || !same_by_choice(true, krylov, work, krylov_work))
+        return 1;
 
     printf("a time that is negative\n");
     if (soak_taylor(-1, taylor, work, taylor_work) != HAZHENDU_TAU_RANGE)

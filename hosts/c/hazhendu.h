@@ -1,5 +1,5 @@
 /*
- * Hazhendu: heat soak by phi-functions. The four exported calls of the proved library for C and C++ on x86-64 Linux.
+ * Hazhendu: heat soak by phi-functions. The exported calls of the proved library for C and C++ on x86-64 Linux.
  *
  * Link with target/staticlib/libexports.a, which `rt staticlib exports` writes (or `hosts/library`); hosts/c/run shows how.
  *
@@ -8,9 +8,11 @@
  *
  * The matrix A has n rows and n columns. The generator is G = -A, or with a mass G = -A with each row divided by its mass.
  *
- *   hazhendu_phi_combination, hazhendu_phi_combination_krylov:  the sum over k of tau^k phi_k(tau G) w_k, for 1 to 4 vectors w_0, w_1, ...
+ *   hazhendu_phi_combination, hazhendu_phi_combination_krylov,
+ *   hazhendu_combine (either of the two, as asked):              the sum over k of tau^k phi_k(tau G) w_k, for 1 to 4 vectors w_0, w_1, ...
  *   hazhendu_phi_action:                                         phi_k(tau G) v
  *   hazhendu_phi_action_batched:                                 phi_0(tau G) v, phi_1(tau G) v, ..., phi_p(tau G) v
+ *   hazhendu_check_generator:                                    the norm of G, which is the largest sum of the sizes in a row, and a row that has it
  *
  * phi_0 is the exponential, and phi_k(z) = (phi_{k-1}(z) - 1/(k-1)!) / z. For heat, C dT/dt = -A T + q with T = T_0 at time 0, A in W/K,
  * the heat capacities C in J/K and the power q in W: the mass is C, w_0 = T_0, w_1 = q / C, and the sum is T at time tau. A power that
@@ -30,6 +32,7 @@
  *   w, w_len              the vectors one after the other, count * n numbers
  *   k, p                  the index of a phi-function, 0 to 3
  *   v, v_len              one vector of n numbers, which may be infinite or NaN
+ *   krylov                hazhendu_combine: whether Krylov is asked for; if not, Taylor is, and tol, m and max_substeps are not looked at
  *   tol                   Krylov: the accuracy wanted, relative to the norm of the start, strictly between 0 and 1 (1e-10, say)
  *   m                     Krylov: columns of a substep (30, say); M, which is m brought into the range from 2 to max(2, n + count - 1),
  *                         may be at most 128
@@ -40,11 +43,13 @@
  * and what a call tells, each written at every call:
  *
  *   value                 accepted: mu, the shift of the Taylor plan (0 for none), or Krylov's estimated error, relative to the norm of the
- *                         start; refused: the refusal's double
+ *                         start, or the norm of a matrix that is checked; refused: the refusal's double
+ *   row                   a row whose sum is the norm, from 0; 0 if the matrix is refused
  *   s, plan_m             Taylor's plan: sweeps, and the degree to which each goes
  *   applications          Taylor: products with G that were made, over all functions of a batch
  *   substeps, matvecs,    Krylov: substeps accepted, products with G, and lengths rejected. The counts of a refused job are 0.
  *   rejected
+ *   first, second, third  hazhendu_combine: s, plan_m and applications of Taylor; substeps, matvecs and rejected of Krylov
  *
  * The result is 0, or the number of a refusal (enum hazhendu_refusal).
  *
@@ -54,7 +59,7 @@
  * - A slice is a pointer and the number of its elements. The pointer must not be null and must be aligned for its element type, even if
  *   the length is 0; all elements of the length must be readable, those of out and work writable too.
  * - out, work and the places of the numbers told must overlap neither each other nor anything else that is handed in.
- * - with_mass is 0 or 1.
+ * - with_mass and krylov are 0 or 1.
  *
  * Nothing else is asked: every input gets a result or a refusal, and no call allocates, stops the program or keeps anything. Calls in
  * several threads do not disturb each other. A call cannot be interrupted, and may take long: Taylor makes s * m products with G,
@@ -65,7 +70,9 @@
  *
  *   accepted           out is the answer; the needed length of work holds +0, the rest is unchanged
  *   refused, 1 to 26   out and work are unchanged
- *   refused, 27 to 29  out is the state after the last accepted substep (w_0 if there was none), the needed length of work holds +0
+ *   refused, 27 to 29  out is the state after the last accepted substep, the needed length of work holds +0. If no substep was accepted
+ *                      (28 or 29 in the first), out is w_0 scaled by a power of two and back: its numbers, but for those so small beside
+ *                      the largest that the scaling makes them subnormal
  */
 #ifndef HAZHENDU_H
 #define HAZHENDU_H
@@ -119,7 +126,7 @@ enum hazhendu_refusal {
     HAZHENDU_GAIN_NOT_FINITE = 22,     /* tau^k, scaled for a w_k that is not 0, overflows      NaN */
 
     /* the matrix and the job together */
-    HAZHENDU_NORM_RANGE = 23,          /* the norm of G is unusable (10 and 11 come before)     the norm */
+    /* 23 is not used: it never occurred */
     HAZHENDU_ARGUMENT_NOT_FINITE = 24, /* tau times the norm of G overflows                     2 (tau norm + 2), Krylov half of it */
     HAZHENDU_NO_PLAN = 25,             /* Taylor: more than 4,294,967,295 sweeps                2 (tau norm + 2) */
 
@@ -148,7 +155,7 @@ static inline bool hazhendu_sizes_allowed(size_t n, size_t entries, size_t count
     return n <= HAZHENDU_MAX_ROWS && entries <= HAZHENDU_MAX_ENTRIES && count >= 1 && count <= HAZHENDU_MAX_VECTORS;
 }
 
-/* For hazhendu_phi_combination. */
+/* For hazhendu_phi_combination, and for hazhendu_combine by Taylor. */
 static inline size_t hazhendu_taylor_work(size_t n, size_t entries, bool with_mass, size_t count)
 {
     if (!hazhendu_sizes_allowed(n, entries, count))
@@ -162,7 +169,7 @@ static inline size_t hazhendu_action_work(size_t n, size_t entries, bool with_ma
     return hazhendu_taylor_work(n, entries, with_mass, HAZHENDU_MAX_INDEX + 1);
 }
 
-/* For hazhendu_phi_combination_krylov. */
+/* For hazhendu_phi_combination_krylov, and for hazhendu_combine by Krylov. */
 static inline size_t hazhendu_krylov_work(size_t n, size_t entries, bool with_mass, size_t count, size_t m)
 {
     size_t M = hazhendu_dimension(n, count, m);
@@ -172,6 +179,15 @@ static inline size_t hazhendu_krylov_work(size_t n, size_t entries, bool with_ma
 }
 
 /* ---- the calls */
+
+/* The checks of the matrix and its mass alone, 1 to 11; then the norm, and a row that has it. */
+uint32_t hazhendu_check_generator(
+    size_t n,
+    const uint32_t *starts, size_t starts_len,
+    const uint32_t *cols, size_t cols_len,
+    const double *vals, size_t vals_len,
+    bool with_mass, const double *mass, size_t mass_len,
+    double *value, size_t *row);
 
 /* The sum over k of tau^k phi_k(tau G) w_k, by Taylor sweeps. */
 uint32_t hazhendu_phi_combination(
@@ -225,6 +241,20 @@ uint32_t hazhendu_phi_combination_krylov(
     double *out, size_t out_len,
     double *work, size_t work_len,
     double *value, size_t *substeps, size_t *matvecs, size_t *rejected);
+
+/* The sum over k of tau^k phi_k(tau G) w_k, by the solver that is asked for. */
+uint32_t hazhendu_combine(
+    size_t n,
+    const uint32_t *starts, size_t starts_len,
+    const uint32_t *cols, size_t cols_len,
+    const double *vals, size_t vals_len,
+    bool with_mass, const double *mass, size_t mass_len,
+    double tau,
+    size_t count, const double *w, size_t w_len,
+    bool krylov, double tol, size_t m, size_t max_substeps,
+    double *out, size_t out_len,
+    double *work, size_t work_len,
+    double *value, uint64_t *first, uint64_t *second, uint64_t *third);
 
 #ifdef __cplusplus
 }

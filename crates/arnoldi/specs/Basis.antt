@@ -11,7 +11,6 @@ use Rattle.doubles.specs.F64.{_⊗_, _⊘_, _⩽_, bits, +0, 1f, maxNum}
 use Rattle.sqrt.specs.Sqrt.{sqrt, open-Sqrt}
 use Rattle.vectors.specs.Vectors.{dot, axpy, scale, open-Vectors}
 use Rattle.phi_action_helpers.specs.Augmented.{Augmented, aug-matvec, open-Augmented}
-use Rattle.phi_action_helpers.specs.declared.Scales.{Scales}
 
 -- `norm2`
 unfoldable pub norm2 : List Float → Float

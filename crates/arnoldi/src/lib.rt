@@ -17,6 +17,9 @@ use phi_action_helpers::Coupling;
 use phi_action_helpers::Layout;
 use phi_action_helpers::Scales;
 
+// A column whose norm is at most this part of the matrix's norm is at round-off level.
+const BREAKDOWN: f64 = 1e-12;
+
 // A run's memory and what stays the same during it: M + 1 columns of n + d values from place 0, the product from the Layout's w,
 // the small matrix of (M + 2) squared from h, the field of n + d from y, then the Layout's av and q.
 pub struct Krylov {
@@ -121,7 +124,7 @@ fn breaks(l: Layout, k: Krylov, beta: f64, j: usize, hn: f64) -> bool
     requires { ⌜ (j < k .m) × (l .n + l .d ≤ 18446744073709551615) ⌝ }
     ensures { λ r. ⌜ ((b : Coupling) (starts cols : List ℕ) (entries vectors : List Float) → r ≡ broken (setting-at l b k (csr (l .n) starts cols entries) vectors) beta j hn) ⌝ }
 {
-    if hn <= 1e-12 * float::max(k.anorm, 1.0) {
+    if hn <= BREAKDOWN * float::max(k.anorm, 1.0) {
         if j + 1 == l.n + l.d {
             return true;
         }

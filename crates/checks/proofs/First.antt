@@ -1,5 +1,5 @@
 -- The first check of a list that holds: lists in a row, a chain of tests, and what a sound list tells. Assumes nothing.
-use mathlib.Core.Bool.{Bool, true, false, not, _&&_, _||_}
+use mathlib.Core.Bool.{Bool, true, false, not}
 use mathlib.Core.List.{List, [], _∷_, _++_}
 use mathlib.Core.Path.{_≡_, refl, sym, _∙_, ap}
 use Prim.Native.Nat.{ℕ, _≤_, _<_}
@@ -9,7 +9,7 @@ use lib.ListN.{getD}
 use borrow.Author.Tests.{eq-eqb, ne-eqb, lt-ltb, le-ltb}
 use lib.Ieee.{Float, nan, binary64, ofInt}
 use Rattle.lists.specs.Find.{find, exists}
-use Rattle.checks.specs.First.{Check, refuse, first}
+use Rattle.checks.specs.First.{Check, refuse, first, number, reported}
 use Rattle.checks.specs.declared.Checked.{Checked}
 use Rattle.checks.specs.declared.Checked.the-variants.{Sound, Refused}
 
@@ -46,6 +46,11 @@ first-append (c ∷ cs) ys =
     ∙ ap (λ (r : Checked). and-then r (first ys)) (sym (first-cons (c .number) (c .holds) (c .reported) cs))
 
 -- ---- what a function that makes some of the checks hands to its caller
+-- a refusal taken apart by its number and its double
+pub passed-up : {r : Checked} {j k : ℕ} {x y : Float} → r ≡ Refused j x → k ≡ number r → y ≡ reported r → r ≡ Refused k y
+unfolding number reported
+passed-up e ek ey = rw (ek, ey, e)
+
 pub refused-up : (xs ys : List Check) {r : Checked} {k : ℕ} {x : Float} → r ≡ Refused k x → r ≡ first xs → r ≡ first (xs ++ ys)
 unfolding and-then
 refused-up xs ys e d = rw (first-append xs ys, ← d, e)
@@ -70,6 +75,28 @@ and-then-sound (Refused k x) s e = (cc, cc)
 -- no check of two lists in a row holds
 pub sound-append : (xs ys : List Check) → Sound ≡ first (xs ++ ys) → (Sound ≡ first xs) × (Sound ≡ first ys)
 sound-append xs ys e = and-then-sound (first xs) (first ys) (e ∙ first-append xs ys)
+
+-- ---- a check that cannot hold where those of gs pass may stand behind them or not
+module _ (c : Check) where
+  same-behind : (p : Check) (xs ys : List Check) → first xs ≡ first ys → first (p ∷ xs) ≡ first (p ∷ ys)
+  same-behind p xs ys e = first-cons (p .number) (p .holds) (p .reported) xs ∙ ap (unless (p .holds) (p .number) (p .reported)) e ∙ sym (first-cons (p .number) (p .holds) (p .reported) ys)
+
+  skipped : c .holds ≡ false → (ps cs : List Check) → first (ps ++ (c ∷ cs)) ≡ first (ps ++ cs)
+  skipped e [] cs = first-cons (c .number) (c .holds) (c .reported) cs ∙ rw e refl
+  skipped e (p ∷ ps) cs = same-behind p _ _ (skipped e ps cs)
+
+  pub never-holds : (gs ps cs : List Check) → (Sound ≡ first gs → c .holds ≡ false) → first (gs ++ (ps ++ (c ∷ cs))) ≡ first (gs ++ (ps ++ cs))
+  unfolding first
+  never-holds [] ps cs h = skipped (h refl) ps cs
+  never-holds (g ∷ gs) ps cs h =
+      first-cons (g .number) (g .holds) (g .reported) (gs ++ (ps ++ (c ∷ cs)))
+      ∙ by (λ k. never-holds gs ps cs k) (g .holds) refl
+      ∙ sym (first-cons (g .number) (g .holds) (g .reported) (gs ++ (ps ++ cs)))
+    where
+      by : ((Sound ≡ first gs → c .holds ≡ false) → first (gs ++ (ps ++ (c ∷ cs))) ≡ first (gs ++ (ps ++ cs))) → (b : Bool) → g .holds ≡ b
+          → unless b (g .number) (g .reported) (first (gs ++ (ps ++ (c ∷ cs)))) ≡ unless b (g .number) (g .reported) (first (gs ++ (ps ++ cs)))
+      by f true e = refl
+      by f false e = ap (unless false (g .number) (g .reported)) (f (λ s. h (s ∙ sym (first-cons (g .number) (g .holds) (g .reported) gs ∙ rw e refl))))
 
 -- ---- a chain of tests: what `search` needs. A check whose condition fails, and one whose condition holds
 pub passes : (k : ℕ) {b : Bool} (x : Float) (cs : List Check) {r : Checked} → b ≡ false → r ≡ first cs → r ≡ first (refuse k b x ∷ cs)

@@ -1,9 +1,10 @@
--- Refusals as a list in number order: the answer is the first whose condition holds (document 01, 'Refusals'). Definitions only.
+-- Refusals as a list in the order in which they are met: the answer is the first whose condition holds (document 01, 'Refusals'). Definitions only.
 use mathlib.Core.Bool.{Bool, true, false}
 use mathlib.Core.List.{List, [], _∷_}
 use Prim.Native.Nat.{ℕ}
-use lib.Dec.{ltb}
+use lib.Dec.{eqb}
 use lib.Ieee.{Float}
+use Rattle.doubles.specs.F64.{+0}
 use Rattle.checks.specs.declared.Checked.{Checked}
 use Rattle.checks.specs.declared.Checked.the-variants.{Sound, Refused}
 
@@ -21,11 +22,20 @@ unfoldable pub first : List Check → Checked
 first [] = Sound
 first (c ∷ cs) = elim (c .holds) [ true ↦ Refused (c .number) (c .reported) | false ↦ first cs ]
 
-abbrev pub with-if : Bool → Check → List Check → List Check
-with-if true c cs = c ∷ cs
-with-if false c cs = cs
+-- what is passed up of an answer: its number, 0 where no check holds, and its double
+unfoldable pub number : Checked → ℕ
+number Sound = 0
+number (Refused k x) = k
 
--- those with a number below k
-unfoldable pub below : ℕ → List Check → List Check
-below k [] = []
-below k (c ∷ cs) = with-if (ltb (c .number) k) c (below k cs)
+unfoldable pub reported : Checked → Float
+reported Sound = +0
+reported (Refused k x) = x
+
+abbrev pub unless-named : Bool → Check → List Check → List Check
+unless-named true c cs = []
+unless-named false c cs = c ∷ cs
+
+-- those in front of the first numbered k
+unfoldable pub before : ℕ → List Check → List Check
+before k [] = []
+before k (c ∷ cs) = unless-named (eqb (c .number) k) c (before k cs)

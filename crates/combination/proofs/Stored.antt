@@ -3,9 +3,9 @@ use mathlib.Core.Path.{_≡_, refl, sym, ap, _∙_}
 use mathlib.Core.Bool.{Bool, true, false}
 use mathlib.Core.List.{List}
 use mathlib.Core.Option.{none, some}
-use Prim.Native.Nat.{ℕ, zero, _+_, _≤_, _<_}
+use Prim.Native.Nat.{ℕ, zero, _+_, _≤_}
 use native.Mathlib.Omega.{arith}
-use lib.ListN.{length, getD, replicate, length-replicate}
+use lib.ListN.{length, replicate, length-replicate}
 use lib.Ieee.{Float}
 use Rattle.lists.specs.Window.{window, splice}
 use Rattle.lists.specs.Frame.{Kept}
@@ -14,8 +14,9 @@ use Rattle.lists.proofs.Frame.{Wrote, wrote, untouched, kept-all, kept-by, kept
 use Rattle.doubles.specs.F64.{+0}
 use Rattle.general_operator.specs.Csr.{Csr, csr, Valid}
 use Rattle.csr_matvec.specs.Values.{values}
-use Rattle.generator_action.specs.Mass.{Mass, given, normalise, quotients, stored}
-use Rattle.generator_action.specs.Known.{Accepted}
+use Rattle.generator_action.specs.Mass.{Mass, given, normalise, quotients, stored, quotient-need}
+use Rattle.generator_action.specs.Known.{Passed}
+use Rattle.generator_action.specs.declared.Shape.{Shape}
 use Rattle.generator_action.proofs.Quotients.{length-normalise}
 use Rattle.phi_action_helpers.specs.declared.Coupling.{Coupling}
 use Rattle.phi_action_helpers.specs.declared.Layout.{Layout}
@@ -23,9 +24,10 @@ use Rattle.phi_action_helpers.specs.Augmented.{augmented}
 use Rattle.phi_action_helpers.specs.Laid.{Ready, Lined, matrix-at, operator-at}
 use Rattle.phi_action_helpers.proofs.Sweeps.{laid}
 use Rattle.combination.specs.Call.{cleared}
-use Rattle.combination.specs.Checks.{quotient-need}
+use Rattle.combination.specs.Inner.{Coupled}
+pub use Rattle.combination.specs.Inner.{matrix-of}
 
-pub length-stored : (a : Csr) (b : Bool) (mass : List Float) → length (stored a (given b mass)) ≡ quotient-need a (given b mass)
+length-stored : (a : Csr) (b : Bool) (mass : List Float) → length (stored a (given b mass)) ≡ quotient-need a (given b mass)
 unfolding stored quotient-need
 length-stored a true mass = length-normalise a mass
 length-stored a false mass = refl
@@ -58,65 +60,52 @@ clear-over need p y w₀ e h =
     let l = length-replicate need +0 in
     ap (splice 0 (replicate need +0)) e ∙ splice-cover 0 p (replicate need +0) y w₀ (omega arith) (omega arith)
 
--- a layout of n + d values with its quotients last of what is needed
-pub record Last (l : Layout) (a : Csr) (d : ℕ) (b : Bool) (mass : List Float) (need : ℕ) : Type 0 where
-  pub rows : l .n ≡ a .n
+-- a job in the memory w₀: its generator passed, and what it stores is last of what the job needs
+pub record Held (starts cols : List ℕ) (vals mass : List Float) (g : Shape) (d need : ℕ) (l : Layout) (w₀ : List Float) : Type 0 where
+  pub passed : Passed (csr (g .n) starts cols vals) (given (g .«with_mass») mass) g
+  pub enough : need ≤ length w₀
+  pub rows : l .n ≡ g .n
   pub chain : l .d ≡ d
-  pub given-mass : l .mass ≡ b
-  pub behind : l .q + quotient-need a (given b mass) ≡ need
+  pub given-mass : l .mass ≡ g .«with_mass»
+  pub behind : l .q + g .stored ≡ need
 
-module _
-    (n d : ℕ)
-    (starts cols : List ℕ)
-    (vals : List Float)
-    (b : Bool)
-    (mass : List Float)
-    (norm : Float)
-    (need : ℕ)
-    (w₀ : List Float)
-    (acc : Accepted (csr n starts cols vals) (given b mass) norm)
-    (rm : need ≤ length w₀)
-    {l : Layout}
-    (h : Last l (csr n starts cols vals) d b mass need) where
-  abbrev a : Csr
-  a = csr n starts cols vals
+module _ {starts cols : List ℕ} {vals mass : List Float} {g : Shape} {d need : ℕ} {l : Layout} {w₀ : List Float} (h : Held starts cols vals mass g d need l w₀) where
+  pub store-fits : g .«with_mass» ≡ true → l .q + length vals ≤ length w₀
+  store-fits t = omega (arith, needed-with (csr (g .n) starts cols vals) (g .«with_mass») mass t, h .passed .room, h .behind, h .enough)
 
-  pub store-fits : b ≡ true → l .q + length vals ≤ length w₀
-  store-fits t = omega (arith, needed-with a b mass t, h .behind)
-
-  module _ {w₁ : List Float} (e₁ : w₁ ≡ splice (l .q) (stored a (given b mass)) w₀) where
+  -- the quotients are written
+  module _ {w₁ : List Float} (e₁ : w₁ ≡ splice (l .q) (stored (csr (g .n) starts cols vals) (given (g .«with_mass») mass)) w₀) where
     pub long₁ : length w₁ ≡ length w₀
     long₁ = ap length e₁ ∙ length-splice _ _ w₀
 
-    pub matrix-is : matrix-at l starts cols vals w₁ ≡ quotients a (given b mass)
-    matrix-is = rw (e₁, h .rows, h .given-mass) (quotients-stored n starts cols vals b mass (l .q) w₀ store-fits)
+    pub matrix-is : matrix-at l starts cols vals w₁ ≡ matrix-of g starts cols vals mass
+    matrix-is = rw (e₁, h .rows, h .given-mass) (quotients-stored (g .n) starts cols vals (g .«with_mass») mass (l .q) w₀ store-fits)
 
     pub matrix-valid : Valid (matrix-at l starts cols vals w₁)
-    matrix-valid = rw matrix-is (acc .quotients-are)
+    matrix-valid = rw matrix-is (h .passed .quotients-are)
 
     pub stored-in : l .mass ≡ true → l .q + length vals ≤ length w₁
     stored-in t = rw long₁ (store-fits (sym (h .given-mass) ∙ t))
 
-    t₁ : Wrote (l .q) (quotient-need a (given b mass)) (stored a (given b mass)) w₀ w₁
-    t₁ = wrote _ _ _ w₀ w₁ (length-stored a b mass) e₁
+    t₁ : Wrote (l .q) (quotient-need (csr (g .n) starts cols vals) (given (g .«with_mass») mass)) (stored (csr (g .n) starts cols vals) (given (g .«with_mass») mass)) w₀ w₁
+    t₁ = wrote _ _ _ w₀ w₁ (length-stored (csr (g .n) starts cols vals) (g .«with_mass») mass) e₁
 
     -- what stands before them is as it was
     pub front-is : (p m : ℕ) → p + m ≤ l .q → window p m w₁ ≡ window p m w₀
-    front-is p m g = untouched t₁ p m (omega arith)
+    front-is p m f = untouched t₁ p m (omega arith)
 
     -- what is needed is cleared in the end
-    pub cleared-is : {w₂ w₃ : List Float} → Kept 0 (l .q) +0 w₁ w₂ → w₃ ≡ splice 0 (replicate need +0) w₂ → w₃ ≡ cleared need w₀
+    pub cleared-is : {w₂ w₃ : List Float} → Kept 0 (l .q) +0 w₁ w₂ → w₃ ≡ cleared need w₂ → w₃ ≡ cleared need w₀
     unfolding cleared
     cleared-is {w₂} {w₃} k e₃ =
-        let k₁ : Kept 0 need +0 w₀ w₁ = kept-by (kept-all 0 need +0 w₀) t₁ (omega arith) (omega (arith, h .behind)) in
+        let k₁ : Kept 0 need +0 w₀ w₁ = kept-by (kept-all 0 need +0 w₀) t₁ (omega arith) (omega (arith, h .passed .room, h .behind)) in
         let k₂ : Kept 0 need +0 w₀ w₂ = kept-on k₁ (kept-wider k need (omega (arith, h .behind))) in
         e₃ ∙ k₂ .outside
 
-    module _ (c : Coupling) (vectors : List Float) where
-      pub operator-is : operator-at l c starts cols vals vectors w₁ ≡ augmented (quotients a (given b mass)) d vectors (c .places) (c .gains) (c .count)
+    module _ {c : Coupling} (vectors : List Float) (cp : Coupled c (g .n) d (length vectors)) where
+      pub operator-is : operator-at l c starts cols vals vectors w₁ ≡ augmented (matrix-of g starts cols vals mass) d vectors (c .places) (c .gains) (c .count)
       operator-is = rw (matrix-is, h .chain) refl
 
-      pub ready : Lined l → c .count ≤ 3 → c .count ≤ d → ((j : ℕ) → j < c .count → getD (c .places) j 0 + n ≤ length vectors)
-          → Ready l c starts cols vals vectors w₁
-      ready o few deep columns =
-          laid o matrix-valid few (rw (h .chain) deep) (rw (h .rows) columns) (rw long₁ (omega (arith, o .then-product, h .behind))) stored-in
+      pub ready : Lined l → Ready l c starts cols vals vectors w₁
+      ready o =
+          laid o matrix-valid (cp .few) (rw (h .chain) (cp .chained)) (rw (h .rows) (cp .columns)) (rw long₁ (omega (arith, o .then-product, h .behind, h .enough))) stored-in

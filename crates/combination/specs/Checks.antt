@@ -2,7 +2,6 @@
 -- `validate_combination`, `eta_scaled_columns`, `phi_schedule`). Definitions only.
 use mathlib.Core.Bool.{Bool, true, false, not, _||_}
 use mathlib.Core.List.{List, [], _∷_, _++_}
-use mathlib.Core.Option.{none, some}
 use Prim.Native.Nat.{ℕ, _+_, _*_}
 use lib.Dec.{ltb, eqb}
 use lib.ListN.{length}
@@ -10,8 +9,6 @@ use lib.Ieee.{Float, nan}
 use Rattle.lists.specs.Find.{find, exists, open-Find}
 use Rattle.doubles.specs.F64.{_⊗_, _⋖_, +0, nat, at, is-finite}
 use Rattle.checks.specs.First.{Check, refuse}
-use Rattle.general_operator.specs.Csr.{Csr}
-use Rattle.generator_action.specs.Mass.{Mass}
 use Rattle.expmv.specs.Select.{select-s-m, M-MAX}
 use Rattle.expmv.specs.declared.Selected.{Selected}
 use Rattle.expmv.specs.declared.Selected.the-variants.{NoRow, Row}
@@ -26,7 +23,7 @@ count-checks count = refuse 12 (eqb count 0 || ltb 4 count) (nat count) ∷ []
 unfoldable pub index-checks : ℕ → List Check
 index-checks k = refuse 13 (ltb 3 k) (nat k) ∷ []
 
--- negative or not finite (`phi_schedule`, of tau and of the norm)
+-- negative or not finite (`phi_schedule`, of tau; of the norm it was 23, which never occurs: N14)
 unfoldable pub out-of-range : Float → Bool
 out-of-range x = not (is-finite x) || x ⋖ +0
 
@@ -57,11 +54,10 @@ abbrev pub no-row : Selected → Bool
 no-row NoRow = true
 no-row (Row s m) = false
 
--- the norm negative or not finite, the argument not finite, no admissible row
+-- the argument not finite, no admissible row. (23, the norm negative or not finite, never occurs, and its number is not used again: document 02, N14.)
 unfoldable pub schedule-checks : ℕ → Float → Float → List Check
 schedule-checks m-max norm tau =
-    refuse 23 (out-of-range norm) norm
-    ∷ refuse 24 (not (is-finite (argument tau norm))) (argument tau norm)
+    refuse 24 (not (is-finite (argument tau norm))) (argument tau norm)
     ∷ refuse 25 (no-row (select-s-m m-max (argument tau norm))) (argument tau norm)
     ∷ []
 
@@ -69,14 +65,9 @@ schedule-checks m-max norm tau =
 unfoldable pub memory-checks : ℕ → ℕ → List Check
 memory-checks memory need = refuse 26 (ltb memory need) nan ∷ []
 
--- a mass adds the number of entries
-unfoldable pub quotient-need : Csr → Mass → ℕ
-quotient-need a none = 0
-quotient-need a (some mass) = length (a .entries)
-
--- what a Taylor job needs: 3 n + 2 d, and the entries with a mass
-unfoldable pub taylor-need : Csr → Mass → ℕ → ℕ
-taylor-need a mass d = 3 * a .n + 2 * d + quotient-need a mass
+-- what a Taylor job needs: 3 n + 2 d, and what its generator stores
+unfoldable pub taylor-need : ℕ → ℕ → ℕ → ℕ
+taylor-need n d stored = 3 * n + 2 * d + stored
 
 -- ---- groups of these
 -- 12 to 17 of a combination of `count` vectors
@@ -84,17 +75,17 @@ unfoldable pub vector-checks : ℕ → Float → ℕ → List Float → ℕ → 
 vector-checks n tau count w output =
     count-checks count ++ (time-checks tau ++ (length-checks output n (length w) (count * n) ++ finite-checks w))
 
--- 21 to 26 of a Taylor combination
+-- 21, 22 and 24 to 26 of a Taylor combination
 unfoldable pub sweep-checks : ℕ → Float → ℕ → List Float → Float → ℕ → ℕ → List Check
 sweep-checks n tau d w norm memory need =
     magnitude-checks n w tau d ++ (schedule-checks M-MAX norm tau ++ memory-checks memory need)
 
--- 13 to 26 of an action of n values
+-- 13 to 16 and 24 to 26 of an action of n values
 unfoldable pub job-checks : ℕ → Float → ℕ → ℕ → ℕ → ℕ → Float → ℕ → ℕ → List Check
 job-checks k tau output wanted v n norm memory need =
     index-checks k ++ (time-checks tau ++ (length-checks output wanted v n ++ (schedule-checks M-MAX norm tau ++ memory-checks memory need)))
 
 -- to compute: a line `unfolding open-Checks` opens every definition of this file and of those below it
 unfoldable pub open-Checks : Unit {0}
-unfolding count-checks index-checks out-of-range time-checks length-checks not-finite-at finite-checks bad-gain magnitude-checks schedule-checks memory-checks quotient-need taylor-need vector-checks sweep-checks job-checks open-Find open-Combination open-Plan
+unfolding count-checks index-checks out-of-range time-checks length-checks not-finite-at finite-checks bad-gain magnitude-checks schedule-checks memory-checks taylor-need vector-checks sweep-checks job-checks open-Find open-Combination open-Plan
 open-Checks = tt

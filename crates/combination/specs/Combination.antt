@@ -1,10 +1,9 @@
 -- What a combination and an action are made of: weights, scaling, start (phi_action.rs, `weighted_columns`, `eta_scaled_columns`,
 -- `init_aug_vector`). Definitions only.
-use mathlib.Core.Bool.{Bool, true, false}
 use mathlib.Core.List.{List, [], _∷_, _++_}
 use Prim.Native.Nat.{ℕ, zero, suc, _+_, _-_, _*_}
 use lib.Dec.{ltb}
-use lib.ListN.{length, replicate, set}
+use lib.ListN.{replicate, set}
 use lib.Ieee.{Float, eq}
 use Rattle.lists.specs.Loop.{iter, tabulate}
 use Rattle.lists.specs.Window.{window}

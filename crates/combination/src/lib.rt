@@ -1,17 +1,21 @@
-// The weights of a combination, and the checks of a job.
+// What a job is made of, and its checks: each hands back what it found.
 use checks::Checked;
 use expmv::Selected;
+use generator_action::Shape;
+use phi_action_helpers::Coupling;
 ghost use mathlib.Core.Path.{_≡_};
-ghost use mathlib.Core.List.{_++_};
-ghost use Prim.Native.Nat.{ℕ, _+_, _-_, _*_, _≤_, _<_};
+ghost use mathlib.Core.List.{List, _++_};
+ghost use Prim.Native.Nat.{_+_, _*_, _≤_};
 ghost use mathlib.Core.Bool.{_||_};
 ghost use lib.Dec.{eqb, ltb};
 ghost use lib.ListN.{length};
 ghost use Rattle.lists.specs.Find.{find};
-ghost use Rattle.checks.specs.First.{first};
+ghost use Rattle.lists.specs.Window.{splice};
+ghost use Rattle.checks.specs.First.{Check, first};
 ghost use Rattle.pow2.specs.Pow2.{sup};
-ghost use Rattle.combination.specs.Combination.{vector, gain, weighed, magnitude, eta-of, column-places, scaled-gains};
-ghost use Rattle.combination.specs.Checks.{count-checks, index-checks, out-of-range, time-checks, length-checks, not-finite-at, finite-checks, bad-gain, magnitude-checks, schedule-checks, memory-checks, vector-checks, sweep-checks, job-checks};
+ghost use Rattle.combination.specs.Combination.{vector, column-places, combination-start, init-aug-vector};
+ghost use Rattle.combination.specs.Checks.{count-checks, index-checks, out-of-range, time-checks, length-checks, not-finite-at, finite-checks, memory-checks, vector-checks, taylor-need};
+ghost use Rattle.combination.specs.Inner.{share-of, powers-of, not-finite-by, power-checks, reversed-by, weights, argument-checks, schedule, host-checks, job-of, combination-job, one-column, action-job};
 
 // sup |w_k|
 fn sup_of(n: usize, w: &[f64], k: usize) -> f64
@@ -23,42 +27,80 @@ fn sup_of(n: usize, w: &[f64], k: usize) -> f64
     pow2::sup(&w[from..to])
 }
 
-// tau^k; 0 for an all-zero vector, so that it never overflows.
-fn gain(n: usize, w: &[f64], tau: f64, k: usize) -> f64
-    requires { ⌜ k * n + n ≤ length (now w) ⌝ }
-    ensures { λ r. ⌜ r ≡ gain n (now (w .entry)) tau k ⌝ }
-{
-    if sup_of(n, w, k) == 0.0 {
-        return 0.0;
-    }
-    power::power(tau, k as u64)
+// w_k's gain, and the sum with its share.
+struct Share {
+    gain: f64,
+    sum: f64,
 }
 
-// s with w_k's share.
-fn weighed(n: usize, w: &[f64], tau: f64, k: usize, s: f64) -> f64
+// An all-zero vector has gain 0 and no share, so that tau^k never overflows for it.
+fn share_of(n: usize, w: &[f64], tau: f64, k: usize, s: f64) -> Share
     requires { ⌜ k * n + n ≤ length (now w) ⌝ }
-    ensures { λ r. ⌜ r ≡ weighed n (now (w .entry)) tau k s ⌝ }
+    ensures { λ r. ⌜ r ≡ share-of n (now (w .entry)) tau k s ⌝ }
 {
     let w_sup = sup_of(n, w, k);
     if w_sup == 0.0 {
-        return s;
+        return Share { gain: 0.0, sum: s };
     }
-    s + power::power(tau, k as u64) * w_sup
+    let gain = power::power(tau, k as u64);
+    Share {
+        gain: gain,
+        sum: s + gain * w_sup,
+    }
 }
 
-pub fn magnitude(n: usize, w: &[f64], tau: f64, d: usize) -> f64
-    requires { ⌜ (d + 1) * n ≤ length (now w) ⌝ }
-    ensures { λ r. ⌜ r ≡ magnitude n (now (w .entry)) tau d ⌝ }
+// gains[k - 1] is w_k's, and the sum of all shares.
+struct Powers {
+    gains: [f64; 3],
+    sum: f64,
+}
+
+fn powers_of(n: usize, w: &[f64], tau: f64, d: usize) -> Powers
+    requires { ⌜ ((d + 1) * n ≤ length (now w)) × (d ≤ 3) ⌝ }
+    ensures { λ r. ⌜ r ≡ powers-of n (now (w .entry)) tau d ⌝ }
 {
-    let mut s = 0.0;
+    let mut gains = [0.0; 3];
+    let mut sum = 0.0;
     for j in 0..d {
-        s = weighed(n, w, tau, j + 1, s);
+        let next = share_of(n, w, tau, j + 1, sum);
+        gains[j] = next.gain;
+        sum = next.sum;
     }
-    s
+    Powers {
+        gains: gains,
+        sum: sum,
+    }
+}
+
+// The first k - 1 whose tau^k eta is not finite, d if there is none.
+fn first_bad_gain(gains: [f64; 3], d: usize, eta: f64) -> usize
+    requires { ⌜ d ≤ 3 ⌝ }
+    ensures { λ r. ⌜ r ≡ find (not-finite-by gains eta) d ⌝ }
+{
+    for j in 0..d {
+        if !float::is_finite(gains[j] * eta) {
+            return j;
+        }
+    }
+    d
+}
+
+// 21 and 22.
+fn check_magnitude(sum: f64, gains: [f64; 3], d: usize, eta: f64) -> Checked
+    requires { ⌜ d ≤ 3 ⌝ }
+    ensures { λ r. ⌜ r ≡ first (power-checks sum gains d eta) ⌝ }
+{
+    if !float::is_finite(sum) {
+        return Checked::Refused(21, sum);
+    }
+    if first_bad_gain(gains, d, eta) < d {
+        return Checked::Refused(22, float::not_a_number());
+    }
+    Checked::Sound
 }
 
 // cols[d - k] is w_k.
-pub fn column_places(n: usize, d: usize) -> [usize; 3]
+fn column_places(n: usize, d: usize) -> [usize; 3]
     requires { ⌜ (n ≤ 1000000) × (d ≤ 3) ⌝ }
     ensures { λ r. ⌜ r ≡ column-places n d ⌝ }
 {
@@ -69,16 +111,42 @@ pub fn column_places(n: usize, d: usize) -> [usize; 3]
     places
 }
 
-// gains[d - k] is w_k's weight times eta.
-pub fn scaled_gains(n: usize, w: &[f64], tau: f64, d: usize, eta: f64) -> [f64; 3]
-    requires { ⌜ ((d + 1) * n ≤ length (now w)) × (d ≤ 3) ⌝ }
-    ensures { λ r. ⌜ r ≡ scaled-gains n (now (w .entry)) tau d eta ⌝ }
+// gains[d - k] is w_k's gain times eta.
+fn scaled_gains(powers: [f64; 3], d: usize, eta: f64) -> [f64; 3]
+    requires { ⌜ d ≤ 3 ⌝ }
+    ensures { λ r. ⌜ r ≡ reversed-by powers d eta ⌝ }
 {
     let mut gains = [1.0; 3];
     for j in 0..d {
-        gains[j] = gain(n, w, tau, d - j) * eta;
+        gains[j] = powers[d - j - 1] * eta;
     }
     gains
+}
+
+// What 21 and 22 find: 1 / eta, and the columns with their gains.
+pub struct Weights {
+    pub checked: Checked,
+    pub inv: f64,
+    pub b: Coupling,
+}
+
+pub fn weigh(n: usize, w: &[f64], tau: f64, d: usize) -> Weights
+    requires { ⌜ ((d + 1) * n ≤ length (now w)) × (n ≤ 1000000) × (d ≤ 3) ⌝ }
+    ensures { λ r. ⌜ r ≡ weights n (now (w .entry)) tau d ⌝ }
+{
+    let p = powers_of(n, w, tau, d);
+    let powers = p.gains;
+    let eta = pow2::eta_scaling(p.sum);
+    let b = Coupling {
+        places: column_places(n, d),
+        gains: scaled_gains(powers, d, eta.eta),
+        count: d,
+    };
+    Weights {
+        checked: check_magnitude(p.sum, powers, d, eta.eta),
+        inv: eta.inv,
+        b: b,
+    }
 }
 
 fn wrong_count(count: usize) -> bool
@@ -91,7 +159,7 @@ fn wrong_count(count: usize) -> bool
 }
 
 // 12.
-pub fn check_count(count: usize) -> Checked
+fn check_count(count: usize) -> Checked
     ensures { λ r. ⌜ r ≡ first (count-checks count) ⌝ }
 {
     if wrong_count(count) {
@@ -120,7 +188,7 @@ fn out_of_range(x: f64) -> bool
 }
 
 // 14.
-pub fn check_time(tau: f64) -> Checked
+fn check_time(tau: f64) -> Checked
     ensures { λ r. ⌜ r ≡ first (time-checks tau) ⌝ }
 {
     if out_of_range(tau) {
@@ -130,7 +198,7 @@ pub fn check_time(tau: f64) -> Checked
 }
 
 // 15 and 16.
-pub fn check_lengths(output: usize, wanted: usize, vectors: usize, expected: usize) -> Checked
+fn check_lengths(output: usize, wanted: usize, vectors: usize, expected: usize) -> Checked
     ensures { λ r. ⌜ r ≡ first (length-checks output wanted vectors expected) ⌝ }
 {
     if output != wanted {
@@ -154,7 +222,7 @@ fn first_not_finite(w: &[f64]) -> usize
 }
 
 // 17.
-pub fn check_finite(w: &[f64]) -> Checked
+fn check_finite(w: &[f64]) -> Checked
     ensures { λ r. ⌜ r ≡ first (finite-checks (now (w .entry))) ⌝ }
 {
     let i = first_not_finite(w);
@@ -164,52 +232,43 @@ pub fn check_finite(w: &[f64]) -> Checked
     Checked::Sound
 }
 
-// The first k - 1 whose tau^k eta is not finite, d if there is none.
-fn first_bad_gain(n: usize, w: &[f64], tau: f64, d: usize, eta: f64) -> usize
-    requires { ⌜ (d + 1) * n ≤ length (now w) ⌝ }
-    requires { ⌜ eta ≡ eta-of n (now w) tau d .eta ⌝ }
-    ensures { λ r. ⌜ r ≡ find (bad-gain n (now (w .entry)) tau d) d ⌝ }
+// 24 and 25. 23, a norm out of range, never occurs, and its number is not used again.
+fn check_argument(arg: f64, no_row: bool) -> Checked
+    ensures { λ r. ⌜ r ≡ first (argument-checks arg «no_row») ⌝ }
 {
-    for j in 0..d {
-        if !float::is_finite(gain(n, w, tau, j + 1) * eta) {
-            return j;
-        }
-    }
-    d
-}
-
-// 21 and 22.
-pub fn check_magnitude(n: usize, w: &[f64], tau: f64, d: usize) -> Checked
-    requires { ⌜ (d + 1) * n ≤ length (now w) ⌝ }
-    ensures { λ r. ⌜ r ≡ first (magnitude-checks n (now (w .entry)) tau d) ⌝ }
-{
-    let s = magnitude(n, w, tau, d);
-    if !float::is_finite(s) {
-        return Checked::Refused(21, s);
-    }
-    let scaling = pow2::eta_scaling(s);
-    if first_bad_gain(n, w, tau, d, scaling.eta) < d {
-        return Checked::Refused(22, float::not_a_number());
-    }
-    Checked::Sound
-}
-
-// 23 to 25.
-pub fn check_schedule(m_max: u32, norm: f64, tau: f64) -> Checked
-    ensures { λ r. ⌜ r ≡ first (schedule-checks «m_max» norm tau) ⌝ }
-{
-    if out_of_range(norm) {
-        return Checked::Refused(23, norm);
-    }
-    let arg = phi_shift::argument(tau, norm);
     if !float::is_finite(arg) {
         return Checked::Refused(24, arg);
     }
-    let row = expmv::select_s_m(m_max, arg);
-    let Selected::Row(_, _) = row else {
+    if no_row {
         return Checked::Refused(25, arg);
-    };
+    }
     Checked::Sound
+}
+
+// What 24 and 25 find: the row of the schedule.
+pub struct Schedule {
+    pub checked: Checked,
+    pub s: u32,
+    pub m: u32,
+}
+
+fn check_schedule(m_max: u32, norm: f64, tau: f64) -> Schedule
+    ensures { λ r. ⌜ r ≡ schedule «m_max» norm tau ⌝ }
+{
+    let arg = phi_shift::argument(tau, norm);
+    let row = expmv::select_s_m(m_max, arg);
+    let Selected::Row(s, m) = row else {
+        return Schedule {
+            checked: check_argument(arg, true),
+            s: 0,
+            m: 0,
+        };
+    };
+    Schedule {
+        checked: check_argument(arg, false),
+        s: s,
+        m: m,
+    }
 }
 
 // 26.
@@ -242,59 +301,131 @@ pub fn validate_combination(n: usize, tau: f64, count: usize, w: &[f64], output:
     check_finite(w)
 }
 
-// 21 to 26 of a Taylor combination.
-pub fn check_sweeps(
-    n: usize,
-    tau: f64,
-    d: usize,
-    w: &[f64],
-    norm: f64,
-    memory: usize,
-    need: usize,
-) -> Checked
-    requires { ⌜ (d + 1) * n ≤ length (now w) ⌝ }
-    ensures { λ r. ⌜ r ≡ first (sweep-checks n tau d (now (w .entry)) norm memory need) ⌝ }
+// The first of two answers in a row that refuses.
+pub fn and_then(a: Checked, b: Checked) -> Checked
+    ensures { λ r. ⌜ ((xs ys : List Check) → a ≡ first xs → b ≡ first ys → r ≡ first (xs ++ ys)) ⌝ }
 {
-    let weights = check_magnitude(n, w, tau, d);
-    let Checked::Sound = weights else {
-        return weights;
+    let Checked::Sound = a else {
+        return a;
     };
-    let schedule = check_schedule(30, norm, tau);
-    let Checked::Sound = schedule else {
-        return schedule;
-    };
-    check_memory(memory, need)
+    b
 }
 
-// 13 to 26 of an action of n values.
-pub fn check_action(
-    k: usize,
+// A Taylor job as its checks leave it: what they found, with the numbers of its generator.
+pub struct Job {
+    pub checked: Checked,
+    pub g: Shape,
+    pub tau: f64,
+    pub d: usize,
+    pub need: usize,
+    pub inv: f64,
+    pub b: Coupling,
+    pub s: u32,
+    pub m: u32,
+}
+
+// What a job needs of the lent memory.
+fn taylor_need(n: usize, d: usize, stored: usize) -> usize
+    requires { ⌜ (n ≤ 1000000) × (d ≤ 3) × (stored ≤ 16777216) ⌝ }
+    ensures { λ r. ⌜ r ≡ taylor-need n d stored ⌝ }
+{
+    3 * n + 2 * d + stored
+}
+
+// 24 to 26, after some checks.
+fn plan_job(
+    before: Checked,
+    g: Shape,
     tau: f64,
+    d: usize,
+    inv: f64,
+    b: Coupling,
+    memory: usize,
+) -> Job
+    requires { ⌜ (g .n ≤ 1000000) × (d ≤ 3) × (g .stored ≤ 16777216) ⌝ }
+    ensures { λ r. ⌜ ((xs : List Check) → before ≡ first xs → r ≡ job-of g tau d (xs ++ host-checks g tau d memory) inv b) ⌝ }
+{
+    let schedule = check_schedule(expmv::M_MAX, g.norm, tau);
+    let planned = schedule.checked;
+    let need = taylor_need(g.n, d, g.stored);
+    let host = and_then(planned, check_memory(memory, need));
+    Job {
+        checked: and_then(before, host),
+        g: g,
+        tau: tau,
+        d: d,
+        need: need,
+        inv: inv,
+        b: b,
+        s: schedule.s,
+        m: schedule.m,
+    }
+}
+
+// 21, 22 and 24 to 26 of a combination.
+pub fn admit_combination(g: Shape, tau: f64, d: usize, w: &[f64], memory: usize) -> Job
+    requires { ⌜ ((d + 1) * g .n ≤ length (now w)) × (g .n ≤ 1000000) × (d ≤ 3) × (g .stored ≤ 16777216) ⌝ }
+    ensures { λ r. ⌜ r ≡ combination-job g tau d (now (w .entry)) memory ⌝ }
+{
+    let weights = weigh(g.n, w, tau, d);
+    let checked = weights.checked;
+    let b = weights.b;
+    plan_job(checked, g, tau, d, weights.inv, b, memory)
+}
+
+// An action has one column, v.
+fn one_column(eta: f64) -> Coupling
+    ensures { λ r. ⌜ r ≡ one-column eta ⌝ }
+{
+    Coupling {
+        places: [0, 0, 0],
+        gains: [eta, 1.0, 1.0],
+        count: 1,
+    }
+}
+
+// 13 to 16 and 24 to 26 of an action of n values.
+pub fn admit_action(
+    g: Shape,
+    tau: f64,
+    k: usize,
+    v: &[f64],
     output: usize,
     wanted: usize,
-    v: usize,
-    n: usize,
-    norm: f64,
     memory: usize,
-    need: usize,
-) -> Checked
-    ensures { λ r. ⌜ r ≡ first (job-checks k tau output wanted v n norm memory need) ⌝ }
+) -> Job
+    requires { ⌜ (g .n ≤ 1000000) × (g .stored ≤ 16777216) ⌝ }
+    ensures { λ r. ⌜ r ≡ action-job g tau k (now (v .entry)) output wanted memory ⌝ }
 {
-    let index = check_index(k);
-    let Checked::Sound = index else {
-        return index;
-    };
-    let time = check_time(tau);
-    let Checked::Sound = time else {
-        return time;
-    };
-    let lengths = check_lengths(output, wanted, v, n);
-    let Checked::Sound = lengths else {
-        return lengths;
-    };
-    let schedule = check_schedule(30, norm, tau);
-    let Checked::Sound = schedule else {
-        return schedule;
-    };
-    check_memory(memory, need)
+    let lengths = check_lengths(output, wanted, v.len(), g.n);
+    let checked = and_then(check_index(k), and_then(check_time(tau), lengths));
+    let eta = pow2::eta_scaling(pow2::sup(v));
+    let b = one_column(eta.eta);
+    plan_job(checked, g, tau, 3, eta.inv, b, memory)
+}
+
+// w_0, then the chain: zeros, and 1 / eta at its end.
+pub fn combination_start(n: usize, w: &[f64], d: usize, inv: f64, work: &mut [f64])
+    requires { ⌜ (n ≤ length (now w)) × (n + d ≤ length (now work)) ⌝ }
+    ensures { λ _. ⌜ now (work .exit) ≡ splice 0 (combination-start n (now (w .entry)) d inv) (now (work .entry)) ⌝ }
+{
+    vectors::copy_from(work, 0, w, 0, n);
+    vectors::clear_in(work, n, d);
+    if d > 0 {
+        work[n + d - 1] = inv;
+    }
+}
+
+// For phi_0 v and an empty chain, for phi_k zeros and 1 / eta at place k - 1 of the chain.
+pub fn init_aug_vector(n: usize, v: &[f64], k: usize, inv: f64, work: &mut [f64])
+    requires { ⌜ (length (now v) ≡ n) × (n + 3 ≤ length (now work)) × (k ≤ 3) ⌝ }
+    ensures { λ _. ⌜ now (work .exit) ≡ splice 0 (init-aug-vector n (now (v .entry)) inv k) (now (work .entry)) ⌝ }
+{
+    if k == 0 {
+        vectors::copy_from(work, 0, v, 0, n);
+        vectors::clear_in(work, n, 3);
+        return;
+    }
+    vectors::clear_in(work, 0, n + 3);
+    work[n + k - 1] = inv;
 }

@@ -1,6 +1,6 @@
 -- The diagonal shift of the generator: the midpoint of its Gershgorin hull (csr_shift.rs, `csr_row`, `midpoint_shift`; phi_shift.rs,
 -- `negated_csr_shift`). Definitions only.
-use mathlib.Core.Bool.{Bool, true, false, not, _&&_, _||_}
+use mathlib.Core.Bool.{Bool, not, _&&_, _||_}
 use Prim.Native.Nat.{ℕ, _+_, _-_}
 use lib.Dec.{eqb}
 use lib.ListN.{getD}

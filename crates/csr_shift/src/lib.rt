@@ -4,6 +4,7 @@ ghost use Prim.Native.Nat.{_<_};
 ghost use Rattle.lists.specs.Find.{find};
 ghost use Rattle.general_operator.specs.Csr.{csr, Valid};
 ghost use Rattle.csr_shift.specs.Shift.{csr-row, generator-row, bad-row, midpoint, shifted-norm, worth, negated-csr-shift};
+use doubles::INF_BITS;
 
 // The diagonal of a row, and the sum of its other entries' sizes.
 pub struct Row {
@@ -86,7 +87,7 @@ fn midpoint(n: usize, starts: &[u32], cols: &[u32], vals: &[f64]) -> f64
     ensures { λ r. ⌜ r ≡ midpoint (generator-row (csr n (now (starts .entry)) (now (cols .entry)) (now (vals .entry)))) n ⌝ }
 {
     let mut high = f64::from_bits(0xfff0_0000_0000_0000);
-    let mut low = f64::from_bits(0x7ff0_0000_0000_0000);
+    let mut low = f64::from_bits(INF_BITS);
     for i in 0..n {
         let g = generator_row(n, starts, cols, vals, i);
         high = float::max(high, g.diagonal + g.rest);

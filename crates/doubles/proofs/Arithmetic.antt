@@ -1,6 +1,6 @@
 -- A sum, a product and a quotient of doubles that are not negative, by any fractions that their operands equal. Assumes nothing.
 use mathlib.Core.Path.{_≡_, refl, sym, ap, _∙_, subst}
-use Prim.Native.Nat.{ℕ, zero, suc, _+_, _-_, _*_, _/_, _%_, _^_, _≤_, _<_}
+use Prim.Native.Nat.{ℕ, zero, suc, _+_, _*_, _<_}
 use native.Mathlib.Nat.{lt-irrefl, mul-comm, mul-assoc, mul-left-comm, mul-right-comm, mul-mul-mul-comm, mul-pos, add-mul, zero-mul, zero-lt-suc, eq-of-mul-eq-mul-right}
 use mathlib.Core.Bool.{Bool, true, false, cond, true≢false}
 use lib.Dec.{eqb, eqb·suc-zero}

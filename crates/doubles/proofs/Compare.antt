@@ -28,18 +28,12 @@ nothing a b e h = none a b e (ltb-true a b h)
     none a b e l = omega arith
 
 -- ---- `x == 0.0`: a zero of either sign
-abbrev pub Zero : Float → Type 0
-Zero nan = ⊥
-Zero (inf s) = ⊥
-Zero (fin s zero e) = Unit
-Zero (fin s (suc m) e) = ⊥
-
-pub is-zero : (x : Float) → eq x +0 ≡ true → Zero x
+pub zero-cases : (P : Float → Type 0) → ((s : Bool) (e : ℤ) → P (fin s zero e)) → (x : Float) → eq x +0 ≡ true → P x
 unfolding eq ofBits
-is-zero nan h = true≢false (sym h)
-is-zero (inf s) h = true≢false (sym h)
-is-zero (fin s zero e) h = tt
-is-zero (fin s (suc m) e) h = not-zero (suc m * up e) (down e) (positive-size m e) (eqb-true (suc m * up e * 1) (0 * down e) (and-true (eqb (suc m * up e * 1) (0 * down e)) _ h))
+zero-cases P p nan h = absurd (true≢false (sym h))
+zero-cases P p (inf s) h = absurd (true≢false (sym h))
+zero-cases P p (fin s zero e) h = p s e
+zero-cases P p (fin s (suc m) e) h = absurd (not-zero (suc m * up e) (down e) (positive-size m e) (eqb-true (suc m * up e * 1) (0 * down e) (and-true (eqb (suc m * up e * 1) (0 * down e)) _ h)))
 
 -- ---- `x > 0.0`: +infinity or a number above 0
 abbrev pub Above : Float → Type 0
@@ -65,13 +59,7 @@ above-no-nan (inf s) h = tt
 above-no-nan (fin s m e) h = tt
 
 -- ---- neither: NaN, -infinity or a number below 0
-abbrev pub Below : Float → Type 0
-Below nan = Unit
-Below (inf s) = s ≡ true
-Below (fin s zero e) = ⊥
-Below (fin s (suc m) e) = s ≡ true
-
-zero-equal : (s : Bool) (e : ℤ) → eq (fin s 0 e) +0 ≡ true
+pub zero-equal : (s : Bool) (e : ℤ) → eq (fin s 0 e) +0 ≡ true
 unfolding eq ofBits
 zero-equal s e = zero-true s (0 * up e * 1) (0 * down e) (mul-one (0 * up e) ∙ zero-mul (up e)) (zero-mul (down e))
   where
@@ -82,14 +70,14 @@ zero-equal s e = zero-true s (0 * up e * 1) (0 * down e) (mul-one (0 * up e) ∙
     zero-true : (s : Bool) (a b : ℕ) → a ≡ 0 → b ≡ 0 → (eqb a b && (Bool·beq s false || eqb a 0)) ≡ true
     zero-true s a b p q = ap (λ (z : ℕ). eqb z b && (Bool·beq s false || eqb z 0)) p ∙ ap (λ (z : ℕ). eqb 0 z && (Bool·beq s false || true)) q ∙ same s
 
-pub is-below : (x : Float) → eq x +0 ≡ false → lt +0 x ≡ false → Below x
+pub below-cases : (P : Float → Type 0) → P nan → P (inf true) → ((m : ℕ) (e : ℤ) → P (fin true (suc m) e)) → (x : Float) → eq x +0 ≡ false → lt +0 x ≡ false → P x
 unfolding lt ofBits
-is-below nan h k = tt
-is-below (inf true) h k = refl
-is-below (inf false) h k = absurd (true≢false k)
-is-below (fin s zero e) h k = true≢false (sym (zero-equal s e) ∙ h)
-is-below (fin true (suc m) e) h k = refl
-is-below (fin false (suc m) e) h k = absurd (true≢false (sym (lt-ltb (0 * down e) (suc m * up e * 1) (start (0 * down e) (suc m * up e * 1) (zero-mul (down e)) (subst (λ (z : ℕ). 0 < z) (sym (mul-one (suc m * up e))) (positive-size m e)))) ∙ k))
+below-cases P n i p nan h k = n
+below-cases P n i p (inf true) h k = i
+below-cases P n i p (inf false) h k = absurd (true≢false k)
+below-cases P n i p (fin s zero e) h k = absurd (true≢false (sym (zero-equal s e) ∙ h))
+below-cases P n i p (fin true (suc m) e) h k = p m e
+below-cases P n i p (fin false (suc m) e) h k = absurd (true≢false (sym (lt-ltb (0 * down e) (suc m * up e * 1) (start (0 * down e) (suc m * up e * 1) (zero-mul (down e)) (subst (λ (z : ℕ). 0 < z) (sym (mul-one (suc m * up e))) (positive-size m e)))) ∙ k))
   where
     start : (a b : ℕ) → a ≡ 0 → 0 < b → a < b
     start a b e h = omega arith

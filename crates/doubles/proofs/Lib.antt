@@ -10,3 +10,7 @@ pub mod Arithmetic
 pub mod Time
 pub mod Sum
 pub mod Sizes
+pub mod Signs
+pub mod One
+pub mod Ceiling
+pub mod Extremes

@@ -1,19 +1,14 @@
 -- The sign of a double and its pattern: the magnitude's pattern is the pattern with the sign's bit taken off, and a finite magnitude's pattern is below the infinity's. Assumes nothing.
 use mathlib.Core.Path.{_≡_, refl, sym, ap, _∙_, subst}
-use mathlib.Core.Logic.{_⊎_, inl, inr}
 use Prim.Native.Nat.{ℕ, zero, suc, _+_, _-_, _*_, _/_, _%_, _^_, _≤_, _<_}
-use native.Mathlib.Nat.{le-trans, le-of-eq, mul-one, zero-mul, mul-pos, lt-irrefl, zero-lt-suc, add-mod-left, zero-add, mod-eq-of-lt, not-le-of-lt, lt-of-not-le, le-of-suc-le-suc}
+use native.Mathlib.Nat.{add-mod-left, zero-add, mod-eq-of-lt, lt-of-not-le, add-assoc}
 use native.Mathlib.Omega.{arith}
-use mathlib.Core.Bool.{Bool, true, false, not, _&&_, _||_, cond, true≢false}
-use lib.IntN.{ℤ, pos, negsuc}
-use lib.Dec.{T, leb, ltb, eqb, leb→le, ltb→lt, eqb→eq, not-T, lt→ltb, eqb-refl, nltb→le}
-use lib.Pow.{pow-pos}
-use lib.Ieee.{Float, nan, inf, fin, Format, binary64, prec, low, up, down, size, neg, lt, eq, ne, odd, ofFields, ofBits, toBits, nanBits, fits, isNan}
-use lib.Ieee.Fits.{up-pos, down-pos, and-l, and-r}
-use lib.Ieee.Bits.{is-false, is-true, ofBits-toBits, toBits-lt, ofBits-fits, nanBits-is}
-use lib.Ieee.Back.{whole-unique}
+use mathlib.Core.Bool.{Bool, true, false, not, cond, true≢false}
+use lib.IntN.{ℤ}
+use lib.Dec.{T, ltb, eqb, lt→ltb}
+use lib.Ieee.{Float, nan, inf, fin, binary64, up, down, size, lt, ne, ofFields, ofBits, toBits, nanBits, fits, isNan}
+use lib.Ieee.Bits.{is-true, ofBits-toBits, toBits-lt, nanBits-is}
 use lib.Ieee.Compare.{differs-from-itself, nan-differs}
-use borrow.Author.Tests.{ltb-true, ltb-false, eqb-true, eqb-false}
 use Rattle.doubles.specs.F64.{abs, is-finite}
 use Rattle.doubles.proofs.Patterns.{positive-fields}
 
@@ -27,6 +22,14 @@ no-nan (fin s m e) h = tt
 pub is-nan : (x : Float) → ne x x ≡ true → x ≡ nan
 is-nan x e = differs-from-itself x (subst T (sym e) tt)
 
+-- b is what the test found
+pub nan-told : (x : Float) (b : Bool) → ne x x ≡ b → b ≡ isNan x
+unfolding isNan
+nan-told x true e = sym (ap isNan (is-nan x e))
+nan-told nan false e = absurd (true≢false (sym nan-differs ∙ e))
+nan-told (inf s) false e = refl
+nan-told (fin s m d) false e = refl
+
 -- ---- what fits does not turn on the sign
 pub abs-fits : (x : Float) → T (fits binary64 x) → T (fits binary64 (abs x))
 unfolding fits
@@ -39,9 +42,6 @@ abs-fits (fin s (suc m) e) h = h
 below-top : (c : ℕ) → 9223372036854775808 + c < 2 * 9223372036854775808 → c < 9223372036854775808
 below-top c h = omega arith
 
-add-assoc' : (a b c : ℕ) → a + b + c ≡ a + (b + c)
-add-assoc' a b c = omega arith
-
 -- the pattern of ±m * 2 ^ e is the sign's weight and a rest that does not turn on the sign
 pub rest : ℕ → ℤ → ℕ
 unfolding size
@@ -51,7 +51,7 @@ pub bits-fin : (s : Bool) (m : ℕ) (e : ℤ) → toBits binary64 (fin s m e) �
 unfolding toBits rest
 bits-fin s m e =
     let n = m * up e * 2 ^ 1074 / down e in
-    add-assoc' (cond s 9223372036854775808 0) ((size n - 53) * 4503599627370496) (n / 2 ^ (size n - 53))
+    add-assoc (cond s 9223372036854775808 0) ((size n - 53) * 4503599627370496) (n / 2 ^ (size n - 53))
 
 pub rest-lt : (m : ℕ) (e : ℤ) → T (fits binary64 (fin true m e)) → rest m e < 9223372036854775808
 rest-lt m e h = below-top (rest m e) (subst (λ (z : ℕ). z < 2 * 9223372036854775808) (bits-fin true m e) (toBits-lt binary64 (fin true m e) h))
@@ -88,16 +88,13 @@ abs-no-nan nan n = n
 abs-no-nan (inf s) n = tt
 abs-no-nan (fin s m e) n = tt
 
+pub cleared-is : (x : Float) → T (fits binary64 x) → T (not (isNan x)) → ofBits binary64 (toBits binary64 x % 9223372036854775808) ≡ abs x
+cleared-is x f n = ap (ofBits binary64) (bits-abs x f n) ∙ ofBits-toBits binary64 (abs x) (abs-fits x f)
+
 pub cleared-no-nan : (x : Float) → T (fits binary64 x) → T (not (isNan x)) → T (not (nanBits binary64 (toBits binary64 x % 9223372036854775808)))
 cleared-no-nan x f n =
     subst (λ (b : Bool). T (not b)) (sym (nanBits-is binary64 (toBits binary64 x % 9223372036854775808)))
-    (subst (λ (v : Float). T (not (isNan v))) (sym (cleared x f n)) (abs-no-nan x n))
-  where
-    cleared : (x : Float) → T (fits binary64 x) → T (not (isNan x)) → ofBits binary64 (toBits binary64 x % 9223372036854775808) ≡ abs x
-    cleared x f n = ap (ofBits binary64) (bits-abs x f n) ∙ ofBits-toBits binary64 (abs x) (abs-fits x f)
-
-pub cleared-is : (x : Float) → T (fits binary64 x) → T (not (isNan x)) → ofBits binary64 (toBits binary64 x % 9223372036854775808) ≡ abs x
-cleared-is x f n = ap (ofBits binary64) (bits-abs x f n) ∙ ofBits-toBits binary64 (abs x) (abs-fits x f)
+    (subst (λ (v : Float). T (not (isNan v))) (sym (cleared-is x f n)) (abs-no-nan x n))
 
 -- ---- a finite magnitude's pattern is below the infinity's
 at-top : (b : ℕ) → 9218868437227405312 ≤ b → b < 9223372036854775808 → b / 4503599627370496 ≡ 2047
@@ -126,7 +123,7 @@ finite-bits (fin s m e) f h = lt-of-not-le (λ (g : 9218868437227405312 ≤ b).
     back : ofBits binary64 b ≡ fin false m e
     back = ofBits-toBits binary64 (fin false m e) (flip-fits s false m e f)
 
-inf-bits : toBits binary64 (inf false) ≡ 9218868437227405312
+pub inf-bits : toBits binary64 (inf false) ≡ 9218868437227405312
 unfolding toBits
 inf-bits = refl
 

@@ -162,11 +162,6 @@ add-view (numbers s m e s' m' e' h) (numbers t n d t' n' d' k) p q = add-numbers
 pub add-mono : (x x' y y' : Float) → T (x ⩽ x') → T (y ⩽ y') → T (not (isNan (x ⊕ y))) → T (not (isNan (x' ⊕ y'))) → T (x ⊕ y ⩽ x' ⊕ y')
 add-mono x x' y y' h k p q = add-view (le-view x x' h) (le-view y y' k) p q
 
--- a difference grows with its first term and against its second
-pub sub-mono : (x x' y y' : Float) → T (x ⩽ x') → T (y' ⩽ y) → T (not (isNan (x ⊖ y))) → T (not (isNan (x' ⊖ y'))) → T (x ⊖ y ⩽ x' ⊖ y')
-unfolding sub
-sub-mono x x' y y' h k p q = add-mono x x' (neg y) (neg y') h (⩽-neg y' y k) p q
-
 -- ---- a difference of two that differ is not lost: both are whole numbers of units of 2 ^ -1074, and so is the difference
 -- (P - N) / p is (P1 - N1) / K, (Q - M) / q is (Q1 - M1) / K and larger, and (X - Y) / (q * p) is the difference: it is 1 / K at least
 apart : (P N p P1 N1 Q M q Q1 M1 X Y K : ℕ) → 0 < K → P * K ≡ P1 * p → N * K ≡ N1 * p → Q * K ≡ Q1 * q → M * K ≡ M1 * q
@@ -240,12 +235,12 @@ cross-of s a c t b d p q h = omega (arith, rw (p, q, whole s a p, whole t b q) a
 round-upper : (s : Bool) (a c : ℕ) (t : Bool) (b d : ℕ) → 0 < c → 0 < d → under s a ≡ 0 → under t b ≡ 0 → a * d ≤ b * c → T (round binary64 s a c ⩽ round binary64 t b d)
 round-upper s a c t b d C D p q h = round-before s a c t b d C D (rw (p, q, whole s a p, whole t b q) (omega arith))
 
+under-zero : (u : Bool) → under u 0 ≡ 0
+under-zero false = refl
+under-zero true = refl
+
 zero-round-up : (u s : Bool) (a c : ℕ) → 0 < c → under s a ≡ 0 → T (fin u 0 (pos 0) ⩽ round binary64 s a c)
-zero-round-up u s a c C p = subst (λ (x : Float). T (x ⩽ round binary64 s a c)) (zero-round u) (round-upper u 0 1 s a c (pow-pos 0) C (zero-under u) p (omega arith))
-  where
-    zero-under : (u : Bool) → under u 0 ≡ 0
-    zero-under false = refl
-    zero-under true = refl
+zero-round-up u s a c C p = subst (λ (x : Float). T (x ⩽ round binary64 s a c)) (zero-round u) (round-upper u 0 1 s a c (pow-pos 0) C (under-zero u) p (omega arith))
 
 -- ---- products
 under-product : (s : Bool) (a : ℕ) (t : Bool) (b : ℕ) → under s a ≡ 0 → under t b ≡ 0 → under (unlike s t) (a * b) ≡ 0
@@ -476,11 +471,6 @@ mul-nonneg x y X Y p =
     let z = zero-twice in
     subst (λ (u : Float). T (u ⩽ x ⊗ y)) (z .1) (mul-mono +0 x +0 y (z .2) (z .2) X Y (subst (λ (u : Float). T (not (isNan u))) (sym (z .1)) (le-number-left +0 x X)) p)
 
--- a quotient
-pub div-nonneg : (x y : Float) → T (+0 ⩽ x) → T (+0 ⋖ y) → T (not (isNan (x ⊘ y))) → T (+0 ⩽ x ⊘ y)
-unfolding ofBits
-div-nonneg x y X Y p = zero-div false x y X Y p
-
 -- ---- with 0
 -- (X - Y) / (p * 1) is (P - N) / p
 same-value : (X Y P N p : ℕ) → X + N ≡ Y + P → P * (p * 1) + Y * p ≡ X * p + N * (p * 1)
@@ -489,10 +479,6 @@ same-value X Y P N p e = let k = simp add-mul at (ap (λ (z : ℕ). z * p) e) in
 over-zero : (u : Bool) → over u 0 ≡ 0
 over-zero false = refl
 over-zero true = refl
-
-under-zero : (u : Bool) → under u 0 ≡ 0
-under-zero false = refl
-under-zero true = refl
 
 zero-total : (s : Bool) (a : ℕ) (u : Bool) (p : ℕ) (v : Bool) (g : ℕ) → Sums s (a * 1) u (0 * p) v g → over v g + under s a ≡ under v g + over s a
 zero-total s a u p v g e = omega (arith, simp (mul-one, zero-mul, over-zero, under-zero) at e)

@@ -11,6 +11,7 @@ use lib.Ieee.{binary64, size, nearest}
 use lib.Ieee.Digits.{size-lt, size-le}
 use lib.Ieee.Nearest.{closest, closest-same}
 use lib.Ieee.Scale.{grid}
+use Rattle.lists.proofs.Bounds.{lt-of-le-of-ne}
 
 -- ---- rounding to the nearest multiple of u misses by at most u / 2
 abbrev Cmp : Ordering → ℕ → ℕ → Type 0
@@ -21,11 +22,8 @@ Cmp Ordering·gt a b = b < a
 cmp : (a b : ℕ) → Cmp (compare a b) a b
 cmp a b = go (compare a b) (leb→le a b) (nleb→lt a b) (eqb→eq a b) (λ (e : a ≡ b). subst (λ (x : ℕ). T (eqb a x)) e (eqb-refl a))
   where
-    strict : (a b : ℕ) → a ≤ b → (a ≡ b → ⊥) → a < b
-    strict a b h n = omega arith
-
     go : (o : Ordering) → (T (isLe o) → a ≤ b) → (T (not (isLe o)) → b < a) → (T (isEq o) → a ≡ b) → (a ≡ b → T (isEq o)) → Cmp o a b
-    go Ordering·lt h k e n = strict a b (h tt) n
+    go Ordering·lt h k e n = lt-of-le-of-ne a b (h tt) n
     go Ordering·eq h k e n = e tt
     go Ordering·gt h k e n = k tt
 
@@ -75,7 +73,7 @@ spread w u = add-mul (2 * w) 2 u ∙ ap (λ (z : ℕ). z + 2 * u) (mul-assoc 2 w
 above-half : (q u : ℕ) → (2 * q + 1) * u ≡ 2 * (q * u) + u
 above-half q u = add-mul (2 * q) 1 u ∙ ap (λ (z : ℕ). z + 1 * u) (mul-assoc 2 q u) ∙ ap (λ (z : ℕ). 2 * (q * u) + z) (one-mul u)
 
-below-half : (q u : ℕ) → 0 < q → (2 * q - 1) * u + u ≡ 2 * (q * u)
+pub below-half : (q u : ℕ) → 0 < q → (2 * q - 1) * u + u ≡ 2 * (q * u)
 below-half q u p = ap (λ (z : ℕ). (2 * q - 1) * u + z) (sym (one-mul u)) ∙ sym (add-mul (2 * q - 1) 1 u) ∙ ap (λ (z : ℕ). z * u) (back q p) ∙ mul-assoc 2 q u
   where
     back : (q : ℕ) → 0 < q → 2 * q - 1 + 1 ≡ 2 * q
@@ -116,14 +114,11 @@ pick o w q u r n c e l p a b =
     carried : (A y x u n : ℕ) → A + u ≡ 2 * y → y ≡ x + u → A < 2 * n → 2 * x + u < 2 * n
     carried A y x u n f g h = omega arith
 
-    one-up : (w u : ℕ) → suc w * u ≡ w * u + u
-    one-up w u = suc-mul w u
-
     go : (w ≡ q) ⊎ (w < q) → q ≤ suc w → nearest w o ≡ q
     go (inl t) y = at-low o w (w * u) u r n c e (subst (λ (z : ℕ). 2 * n < 2 * (z * u) + u) (sym t) (lt-of-lt-of-le b (le-of-eq (above-half q u)))) ∙ t
     go (inr t) y =
         let s : q ≡ suc w = le-antisymm y t in
-        at-high o w (w * u) u r n c e (carried ((2 * q - 1) * u) (q * u) (w * u) u n (below-half q u p) (ap (λ (z : ℕ). z * u) s ∙ one-up w u) a) ∙ sym s
+        at-high o w (w * u) u r n c e (carried ((2 * q - 1) * u) (q * u) (w * u) u n (below-half q u p) (ap (λ (z : ℕ). z * u) s ∙ suc-mul w u) a) ∙ sym s
 
 pub closest-is : (n u q : ℕ) → 0 < u → 0 < q → (2 * q - 1) * u < 2 * n → 2 * n < (2 * q + 1) * u → closest n u ≡ q
 closest-is n u q U p a b = pick (compare (n % u * 2) u) (n / u) q u (n % u) n (cmp (n % u * 2) u) (div-add-mod' n u) (mod-lt n U) p a b

@@ -14,8 +14,8 @@ use lib.Ieee.Fits.{down-pos, round-is}
 use lib.Ieee.Exact.{HasValue, round-exact}
 use lib.Ieee.Order.{le-of-values, transfer}
 use Rattle.doubles.specs.Value.{val}
-use Rattle.doubles.specs.F64.{+0, _⊕_, _⩽_, nonneg}
-use Rattle.doubles.proofs.Patterns.{bits-value, infinity, val-le}
+use Rattle.doubles.specs.F64.{+0, _⊕_, _⩽_, nonneg, _⋖_}
+use Rattle.doubles.proofs.Patterns.{bits-value, ofBits-inf, val-le}
 use Rattle.doubles.proofs.Total.{le→before, before→le, le-highest, ⩽-trans, ⩽-or-⋖, ⋖-not, sign}
 use Rattle.doubles.proofs.Monotone
 
@@ -69,6 +69,19 @@ nonneg-zero x h = go (view x h)
     go (number m e) = cross→le 0 (pos 0) m e (omega arith)
 
 -- and its sign is clear
+pub ⋖-nonneg : (r y : Float) → T (nonneg r) → T (r ⋖ y) → T (nonneg y)
+unfolding lt
+⋖-nonneg nan y p h = absurd p
+⋖-nonneg (inf true) y p h = absurd p
+⋖-nonneg (inf false) nan p h = absurd h
+⋖-nonneg (inf false) (inf s) p h = absurd h
+⋖-nonneg (inf false) (fin s n d) p h = absurd h
+⋖-nonneg (fin true m e) y p h = absurd p
+⋖-nonneg (fin false m e) nan p h = absurd h
+⋖-nonneg (fin false m e) (inf s) p h = h
+⋖-nonneg (fin false m e) (fin true n d) p h = absurd h
+⋖-nonneg (fin false m e) (fin false n d) p h = tt
+
 pub nonneg-sign : (x : Float) → T (nonneg x) → sign x ≡ false
 nonneg-sign x h = go (view x h)
   where
@@ -106,13 +119,13 @@ nonneg-of-value (fin false m e) a c h = tt
 
 pub bits-nonneg : (b : ℕ) → b ≤ 9218868437227405312 → T (nonneg (ofBits binary64 b))
 bits-nonneg b h = elim (eq-or-lt-of-le h) [
-  | inl e ↦ subst (λ (x : Float). T (nonneg x)) (sym (ap (ofBits binary64) e ∙ infinity)) tt
+  | inl e ↦ subst (λ (x : Float). T (nonneg x)) (sym (ap (ofBits binary64) e ∙ ofBits-inf)) tt
   | inr l ↦ nonneg-of-value (ofBits binary64 b) (val b) (2 ^ 1074) (bits-value b l)
 ]
 
 pub bits-le : (b c : ℕ) → b ≤ c → c ≤ 9218868437227405312 → T (le (ofBits binary64 b) (ofBits binary64 c))
 bits-le b c h k = elim (eq-or-lt-of-le k) [
-  | inl e ↦ subst (λ (x : Float). T (le (ofBits binary64 b) x)) (sym (ap (ofBits binary64) e ∙ infinity)) (le-inf (ofBits binary64 b) (bits-nonneg b (le-trans h k)))
+  | inl e ↦ subst (λ (x : Float). T (le (ofBits binary64 b) x)) (sym (ap (ofBits binary64) e ∙ ofBits-inf)) (le-inf (ofBits binary64 b) (bits-nonneg b (le-trans h k)))
   | inr l ↦ le-of-values (ofBits binary64 b) (ofBits binary64 c) (val b) (2 ^ 1074) (val c) (2 ^ 1074) (pow-pos 1074) (pow-pos 1074) (bits-value b (lt-of-le-of-lt h l)) (bits-value c l) (mul-le-mul-right (2 ^ 1074) (val-le b c h))
 ]
 
@@ -181,7 +194,7 @@ fine-view n d (number m e) g =
 pub mul-fine : (p : Float) (n : ℕ) (d : ℤ) → Fine p n → Fine (mul binary64 p (fin false n d)) n
 mul-fine p n d h = fine-view n d (view p (h .sign)) (h .grows)
 
-pub mul-mono : (p p' : Float) (n : ℕ) (d : ℤ) (n' : ℕ) (d' : ℤ) → Fine p n → Fine p' n' → T (le p p') → T (le (fin false n d) (fin false n' d')) → T (le (mul binary64 p (fin false n d)) (mul binary64 p' (fin false n' d')))
-mul-mono p p' n d n' d' a b h k =
+pub mul-fine-mono : (p p' : Float) (n : ℕ) (d : ℤ) (n' : ℕ) (d' : ℤ) → Fine p n → Fine p' n' → T (le p p') → T (le (fin false n d) (fin false n' d')) → T (le (mul binary64 p (fin false n d)) (mul binary64 p' (fin false n' d')))
+mul-fine-mono p p' n d n' d' a b h k =
     Monotone.mul-mono p p' (fin false n d) (fin false n' d') (nonneg-zero p (a .sign)) (nonneg-zero (fin false n d) tt) h k
     (nonneg-number (mul binary64 p (fin false n d)) (mul-fine p n d a .sign)) (nonneg-number (mul binary64 p' (fin false n' d')) (mul-fine p' n' d' b .sign))

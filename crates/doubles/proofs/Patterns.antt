@@ -1,17 +1,16 @@
 -- The bit patterns of the doubles that are not negative: which number each stands for, in units of 2 ^ -1074, and that a larger pattern stands for a larger number.
 -- 4503599627370496 is 2 ^ 52, 9223372036854775808 is 2 ^ 63, and 9218868437227405312 is 0x7ff0_0000_0000_0000, the pattern of the infinity. Assumes nothing.
 use mathlib.Core.Path.{_≡_, refl, sym, ap, _∙_, subst}
-use mathlib.Core.Logic.{_⊎_, inl, inr}
+use mathlib.Core.Logic.{inl, inr}
 use Prim.Native.Nat.{ℕ, zero, suc, _+_, _-_, _*_, _/_, _%_, _^_, _≤_, _<_}
-use native.Mathlib.Nat.{le-trans, le-of-eq, le-refl, lt-of-lt-of-le, lt-of-le-of-lt, not-le-of-lt, eq-or-lt-of-le, mod-eq-of-lt, mul-assoc, mul-one, mul-le-mul-right, mul-le-mul-left, mul-lt-mul-of-pos-right, pow-succ', le-of-lt, lt-of-not-le, lt-irrefl}
+use native.Mathlib.Nat.{le-trans, le-of-eq, lt-of-lt-of-le, not-le-of-lt, not-suc-le-zero, eq-or-lt-of-le, mod-eq-of-lt, mul-assoc, mul-one, mul-le-mul-right, mul-le-mul-left, mul-lt-mul-of-pos-right, pow-succ', le-of-lt, lt-irrefl}
 use native.Mathlib.Omega.{arith}
-use mathlib.Core.Bool.{Bool, true, false, not, cond}
+use mathlib.Core.Bool.{Bool, false, not, cond}
 use lib.Dec.{T, leb, eqb, leb→le, eqb→eq, not-T}
 use lib.Pow.{pow-pos, pow-mono}
-use lib.Ieee.{Float, nan, inf, fin, binary64, odd, ofFields, ofBits, nanBits, isNan, le, lt}
+use lib.Ieee.{Float, nan, inf, fin, binary64, odd, ofFields, ofBits, nanBits, isNan}
 use lib.Ieee.Bits.{is-false, cond-no, nanBits-is}
 use lib.Ieee.Exact.{HasValue, odd-sign}
-use lib.Ieee.Order.{le-of-values}
 use Rattle.doubles.specs.Value.{unitsOf, val}
 
 -- ---- a pattern below 2 ^ 63 by its two fields
@@ -25,9 +24,9 @@ positive-fields b h =
     ∙ ap (λ (s : Bool). ofFields binary64 s (b % 9223372036854775808 / 4503599627370496) (b % 4503599627370496)) (is-false (leb 9223372036854775808 b) (not-T (leb 9223372036854775808 b) (λ (u : T (leb 9223372036854775808 b)). not-le-of-lt h (leb→le 9223372036854775808 b u))))
     ∙ ap (λ (x : ℕ). ofFields binary64 false (x / 4503599627370496) (b % 4503599627370496)) (mod-eq-of-lt h)
 
-pub infinity : ofBits binary64 9218868437227405312 ≡ inf false
+pub ofBits-inf : ofBits binary64 9218868437227405312 ≡ inf false
 unfolding ofBits
-infinity = refl
+ofBits-inf = refl
 
 differ : (x : ℕ) → suc x < 2047 → suc x ≡ 2047 → ⊥
 differ x h e = omega arith
@@ -79,10 +78,7 @@ field-end (suc x) t h =
     twice t h = omega arith
 
 field-start : (x y u : ℕ) → x < y → 4503599627370496 * 2 ^ x ≤ unitsOf y u
-field-start x zero u h = absurd (no x h)
-  where
-    no : (x : ℕ) → x < 0 → ⊥
-    no x h = omega arith
+field-start x zero u h = absurd (not-suc-le-zero h)
 field-start x (suc y) u h = le-trans (mul-le-mul-left 4503599627370496 (pow-mono (le-of-suc x y h))) (mul-le-mul-right (2 ^ y) (first u))
   where
     first : (u : ℕ) → 4503599627370496 ≤ 4503599627370496 + u
@@ -100,7 +96,7 @@ digits-lt b c h e = omega arith
 fields-le : (b c : ℕ) → b < c → b / 4503599627370496 ≤ c / 4503599627370496
 fields-le b c h = omega arith
 
-digits-in : (b : ℕ) → b % 4503599627370496 < 4503599627370496
+pub digits-in : (b : ℕ) → b % 4503599627370496 < 4503599627370496
 digits-in b = omega arith
 
 pub val-lt : (b c : ℕ) → b < c → val b < val c
@@ -146,3 +142,9 @@ val-field b h = go (b / 4503599627370496) (b % 4503599627370496) h
     go : (x t : ℕ) → 1 ≤ x → unitsOf x t ≡ (4503599627370496 + t) * 2 ^ (x - 1)
     go zero t h = absurd (lt-irrefl 0 h)
     go (suc y) t h = ap (λ (z : ℕ). (4503599627370496 + t) * 2 ^ z) (same y)
+
+pub val-subnormal : (b : ℕ) → b / 4503599627370496 ≡ 0 → val b ≡ b
+val-subnormal b h = ap (λ (x : ℕ). unitsOf x (b % 4503599627370496)) h ∙ field-zero b h
+  where
+    field-zero : (b : ℕ) → b / 4503599627370496 ≡ 0 → b % 4503599627370496 ≡ b
+    field-zero b h = omega arith

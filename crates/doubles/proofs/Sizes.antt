@@ -1,17 +1,17 @@
 -- Sizes and sums of sizes: no NaN, and the sign clear. Assumes nothing.
-use mathlib.Core.Path.{_≡_, refl, sym, ap, _∙_, subst}
-use mathlib.Core.Logic.{_⊎_, inl, inr}
+use mathlib.Core.Path.{_≡_, refl, sym, _∙_, subst}
+use mathlib.Core.Logic.{inl, inr}
 use mathlib.Core.Bool.{Bool, true, false, not, true≢false}
 use Prim.Native.Nat.{ℕ, zero, suc, _<_}
 use native.Mathlib.Omega.{arith}
 use lib.Dec.{T}
-use lib.Ieee.{Float, nan, inf, fin, binary64, lt, le, ne, fits, isNan, ofBits}
+use lib.Ieee.{Float, nan, inf, fin, binary64, lt, le, ne, fits, isNan, ofBits, toBits}
 use lib.Ieee.Fits.{add-fits}
 use lib.Ieee.Bits.{ofBits-fits, is-true}
 use Rattle.lists.specs.Loop.{iter}
-use Rattle.doubles.specs.F64.{_⊕_, _⋖_, _⩽_, +0, abs, is-finite, nonneg}
+use Rattle.doubles.specs.F64.{_⋖_, _⩽_, +0, abs, is-finite, nonneg}
 use Rattle.doubles.specs.Sum.{sum}
-use Rattle.doubles.proofs.Magnitude.{is-nan}
+use Rattle.doubles.proofs.Magnitude.{is-nan, finite-bits}
 use Rattle.doubles.proofs.Total.{⩽-or-⋖, ⩽-antisymm}
 use Rattle.doubles.proofs.Order.{nonneg-add, nonneg-number, nonneg-zero, nonneg-sign}
 
@@ -71,3 +71,14 @@ finite-under (inf false) nan p l f = f
 finite-under (inf false) (inf t) p l f = f
 finite-under (inf false) (fin t n d) p l f = l
 finite-under (fin s m e) y p l f = tt
+
+-- with the sign clear a double is its size, and its pattern is below the infinity's
+pub abs-is : (y : Float) → T (nonneg y) → abs y ≡ y
+abs-is nan h = refl
+abs-is (inf true) h = absurd h
+abs-is (inf false) h = refl
+abs-is (fin true m e) h = absurd h
+abs-is (fin false m e) h = refl
+
+pub nonneg-bits : (x : Float) → T (fits binary64 x) → T (is-finite x) → T (nonneg x) → toBits binary64 x < 9218868437227405312
+nonneg-bits x f h p = subst (λ (y : Float). toBits binary64 y < 9218868437227405312) (abs-is x p) (finite-bits x f h)

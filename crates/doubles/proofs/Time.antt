@@ -4,11 +4,11 @@ use mathlib.Core.Logic.{inl, inr}
 use Prim.Native.Nat.{ℕ, _+_, _-_, _*_, _^_, _≤_, _<_}
 use native.Mathlib.Nat.{le-trans, le-of-eq, lt-of-le-of-lt, not-le-of-lt, eq-zero-or-pos, mul-one, one-mul, mul-comm, mul-le-mul-right, le-of-mul-le-mul-right, mul-sub}
 use native.Mathlib.Omega.{arith}
-use mathlib.Core.Bool.{Bool, true, false, _&&_, cond, true≢false}
+use mathlib.Core.Bool.{Bool, true, false, _&&_, cond}
 use lib.IntN.{ℤ, pos}
 use lib.Dec.{T, ltb, ltb→lt, lit≤, lit<}
 use lib.Pow.{pow-pos, pow-mono}
-use lib.Ieee.{Float, nan, inf, fin, binary64, up, down, size, round, sum, add, sub, neg, le, lt, ofBits, toBits, fits}
+use lib.Ieee.{Float, fin, binary64, up, down, size, round, sum, add, sub, neg, le, ofBits, toBits, fits}
 use lib.Ieee.Fits.{down-pos, round-fits, sub-fits}
 use lib.Ieee.Digits.{size-le}
 use lib.Ieee.Exact.{HasValue}
@@ -19,19 +19,10 @@ use Rattle.doubles.specs.Value.{val}
 use Rattle.doubles.specs.F64.{_⊕_, _⊖_, _⩽_, _⋖_, +0, 1f, is-finite, nonneg}
 use Rattle.doubles.proofs.Total.{le-number-left, le-number-right, ⩽-refl, ⋖-⩽, ⩽-antisymm}
 use Rattle.doubles.proofs.Monotone.{add-mono, add-grows, add-nonneg, add-number, sub-number, sub-shrinks, sub-above}
-use Rattle.doubles.proofs.Order.{nonneg-number, nonneg-zero, nonneg-sign, nonneg-add, nonneg-of-value, nonneg-round, View, endless, number, view, le→cross}
+use Rattle.doubles.proofs.Order.{nonneg-number, nonneg-zero, nonneg-sign, nonneg-add, nonneg-of-value, nonneg-round, View, endless, number, view, le→cross, ⋖-nonneg}
 use Rattle.doubles.proofs.Unique.{pattern-value, finite-of-value}
 use Rattle.doubles.proofs.Nearest.{Near, closest-near, grid-units}
 use Rattle.doubles.proofs.Arithmetic.{add-units}
-
--- 1, written out
-abbrev pub one : Float
-one = fin false 1 (pos 0)
-
--- the literal 1.0, and that it fits
-pub one-bits : 1f ≡ one
-unfolding ofBits
-one-bits = refl
 
 pub one-fits : T (fits binary64 1f)
 unfolding fits ofBits
@@ -221,12 +212,8 @@ rest-above t f h = sub-above t 1f f one-fits h (sub-number 1f t (unfold ofBits i
 
 -- what passes `s > 0.0` has the sign clear
 pub above-zero : (s : Float) → (+0 ⋖ s) ≡ true → T (nonneg s)
-unfolding lt ofBits
-above-zero nan h = absurd (true≢false (sym h))
-above-zero (inf true) h = absurd (true≢false (sym h))
-above-zero (inf false) h = tt
-above-zero (fin true m e) h = absurd (true≢false (sym h))
-above-zero (fin false m e) h = tt
+unfolding ofBits
+above-zero s h = ⋖-nonneg +0 s tt (subst T (sym h) tt)
 
 -- 0 is a double from 0 to 1
 pub zero-good : T (fits binary64 +0) × T (nonneg +0) × T (+0 ⩽ 1f)

@@ -10,7 +10,6 @@ use lib.IntN.{ℤ}
 use lib.Dec.{T, eqb, ltb→lt, lt→ltb, eqb→eq, T-not, not-T}
 use lib.Ieee.{Float, nan, inf, fin, binary64, up, down, below, level, neg, le, lt, eq, fits, isNan}
 use lib.Ieee.Fits.{down-pos, and-l, and-r, and-i, eq→eqb}
-use lib.Ieee.Bits.{is-false}
 use Rattle.doubles.specs.F64.{_⩽_, _⋖_}
 use Rattle.doubles.proofs.Unique.{value-unique}
 use Rattle.lists.proofs.Bounds.{lt-or-le}
@@ -243,10 +242,6 @@ pub ⩽-or-⋖ : (x y : Float) → T (not (isNan x)) → T (not (isNan y)) → T
     go : (b : Bool) → T b ⊎ T (not b)
     go true = inl tt
     go false = inr tt
-
--- ⋖-not of the flags of a test in the code
-pub ⋖-false : (x y : Float) → (x ⋖ y) ≡ true → (y ⩽ x) ≡ false
-⋖-false x y h = is-false (y ⩽ x) (not-T (y ⩽ x) (⋖-not x y (subst T (sym h) tt)))
 
 -- `lt` is part of `le`
 pub ⋖-⩽ : (x y : Float) → T (x ⋖ y) → T (x ⩽ y)

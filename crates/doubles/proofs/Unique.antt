@@ -1,21 +1,19 @@
 -- A double is its value: two that fit and have the same sign and size are one, and a double's own value rounds to itself. Assumes nothing.
 use mathlib.Core.Path.{_≡_, refl, sym, ap, _∙_, subst}
-use mathlib.Core.Logic.{_⊎_, inl, inr}
-use Prim.Native.Nat.{ℕ, zero, suc, _+_, _-_, _*_, _/_, _%_, _^_, _≤_, _<_}
-use native.Mathlib.Nat.{le-trans, le-of-eq, lt-of-lt-of-le, lt-of-le-of-lt, lt-irrefl, eq-or-lt-of-le, mul-comm, mul-assoc, mul-right-comm, mul-one, eq-of-mul-eq-mul-right, mul-pos}
+use mathlib.Core.Logic.{inl, inr}
+use Prim.Native.Nat.{ℕ, zero, suc, _+_, _*_, _/_, _%_, _^_, _<_}
+use native.Mathlib.Nat.{lt-of-lt-of-le, lt-irrefl, eq-or-lt-of-le, mul-right-comm, mul-one, eq-of-mul-eq-mul-right}
 use native.Mathlib.Omega.{arith}
-use mathlib.Core.Bool.{Bool, true, false, not, cond}
-use lib.IntN.{ℤ, pos}
+use mathlib.Core.Bool.{Bool, true, false}
 use lib.Dec.{T, lit≤}
 use Rattle.lists.proofs.Bounds.{lt-or-le}
-use lib.Pow.{pow-pos, pow-mono}
 use lib.Ieee.{Float, nan, inf, fin, binary64, up, down, round, ofBits, toBits, fits}
 use lib.Ieee.Fits.{round-fits, down-pos}
 use lib.Ieee.Bits.{ofBits-toBits}
 use lib.Ieee.Exact.{HasValue, round-exact}
-use Rattle.doubles.specs.F64.{abs, is-finite}
+use Rattle.doubles.specs.F64.{abs, is-finite, nonneg}
 use Rattle.doubles.specs.Value.{unitsOf, val}
-use Rattle.doubles.proofs.Patterns.{bits-value, val-lt}
+use Rattle.doubles.proofs.Patterns.{bits-value, digits-in, val-lt}
 use Rattle.doubles.proofs.Magnitude.{abs-fits, finite-bits}
 
 -- ---- the value of a double that fits, by the pattern of its magnitude
@@ -23,6 +21,9 @@ pub finite-of-value : (x : Float) (s : Bool) (a c : ℕ) → HasValue x s a c �
 finite-of-value nan s a c h = absurd h
 finite-of-value (inf t) s a c h = absurd h
 finite-of-value (fin t m e) s a c h = tt
+
+pub bits-finite : (b : ℕ) → b < 9218868437227405312 → T (is-finite (ofBits binary64 b))
+bits-finite b h = finite-of-value (ofBits binary64 b) false (val b) (2 ^ 1074) (bits-value b h)
 
 abs-value : (x : Float) (s : Bool) (a c : ℕ) → HasValue x s a c → HasValue (abs x) false a c
 abs-value nan s a c h = h
@@ -84,9 +85,6 @@ digits-of (suc x) t h = (4503599627370496 + t, x, refl, more t h)
     more : (t : ℕ) → t < 4503599627370496 → 4503599627370496 + t < 9007199254740992
     more t h = omega arith
 
-digits-in : (b : ℕ) → b % 4503599627370496 < 4503599627370496
-digits-in b = omega arith
-
 pub val-under : (b : ℕ) → b < 9218868437227405312 → val b < 2 ^ 2098
 val-under b h = lt-of-lt-of-le (val-lt b 9218868437227405312 h) (lit≤ tt)
 
@@ -100,12 +98,7 @@ round-self x s a c C f h =
     h
 
 -- ---- a double that is not negative and finite, in units of 2 ^ -1074
-abbrev plus : Float → Bool
-plus nan = false
-plus (inf s) = not s
-plus (fin s m e) = not s
-
-pub units-of : (x : Float) → T (fits binary64 x) → T (is-finite x) → T (plus x) → HasValue x false (val (toBits binary64 x)) (2 ^ 1074)
+pub units-of : (x : Float) → T (fits binary64 x) → T (is-finite x) → T (nonneg x) → HasValue x false (val (toBits binary64 x)) (2 ^ 1074)
 units-of nan f h p = absurd h
 units-of (inf s) f h p = absurd h
 units-of (fin true m e) f h p = absurd p

@@ -54,9 +54,12 @@ abbrev pub 2f : Float
 abbrev pub 1/2f : Float
 1/2f = bits 0x3fe0_0000_0000_0000
 
--- +infinity
+-- +infinity, and its pattern: those below it are the finite numbers whose sign is clear
+abbrev pub INF-BITS : ℕ
+INF-BITS = 0x7ff0_0000_0000_0000
+
 abbrev pub +∞ : Float
-+∞ = bits 0x7ff0_0000_0000_0000
++∞ = bits INF-BITS
 
 -- element i; a read past the end gives NaN, and no code makes one
 abbrev pub at : List Float → ℕ → Float

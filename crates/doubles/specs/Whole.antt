@@ -1,5 +1,5 @@
 -- Rust's `f64::ceil` and `f64::floor`, exact: they keep a zero's sign and give -0 between -1 and 0. Definitions only.
-use mathlib.Core.Bool.{Bool, true, false}
+use mathlib.Core.Bool.{true, false}
 use Prim.Native.Nat.{ℕ, _+_, _-_, _*_, _/_}
 use lib.Ieee.{Float, nan, inf, fin, binary64, up, down, round}
 

@@ -12,17 +12,8 @@ use Rattle.lists.specs.Loop.{iter}
 use Rattle.doubles.specs.F64.{if_then_else_, _⋖_, +0, is-finite}
 use Rattle.expmv.specs.declared.Selected.{Selected}
 use Rattle.expmv.specs.declared.Selected.the-variants.{NoRow, Row}
-use Rattle.expmv.specs.Select.{degree, admissible, sweeps, cost, cheaper, consider, select-s-m, Bounds}
+use Rattle.expmv.specs.Select.{degree, admissible, sweeps, cost, cheaper, consider, select-s-m, Bounds, Least}
 use Rattle.expmv.proofs.Rows.{degree-bounds, degree-most, sweeps-bounds}
-
--- row i is the first of least cost among the admissible rows below n, and s and m are its
-pub record Least (m-max : ℕ) (arg : Float) (n s m i : ℕ) : Type 0 where
-  pub row : i < n
-  pub fits : admissible m-max arg i ≡ true
-  pub s-is : s ≡ sweeps arg i
-  pub m-is : m ≡ degree i
-  pub least : (j : ℕ) → j < n → admissible m-max arg j ≡ true → cost arg i ≤ cost arg j
-  pub first : (j : ℕ) → j < i → admissible m-max arg j ≡ true → cost arg i < cost arg j
 
 -- what the rows below n give
 abbrev Best : ℕ → Float → ℕ → Selected → Type 0
@@ -138,12 +129,9 @@ none-if m-max arg (no-row h) = go (select-s-m m-max arg) (outcome m-max arg _ _ 
     go NoRow b = refl
     go (Row s m) (i, b) = absurd (false-true (h i (b .row)) (b .fits))
 
-pub bounds : (m-max : ℕ) (arg : Float) (s m : ℕ) → select-s-m m-max arg ≡ Row s m → Bounds m-max s m
-bounds m-max arg s m e = go (least m-max arg s m e)
-  where
-    go : ((i : ℕ) × Least m-max arg 22 s m i) → Bounds m-max s m
-    go (i, b) =
-        let p = sweeps-bounds m-max arg i (b .fits) in
-        let d = degree-bounds i (b .row) in
-        let a = degree-most m-max arg i (b .fits) in
-        record { s-some = omega (arith, b .s-is); s-most = omega (arith, b .s-is); m-some = omega (arith, b .m-is); m-most = omega (arith, b .m-is); m-allowed = omega (arith, b .m-is) }
+pub least-bounds : (m-max : ℕ) (arg : Float) {s m : ℕ} (i : ℕ) → Least m-max arg 22 s m i → Bounds m-max s m
+least-bounds m-max arg i b =
+    let p = sweeps-bounds m-max arg i (b .fits) in
+    let d = degree-bounds i (b .row) in
+    let a = degree-most m-max arg i (b .fits) in
+    record { s-some = omega (arith, b .s-is); s-most = omega (arith, b .s-is); m-some = omega (arith, b .m-is); m-most = omega (arith, b .m-is); m-allowed = omega (arith, b .m-is) }

@@ -1,7 +1,8 @@
 -- `select_s_m` over `THETA_M` (expmv.rs; Al-Mohy and Higham 2011, Table 3.1 and Algorithm 3.2). Definitions only.
 use mathlib.Core.Bool.{Bool, true, false, not, _&&_}
+use mathlib.Core.Path.{_≡_}
 use mathlib.Core.List.{List, [], _∷_}
-use Prim.Native.Nat.{ℕ, _*_, _^_, _≤_}
+use Prim.Native.Nat.{ℕ, _*_, _^_, _≤_, _<_}
 use lib.Dec.{leb, ltb}
 use lib.ListN.{getD}
 use lib.Ieee.{Float, nan, binary64, round, toUnsigned}
@@ -62,6 +63,15 @@ consider m-max arg i best = if admissible m-max arg i then cheaper (sweeps arg i
 -- the first admissible row of least cost; none for an argument that is negative or not finite
 unfoldable pub select-s-m : ℕ → Float → Selected
 select-s-m m-max arg = if is-finite arg && not (arg ⋖ +0) then iter (consider m-max arg) 22 NoRow else NoRow
+
+-- row i is the first of least cost among the admissible rows below n, and s and m are its
+pub record Least (m-max : ℕ) (arg : Float) (n s m i : ℕ) : Type 0 where
+  pub row : i < n
+  pub fits : admissible m-max arg i ≡ true
+  pub s-is : s ≡ sweeps arg i
+  pub m-is : m ≡ degree i
+  pub least : (j : ℕ) → j < n → admissible m-max arg j ≡ true → cost arg i ≤ cost arg j
+  pub first : (j : ℕ) → j < i → admissible m-max arg j ≡ true → cost arg i < cost arg j
 
 -- what s and m of a row chosen lie within
 pub record Bounds (m-max s m : ℕ) : Type 0 where

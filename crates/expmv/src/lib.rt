@@ -5,13 +5,16 @@ ghost use lib.Ieee.{nan};
 ghost use lib.ListN.{getD};
 ghost use Rattle.doubles.specs.F64.{_⊘_};
 ghost use Rattle.doubles.specs.Whole.{ceil};
-ghost use Rattle.expmv.specs.Select.{thetas, degree, cheaper, consider, select-s-m};
+ghost use Rattle.expmv.specs.Select.{M-MAX, thetas, degree, cheaper, consider, select-s-m};
 
 // No admissible row, or s sweeps of degree m.
 pub enum Selected {
     NoRow,
     Row(u32, u32),
 }
+
+// The highest degree of a sweep.
+pub const M_MAX: u32 = 30;
 
 const DEGREES: [u32; 22] = [
     1,
@@ -65,7 +68,7 @@ const THETAS: [f64; 22] = [
 
 fn degree(i: usize) -> u32
     requires { ⌜ i < 22 ⌝ }
-    ensures { λ r. ⌜ (r ≡ degree i) × (1 ≤ r) × (r ≤ 30) ⌝ }
+    ensures { λ r. ⌜ (r ≡ degree i) × (1 ≤ r) × (r ≤ M-MAX) ⌝ }
 {
     DEGREES[i]
 }

@@ -1,6 +1,11 @@
 -- An answer as the numbers that an exported function hands back (document 01, 'Oracle'). Definitions only.
-use Prim.Native.Nat.{ℕ}
+use mathlib.Core.Path.{_≡_}
+use mathlib.Core.Bool.{Bool, true, false}
+use Prim.Native.Nat.{ℕ, _<_}
 use lib.Ieee.{Float}
+use Rattle.general_operator.specs.Csr.{Csr, row-sum}
+use Rattle.generator_action.specs.declared.MatrixAnswer.{MatrixAnswer}
+use Rattle.generator_action.specs.declared.MatrixAnswer.the-variants as matrix
 use Rattle.phi_action.specs.declared.TaylorReport.{TaylorReport}
 use Rattle.phi_action.specs.declared.TaylorAnswer.{TaylorAnswer}
 use Rattle.phi_action.specs.declared.TaylorAnswer.the-variants as taylor
@@ -8,6 +13,10 @@ use Rattle.phi_krylov_arnoldi.specs.declared.KrylovPhiReport.{KrylovPhiReport}
 use Rattle.phi_krylov.specs.declared.KrylovPhiOptions.{KrylovPhiOptions}
 use Rattle.phi_krylov.specs.declared.KrylovAnswer.{KrylovAnswer}
 use Rattle.phi_krylov.specs.declared.KrylovAnswer.the-variants as krylov
+use Rattle.phi_krylov.specs.declared.PhiSolver.{PhiSolver}
+use Rattle.phi_krylov.specs.declared.PhiSolver.the-variants.{Taylor, Krylov}
+use Rattle.phi_krylov.specs.declared.PhiAnswer.{PhiAnswer}
+use Rattle.phi_krylov.specs.declared.PhiAnswer.the-variants as phi
 
 -- 0 or the refusal's number, the double reported, and three counts
 pub record Numbers : Type 0 where
@@ -20,6 +29,16 @@ pub record Numbers : Type 0 where
 abbrev pub numbers : ℕ → Float → ℕ → ℕ → ℕ → Numbers
 numbers k x a b c = record { number = k; value = x; first = a; second = b; third = c }
 
+-- of a matrix: the norm and a row
+unfoldable pub matrix-numbers : MatrixAnswer → Numbers
+matrix-numbers (matrix.Refusal k x) = numbers k x 0 0 0
+matrix-numbers (matrix.Norm x i) = numbers 0 x i 0 0
+
+-- what holds of the row i told with an answer, which document 01 leaves free: its sum is the norm; of a refusal it is 0
+abbrev pub RowTold : Csr → MatrixAnswer → ℕ → Type 0
+RowTold q (matrix.Refusal k x) i = i ≡ 0
+RowTold q (matrix.Norm x _) i = (i < q .n) × (row-sum q i ≡ x)
+
 -- of Taylor: mu, s, m and the applications
 unfoldable pub taylor-numbers : TaylorAnswer → Numbers
 taylor-numbers (taylor.Refusal k x) = numbers k x 0 0 0
@@ -30,6 +49,17 @@ unfoldable pub krylov-numbers : KrylovAnswer → Numbers
 krylov-numbers (krylov.Refusal k x) = numbers k x 0 0 0
 krylov-numbers (krylov.Soaked r) = numbers 0 (r .«est_error») (r .substeps) (r .matvecs) (r .rejected)
 
+-- of either solver: what its own call tells
+unfoldable pub phi-numbers : PhiAnswer → Numbers
+phi-numbers (phi.Refusal k x) = numbers k x 0 0 0
+phi-numbers (phi.Taylor r) = taylor-numbers (taylor.Soaked r)
+phi-numbers (phi.Krylov r) = krylov-numbers (krylov.Soaked r)
+
 -- tol, m and max_substeps, handed in as numbers (phi_krylov.rs, `KrylovPhiOptions`)
 abbrev pub options : Float → ℕ → ℕ → KrylovPhiOptions
 options tol m limit = record { tol = tol; m = m; «max_substeps» = limit }
+
+-- the solver asked for: Krylov, or Taylor, which has no options (phi_krylov.rs, `PhiSolver`)
+unfoldable pub solver : Bool → KrylovPhiOptions → PhiSolver
+solver true o = Krylov o
+solver false o = Taylor

@@ -1,15 +1,38 @@
 // The library for programs in other languages: straight on slices, with no copy and no memory of its own.
+use generator_action::MatrixAnswer;
 use phi_action::TaylorAnswer;
 use phi_krylov::KrylovAnswer;
 use phi_krylov::KrylovPhiOptions;
+use phi_krylov::PhiAnswer;
+use phi_krylov::PhiSolver;
 ghost use mathlib.Core.Path.{_≡_};
 ghost use Rattle.combination.specs.Call.{ends};
 ghost use Rattle.general_operator.specs.Csr.{csr};
-ghost use Rattle.generator_action.specs.Mass.{given};
+ghost use Rattle.generator_action.specs.Mass.{given, quotients};
+ghost use Rattle.generator_action.specs.Generator.{forward};
+ghost use Rattle.generator_action.specs.Answer.{matrix-answer};
 ghost use Rattle.phi_action.specs.Calls.{phi-combination, phi-action, phi-action-batched};
 ghost use Rattle.phi_krylov.specs.KrylovCall.{phi-combination-krylov};
-ghost use Rattle.phi_krylov.specs.Combine.{answering};
-ghost use Rattle.exports.specs.Told.{numbers, taylor-numbers, krylov-numbers, options};
+ghost use Rattle.phi_krylov.specs.Combine.{answering, combine};
+ghost use Rattle.exports.specs.Told.{numbers, matrix-numbers, RowTold, taylor-numbers, krylov-numbers, phi-numbers, options, solver};
+
+// The result is 0 or the refusal's number; `value` is the norm or the refusal's double.
+fn tell_matrix(answer: MatrixAnswer, value: &mut f64, row: &mut usize) -> u32
+    ensures { λ r. ⌜ numbers r (now (value .exit)) (now (row .exit)) 0 0 ≡ matrix-numbers answer ⌝ }
+{
+    match answer {
+        MatrixAnswer::Refusal(k, x) => {
+            *value = x;
+            *row = 0;
+            k
+        }
+        MatrixAnswer::Norm(norm, i) => {
+            *value = norm;
+            *row = i;
+            0
+        }
+    }
+}
 
 // The result is 0 or the refusal's number; `value` is mu or the refusal's double.
 fn tell_taylor(
@@ -67,6 +90,79 @@ fn tell_krylov(
     }
 }
 
+// The result is 0 or the refusal's number; `value` and the counts are told as of the evaluator used.
+fn tell_phi(
+    answer: PhiAnswer,
+    value: &mut f64,
+    first: &mut u64,
+    second: &mut u64,
+    third: &mut u64,
+) -> u32
+    ensures { λ r. ⌜ numbers r (now (value .exit)) (now (first .exit)) (now (second .exit)) (now (third .exit)) ≡ phi-numbers answer ⌝ }
+{
+    match answer {
+        PhiAnswer::Refusal(k, x) => {
+            *value = x;
+            *first = 0;
+            *second = 0;
+            *third = 0;
+            k
+        }
+        PhiAnswer::Taylor(report) => {
+            *value = report.mu;
+            *first = report.s as u64;
+            *second = report.m as u64;
+            *third = report.applications;
+            0
+        }
+        PhiAnswer::Krylov(report) => {
+            *value = report.est_error;
+            *first = report.substeps as u64;
+            *second = report.matvecs as u64;
+            *third = report.rejected as u64;
+            0
+        }
+    }
+}
+
+fn options(tol: f64, m: usize, max_substeps: usize) -> KrylovPhiOptions
+    ensures { λ r. ⌜ r ≡ options tol m «max_substeps» ⌝ }
+{
+    KrylovPhiOptions {
+        tol: tol,
+        m: m,
+        max_substeps: max_substeps,
+    }
+}
+
+fn solver(krylov: bool, o: KrylovPhiOptions) -> PhiSolver
+    ensures { λ r. ⌜ r ≡ solver krylov o ⌝ }
+{
+    if krylov {
+        return PhiSolver::Krylov(o);
+    }
+    PhiSolver::Taylor
+}
+
+// `generator_action::check_generator`, told by `tell_matrix`.
+#[no_mangle]
+pub extern "C" fn hazhendu_check_generator(
+    n: usize,
+    starts: &[u32],
+    cols: &[u32],
+    vals: &[f64],
+    with_mass: bool,
+    mass: &[f64],
+    value: &mut f64,
+    row: &mut usize,
+) -> u32
+    ensures { λ r. ⌜ numbers r (now (value .exit)) 0 0 0 ≡ matrix-numbers (matrix-answer (csr n (now (starts .entry)) (now (cols .entry)) (now (vals .entry))) (given «with_mass» (now (mass .entry)))) ⌝ }
+    ensures { λ r. ⌜ RowTold (quotients (csr n (now (starts .entry)) (now (cols .entry)) (now (vals .entry))) (given «with_mass» (now (mass .entry)))) (matrix-answer (csr n (now (starts .entry)) (now (cols .entry)) (now (vals .entry))) (given «with_mass» (now (mass .entry)))) (now (row .exit)) ⌝ }
+{
+    let answer = generator_action::check_generator(n, starts, cols, vals, with_mass, mass);
+    tell_matrix(answer, value, row)
+}
+
 // `phi_action::phi_combination`, told by `tell_taylor`.
 #[no_mangle]
 pub extern "C" fn hazhendu_phi_combination(
@@ -86,7 +182,7 @@ pub extern "C" fn hazhendu_phi_combination(
     m: &mut u32,
     applications: &mut u64,
 ) -> u32
-    ensures { λ r. ⌜ ends (numbers r (now (value .exit)) (now (s .exit)) (now (m .exit)) (now (applications .exit))) (now (out .exit)) (now (work .exit)) ≡ answering taylor-numbers (phi-combination (csr n (now (starts .entry)) (now (cols .entry)) (now (vals .entry))) (given «with_mass» (now (mass .entry))) tau count (now (w .entry)) (now (out .entry)) (now (work .entry))) ⌝ }
+    ensures { λ r. ⌜ ends (numbers r (now (value .exit)) (now (s .exit)) (now (m .exit)) (now (applications .exit))) (now (out .exit)) (now (work .exit)) ≡ answering taylor-numbers (phi-combination (forward (csr n (now (starts .entry)) (now (cols .entry)) (now (vals .entry))) (given «with_mass» (now (mass .entry)))) tau count (now (w .entry)) (now (out .entry)) (now (work .entry))) ⌝ }
 {
     let answer = phi_action::phi_combination(
         n,
@@ -123,7 +219,7 @@ pub extern "C" fn hazhendu_phi_action(
     m: &mut u32,
     applications: &mut u64,
 ) -> u32
-    ensures { λ r. ⌜ ends (numbers r (now (value .exit)) (now (s .exit)) (now (m .exit)) (now (applications .exit))) (now (out .exit)) (now (work .exit)) ≡ answering taylor-numbers (phi-action (csr n (now (starts .entry)) (now (cols .entry)) (now (vals .entry))) (given «with_mass» (now (mass .entry))) tau k (now (v .entry)) (now (out .entry)) (now (work .entry))) ⌝ }
+    ensures { λ r. ⌜ ends (numbers r (now (value .exit)) (now (s .exit)) (now (m .exit)) (now (applications .exit))) (now (out .exit)) (now (work .exit)) ≡ answering taylor-numbers (phi-action (forward (csr n (now (starts .entry)) (now (cols .entry)) (now (vals .entry))) (given «with_mass» (now (mass .entry)))) tau k (now (v .entry)) (now (out .entry)) (now (work .entry))) ⌝ }
 {
     let answer = phi_action::phi_action(
         n,
@@ -160,7 +256,7 @@ pub extern "C" fn hazhendu_phi_action_batched(
     m: &mut u32,
     applications: &mut u64,
 ) -> u32
-    ensures { λ r. ⌜ ends (numbers r (now (value .exit)) (now (s .exit)) (now (m .exit)) (now (applications .exit))) (now (out .exit)) (now (work .exit)) ≡ answering taylor-numbers (phi-action-batched (csr n (now (starts .entry)) (now (cols .entry)) (now (vals .entry))) (given «with_mass» (now (mass .entry))) tau p (now (v .entry)) (now (out .entry)) (now (work .entry))) ⌝ }
+    ensures { λ r. ⌜ ends (numbers r (now (value .exit)) (now (s .exit)) (now (m .exit)) (now (applications .exit))) (now (out .exit)) (now (work .exit)) ≡ answering taylor-numbers (phi-action-batched (forward (csr n (now (starts .entry)) (now (cols .entry)) (now (vals .entry))) (given «with_mass» (now (mass .entry)))) tau p (now (v .entry)) (now (out .entry)) (now (work .entry))) ⌝ }
 {
     let answer = phi_action::phi_action_batched(
         n,
@@ -200,13 +296,9 @@ pub extern "C" fn hazhendu_phi_combination_krylov(
     matvecs: &mut usize,
     rejected: &mut usize,
 ) -> u32
-    ensures { λ r. ⌜ ends (numbers r (now (value .exit)) (now (substeps .exit)) (now (matvecs .exit)) (now (rejected .exit))) (now (out .exit)) (now (work .exit)) ≡ answering krylov-numbers (phi-combination-krylov (csr n (now (starts .entry)) (now (cols .entry)) (now (vals .entry))) (given «with_mass» (now (mass .entry))) tau count (now (w .entry)) (options tol m «max_substeps») (now (out .entry)) (now (work .entry))) ⌝ }
+    ensures { λ r. ⌜ ends (numbers r (now (value .exit)) (now (substeps .exit)) (now (matvecs .exit)) (now (rejected .exit))) (now (out .exit)) (now (work .exit)) ≡ answering krylov-numbers (phi-combination-krylov (forward (csr n (now (starts .entry)) (now (cols .entry)) (now (vals .entry))) (given «with_mass» (now (mass .entry)))) tau count (now (w .entry)) (options tol m «max_substeps») (now (out .entry)) (now (work .entry))) ⌝ }
 {
-    let o = KrylovPhiOptions {
-        tol: tol,
-        m: m,
-        max_substeps: max_substeps,
-    };
+    let o = options(tol, m, max_substeps);
     let answer = phi_krylov::phi_combination_krylov(
         n,
         starts,
@@ -222,4 +314,48 @@ pub extern "C" fn hazhendu_phi_combination_krylov(
         work,
     );
     tell_krylov(answer, value, substeps, matvecs, rejected)
+}
+
+// `phi_krylov::combine`, told by `tell_phi`.
+#[no_mangle]
+pub extern "C" fn hazhendu_combine(
+    n: usize,
+    starts: &[u32],
+    cols: &[u32],
+    vals: &[f64],
+    with_mass: bool,
+    mass: &[f64],
+    tau: f64,
+    count: usize,
+    w: &[f64],
+    krylov: bool,
+    tol: f64,
+    m: usize,
+    max_substeps: usize,
+    out: &mut [f64],
+    work: &mut [f64],
+    value: &mut f64,
+    first: &mut u64,
+    second: &mut u64,
+    third: &mut u64,
+) -> u32
+    ensures { λ r. ⌜ ends (numbers r (now (value .exit)) (now (first .exit)) (now (second .exit)) (now (third .exit))) (now (out .exit)) (now (work .exit)) ≡ answering phi-numbers (combine (solver krylov (options tol m «max_substeps»)) (forward (csr n (now (starts .entry)) (now (cols .entry)) (now (vals .entry))) (given «with_mass» (now (mass .entry)))) tau count (now (w .entry)) (now (out .entry)) (now (work .entry))) ⌝ }
+{
+    let o = options(tol, m, max_substeps);
+    let chosen = solver(krylov, o);
+    let answer = phi_krylov::combine(
+        chosen,
+        n,
+        starts,
+        cols,
+        vals,
+        with_mass,
+        mass,
+        tau,
+        count,
+        w,
+        out,
+        work,
+    );
+    tell_phi(answer, value, first, second, third)
 }

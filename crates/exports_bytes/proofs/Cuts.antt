@@ -8,27 +8,22 @@ use Prim.Native.Nat.{ℕ, zero, suc, _/_, _≤_, _<_}
 use lib.ListN.{length, getD, take, drop, take-append-drop}
 use lib.Seq.{length-take-le, take-length, drop-length}
 use lib.Ieee.{Float}
-use Rattle.lists.proofs.Loop.{length-tabulate}
+use Rattle.general_operator.specs.Csr.{csr}
 use Rattle.generator_action.specs.Mass.{Mass, given}
+use Rattle.generator_action.specs.Generator.{forward}
 use Rattle.combination.specs.Call.{Call}
 use Rattle.exports.specs.Told.{Numbers}
-use Rattle.exports_bytes.specs.Bytes.{numbers-of, doubles-of, written-over}
-use Rattle.exports_bytes.specs.Replies.{Reply, replies, packed, told, revalued, Cut, long-told}
+use Rattle.le_bytes.specs.Bytes.{numbers-of, doubles-of, written-over}
+use Rattle.exports_bytes.specs.Replies.{Reply, replies, packed}
+use Rattle.exports_bytes.specs.Inner.{told, revalued, Cut, long-told, called}
 use Rattle.exports_bytes.specs.declared.Told.{Told}
 use Rattle.exports_bytes.specs.declared.PhiCall.{PhiCall}
 use Rattle.exports_bytes.specs.declared.PhiCall.the-variants.{Combination, Action, Batch, Krylov}
-use Rattle.exports_bytes.proofs.Unchanged.{unchanged}
-use Rattle.exports_bytes.proofs.Parts.{Part, retold, recalled, short, on, part-starts, part-mass, part-vectors, long-output}
+use Rattle.le_bytes.proofs.Counts.{count-numbers, count-doubles}
+use Rattle.le_bytes.proofs.Unchanged.{unchanged}
+use Rattle.exports_bytes.proofs.Parts.{Part, retold, recalled, short, on, part-starts, part-mass, part-vectors, long-output, other-columns}
 
 -- ---- the lists that slices stand for, and those of their cuts
-count-numbers : (b : List ℕ) → length (numbers-of b) ≡ length b / 4
-unfolding numbers-of
-count-numbers b = length-tabulate _ _
-
-count-doubles : (b : List ℕ) → length (doubles-of b) ≡ length b / 8
-unfolding doubles-of
-count-doubles b = length-tabulate _ _
-
 whole : {b : List ℕ} {r : ℕ} → r ≡ length b → take r b ≡ b
 whole {b} e = rw e (take-length b)
 
@@ -55,6 +50,10 @@ mass-part false mass len e cut = (λ t. absurd (true≢false (sym t)), λ f. ome
 -- a cut holds at most 512 elements
 pub within-numbers : (b : List ℕ) {r : ℕ} → r ≤ length b → r ≤ 2051 → length (take r b) / 4 ≤ 512
 within-numbers b {r} l m = omega (arith, length-take-le r b l, m)
+
+-- of columns, one more
+pub within-columns : (b : List ℕ) {r : ℕ} → r ≤ length b → r ≤ 2055 → length (take r b) / 4 ≤ 513
+within-columns b {r} l m = omega (arith, length-take-le r b l, m)
 
 pub within-doubles : (b : List ℕ) {r : ℕ} → r ≤ length b → r ≤ 4103 → length (take r b) / 8 ≤ 512
 within-doubles b {r} l m = omega (arith, length-take-le r b l, m)
@@ -113,3 +112,11 @@ module _ (call : PhiCall) (n : ℕ) (cols : List ℕ) (vals : List Float) (tau :
       (output-cut s (given b (doubles-of mass)) v₁ out work byte cr
       (again 7 (len / 8) (job s (given b m₁) v₁ o₁) (take r out) work (part-mass call n cols vals tau k memory few s b v₁ o₁ (h .0) (h .1))
       (again 1 (length starts / 4) (job (numbers-of (take a starts)) (given b m₁) v₁ o₁) (take r out) work (part-starts call n cols vals tau k memory few (given b m₁) v₁ o₁ (numbers-part starts ca)) e)))
+
+-- columns that are cut are still more than the entries
+pub columns-cut : (call : PhiCall) (n : ℕ) (vals : List Float) (tau : Float) (k : ℕ) (memory : List Float) (s : List ℕ) (mass : Mass) (v o : List Float) (cols : List ℕ) {r : ℕ} → length vals ≤ 512 → Cut (length cols) 2055 r
+    → called call (forward (csr n s (numbers-of (take r cols)) vals) mass) tau k v o memory ≡ called call (forward (csr n s (numbers-of cols) vals) mass) tau k v o memory
+columns-cut call n vals tau k memory s mass v o cols few (inl (e, _)) = ap (λ (c : List ℕ). called call (forward (csr n s (numbers-of c) vals) mass) tau k v o memory) (whole e)
+columns-cut call n vals tau k memory s mass v o cols {r} few (inr (e, l)) =
+    let t : length (take r cols) ≡ r = length-take-le r cols (omega (arith, e, l)) in
+    other-columns call n vals tau k memory s mass v o (numbers-of (take r cols)) (numbers-of cols) (λ q. omega (arith, q, few, count-numbers (take r cols), t, e)) (λ q. omega (arith, q, few, count-numbers cols, l))

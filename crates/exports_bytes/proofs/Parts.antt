@@ -8,31 +8,33 @@ use native.Mathlib.Omega.{arith}
 use native.Mathlib.Nat.{mul-le-mul}
 use Prim.Native.Nat.{ℕ, suc, _+_, _-_, _*_, _≤_, _<_}
 use lib.Dec.{eqb, ltb}
-use lib.ListN.{length}
+use lib.ListN.{length, getD}
 use lib.Ieee.{Float}
 use borrow.Author.Tests.{lt-ltb, le-ltb, ltb-false}
 use Rattle.doubles.specs.F64.{nat}
-use Rattle.checks.specs.First.{Check, refuse, first, below}
+use Rattle.checks.specs.First.{Check, refuse, first, before}
 use Rattle.checks.specs.declared.Checked.{Checked}
 use Rattle.checks.specs.declared.Checked.the-variants.{Refused}
-use Rattle.checks.proofs.First.{not-ne}
+use Rattle.checks.proofs.First.{passes, stops, not-ne}
 use Rattle.general_operator.specs.Csr.{Csr, csr, row-sum-norm}
-use Rattle.general_operator.specs.Checks.{wrong-rows, shape-checks, row-checks, entry-checks, matrix-checks}
+use Rattle.general_operator.specs.Checks.{wrong-rows, wrong-entries, shape-checks, row-checks, entry-checks, matrix-checks}
 use Rattle.general_operator.proofs.Sound.{or-false}
 use Rattle.generator_action.specs.Mass.{Mass, given, quotients, mass-checks, sum-checks, norm-checks, bound-checks, generator-checks}
+use Rattle.generator_action.specs.Generator.{Generator, forward}
 use Rattle.combination.specs.Call.{Call, ends, unless-refused}
 use Rattle.expmv.specs.Select.{M-MAX}
 use Rattle.combination.specs.Checks.{count-checks, index-checks, time-checks, length-checks, finite-checks, schedule-checks, memory-checks, taylor-need, vector-checks, sweep-checks, job-checks}
+use Rattle.combination.proofs.Stored.{quotients-rows}
 use Rattle.phi_action.specs.Calls.{combination-checks, action-checks, phi-combination, phi-action, phi-action-batched}
 use Rattle.phi_action.specs.declared.TaylorAnswer.the-variants as taylor
 use Rattle.phi_krylov.specs.KrylovCall.{bound, dimension, option-checks, run-checks, krylov-need, krylov-checks, phi-combination-krylov}
 use Rattle.phi_krylov.specs.declared.KrylovAnswer.the-variants as krylov
 use Rattle.phi_krylov.specs.Combine.{answering}
 use Rattle.exports.specs.Told.{Numbers, numbers, taylor-numbers, krylov-numbers, options}
-use Rattle.exports_bytes.specs.Replies.{long-told, called}
+use Rattle.exports_bytes.specs.Inner.{long-told, called}
 use Rattle.exports_bytes.specs.declared.PhiCall.{PhiCall}
 use Rattle.exports_bytes.specs.declared.PhiCall.the-variants.{Combination, Action, Batch, Krylov}
-use Rattle.exports_bytes.proofs.Alike.{Alike, stopped, behind, wrong-lengths}
+use Rattle.exports_bytes.proofs.Alike.{Alike, stopped, in-front, behind, wrong-lengths}
 
 -- ---- the checks of the four calls: of the matrix; of the number of vectors or the index, of the time, of two lengths; and others
 limit : PhiCall → ℕ → Check
@@ -53,21 +55,26 @@ expected Action n k = n
 expected Batch n k = n
 expected (Krylov tol m most) n k = k * n
 
-others : PhiCall → Csr → Mass → Float → ℕ → List Float → ℕ → List Check
-others Combination a mass tau k v memory = finite-checks v ++ sweep-checks (a .n) tau (k - 1) v (row-sum-norm (quotients a mass)) memory (taylor-need a mass (k - 1))
-others Action a mass tau k v memory = schedule-checks M-MAX (row-sum-norm (quotients a mass)) tau ++ memory-checks memory (taylor-need a mass 3)
-others Batch a mass tau k v memory = schedule-checks M-MAX (row-sum-norm (quotients a mass)) tau ++ memory-checks memory (taylor-need a mass 3)
-others (Krylov tol m most) a mass tau k v memory =
-    let M = dimension (a .n) (k - 1) m in
+others : PhiCall → Generator → Float → ℕ → List Float → ℕ → List Check
+others Combination g tau k v memory =
+    let n = g .matrix .n in
+    finite-checks v ++ sweep-checks n tau (k - 1) v (row-sum-norm (g .matrix)) memory (taylor-need n (k - 1) (g .stored))
+others Action g tau k v memory = schedule-checks M-MAX (row-sum-norm (g .matrix)) tau ++ memory-checks memory (taylor-need (g .matrix .n) 3 (g .stored))
+others Batch g tau k v memory = schedule-checks M-MAX (row-sum-norm (g .matrix)) tau ++ memory-checks memory (taylor-need (g .matrix .n) 3 (g .stored))
+others (Krylov tol m most) g tau k v memory =
+    let n = g .matrix .n in
+    let M = dimension n (k - 1) m in
     finite-checks v
     ++ (option-checks (options tol m most) M
-    ++ run-checks (a .n) tau (k - 1) v (bound tau (row-sum-norm (quotients a mass))) memory (krylov-need a mass (k - 1) M))
+    ++ run-checks n tau (k - 1) v (bound tau (row-sum-norm (g .matrix))) memory (krylov-need n (k - 1) M (g .stored)))
 
-checks : PhiCall → Csr → Mass → Float → ℕ → List Float → ℕ → ℕ → List Check
-checks call a mass tau k v output memory =
-    generator-checks a mass
-    ++ (limit call k
-    ∷ (time-checks tau ++ (length-checks output (wanted call (a .n) k) (length v) (expected call (a .n) k) ++ others call a mass tau k v memory)))
+job : PhiCall → Generator → Float → ℕ → List Float → ℕ → ℕ → List Check
+job call g tau k v output memory =
+    limit call k
+    ∷ (time-checks tau ++ (length-checks output (wanted call (g .matrix .n) k) (length v) (expected call (g .matrix .n) k) ++ others call g tau k v memory))
+
+checks : PhiCall → Generator → Float → ℕ → List Float → ℕ → ℕ → List Check
+checks call g tau k v output memory = g .checks ++ job call g tau k v output memory
 
 -- a refused call changes nothing
 refused-by : {A : Type 0} (tell : A → Numbers) (refusal : ℕ → Float → A) {c : Checked} {j : ℕ} {x : Float} (output memory : List Float) (run : Call A) → tell (refusal j x) ≡ numbers j x 0 0 0 → c ≡ Refused j x → answering tell (unless-refused refusal c output memory run) ≡ ends (numbers j x 0 0 0) output memory
@@ -82,30 +89,30 @@ krylov-refusal : (j : ℕ) (x : Float) → krylov-numbers (krylov.Refusal j x) �
 unfolding krylov-numbers
 krylov-refusal j x = refl
 
-refused : (call : PhiCall) (a : Csr) (mass : Mass) (tau : Float) (k : ℕ) (v output memory : List Float) {j : ℕ} {x : Float} → first (checks call a mass tau k v (length output) (length memory)) ≡ Refused j x → called call a mass tau k v output memory ≡ ends (numbers j x 0 0 0) output memory
-unfolding checks limit wanted expected others called combination-checks action-checks krylov-checks vector-checks job-checks count-checks index-checks time-checks length-checks finite-checks phi-combination phi-action phi-action-batched phi-combination-krylov
-refused Combination a mass tau k v output memory e = refused-by taylor-numbers taylor.Refusal output memory _ (taylor-refusal _ _) e
-refused Action a mass tau k v output memory e = refused-by taylor-numbers taylor.Refusal output memory _ (taylor-refusal _ _) e
-refused Batch a mass tau k v output memory e = refused-by taylor-numbers taylor.Refusal output memory _ (taylor-refusal _ _) e
-refused (Krylov tol m most) a mass tau k v output memory e = refused-by krylov-numbers krylov.Refusal output memory _ (krylov-refusal _ _) e
+refused : (call : PhiCall) (g : Generator) (tau : Float) (k : ℕ) (v output memory : List Float) {j : ℕ} {x : Float} → first (checks call g tau k v (length output) (length memory)) ≡ Refused j x → called call g tau k v output memory ≡ ends (numbers j x 0 0 0) output memory
+unfolding checks job limit wanted expected others called combination-checks action-checks krylov-checks vector-checks job-checks count-checks index-checks time-checks length-checks finite-checks phi-combination phi-action phi-action-batched phi-combination-krylov
+refused Combination g tau k v output memory e = refused-by taylor-numbers taylor.Refusal output memory _ (taylor-refusal _ _) e
+refused Action g tau k v output memory e = refused-by taylor-numbers taylor.Refusal output memory _ (taylor-refusal _ _) e
+refused Batch g tau k v output memory e = refused-by taylor-numbers taylor.Refusal output memory _ (taylor-refusal _ _) e
+refused (Krylov tol m most) g tau k v output memory e = refused-by krylov-numbers krylov.Refusal output memory _ (krylov-refusal _ _) e
 
 -- ---- one of the lists is too long
-low-generator : (a : Csr) (mass : Mass) → (below 15 (generator-checks a mass) ≡ generator-checks a mass) × (below 16 (generator-checks a mass) ≡ generator-checks a mass)
-unfolding below generator-checks bound-checks mass-checks sum-checks norm-checks matrix-checks shape-checks row-checks entry-checks
-low-generator a none = (refl, refl)
-low-generator a (some mass) = (refl, refl)
+not-15-16 : (a : Csr) (mass : Mass) → (before 15 (generator-checks a mass) ≡ generator-checks a mass) × (before 16 (generator-checks a mass) ≡ generator-checks a mass)
+unfolding before generator-checks bound-checks mass-checks sum-checks norm-checks matrix-checks shape-checks row-checks entry-checks
+not-15-16 a none = (refl, refl)
+not-15-16 a (some mass) = (refl, refl)
 
-low-matrix : (a : Csr) → below 7 (matrix-checks a) ≡ matrix-checks a
-unfolding below matrix-checks shape-checks row-checks entry-checks
-low-matrix a = refl
+not-7 : (a : Csr) → before 7 (matrix-checks a) ≡ matrix-checks a
+unfolding before matrix-checks shape-checks row-checks entry-checks
+not-7 a = refl
 
-low-time : (tau : Float) → below 15 (time-checks tau) ≡ time-checks tau
-unfolding below time-checks
-low-time tau = refl
+time-not-15 : (tau : Float) → before 15 (time-checks tau) ≡ time-checks tau
+unfolding before time-checks
+time-not-15 tau = refl
 
-low-output : (tau : Float) (b : Bool) (x : Float) → below 16 (time-checks tau ++ (refuse 15 b x ∷ [])) ≡ time-checks tau ++ (refuse 15 b x ∷ [])
-unfolding below time-checks
-low-output tau b x = refl
+output-not-16 : (tau : Float) (b : Bool) (x : Float) → before 16 (time-checks tau ++ (refuse 15 b x ∷ [])) ≡ time-checks tau ++ (refuse 15 b x ∷ [])
+unfolding before time-checks
+output-not-16 tau b x = refl
 
 low-limit : (call : PhiCall) (k : ℕ) → limit call k .number ≤ 13
 unfolding limit
@@ -142,24 +149,47 @@ wrong n l few h = ap (λ (t : Bool). eqb n 0 || t) (not-ne {a = l} {b = n + 1} (
 not-n : (n l : ℕ) → n ≤ 64 → 512 ≤ l → not (eqb l n) ≡ true
 not-n n l few h = not-ne {a = l} {b = n} (λ e. absurd (omega (arith, few, h, e)))
 
-module _ (call : PhiCall) (n : ℕ) (cols : List ℕ) (vals : List Float) (tau : Float) (k memory : ℕ) (few : n ≤ 64) where
-  alike-starts : (s t : List ℕ) (mass : Mass) (v : List Float) (output : ℕ) → 512 < length s → 512 ≤ length t → Alike 1 (nat (length s)) (first (checks call (csr n s cols vals) mass tau k v output memory)) (first (checks call (csr n t cols vals) mass tau k v output memory))
-  unfolding checks generator-checks matrix-checks shape-checks
-  alike-starts s t mass v output ls lt = stopped _ _ _ (wrong n _ few (omega (arith, ls))) (wrong n _ few lt)
+-- of the matrix
+alike-starts : (n : ℕ) (s t cols : List ℕ) (vals : List Float) (mass : Mass) → n ≤ 64 → 512 < length s → 512 ≤ length t → Alike 1 (nat (length s)) (first (generator-checks (csr n s cols vals) mass)) (first (generator-checks (csr n t cols vals) mass))
+unfolding generator-checks matrix-checks shape-checks
+alike-starts n s t cols vals mass few ls lt = stopped (nat (length t)) _ _ (wrong n (length s) few (omega (arith, ls))) (wrong n (length t) few lt)
 
-  alike-mass : (s : List ℕ) (m p v : List Float) (output : ℕ) → 512 < length m → 512 ≤ length p → Alike 7 (nat (length m)) (first (checks call (csr n s cols vals) (some m) tau k v output memory)) (first (checks call (csr n s cols vals) (some p) tau k v output memory))
-  unfolding checks generator-checks bound-checks mass-checks matrix-checks shape-checks row-checks entry-checks
-  alike-mass s m p v output lm lp = behind (matrix-checks (csr n s cols vals)) _ _ (low-matrix (csr n s cols vals)) (stopped _ _ _ (not-n n _ few (omega (arith, lm))) (not-n n _ few lp))
+alike-mass : (a : Csr) (m p : List Float) → a .n ≤ 64 → 512 < length m → 512 ≤ length p → Alike 7 (nat (length m)) (first (generator-checks a (some m))) (first (generator-checks a (some p)))
+unfolding generator-checks bound-checks mass-checks
+alike-mass a m p few lm lp = behind (matrix-checks a) _ _ (not-7 a) (stopped (nat (length p)) _ _ (not-n (a .n) (length m) few (omega (arith, lm))) (not-n (a .n) (length p) few lp))
 
-  alike-output : (s : List ℕ) (mass : Mass) (v : List Float) (o p : ℕ) → 512 < o → 512 ≤ p → Alike 15 (nat o) (first (checks call (csr n s cols vals) mass tau k v o memory)) (first (checks call (csr n s cols vals) mass tau k v p memory))
-  unfolding checks length-checks
-  alike-output s mass v o p lo lp =
-      wrong-lengths 15 (generator-checks (csr n s cols vals) mass) (limit call k) (time-checks tau) o p (wanted call n k) _ _ (low-generator (csr n s cols vals) mass .0) (omega (arith, low-limit call k)) (low-time tau) (few-wanted call n k few) (omega (arith, lo)) (omega (arith, lp))
+-- of the job
+module _ (call : PhiCall) (g : Generator) (tau : Float) (k memory : ℕ) (few : g .matrix .n ≤ 64) where
+  alike-output : (v : List Float) (o p : ℕ) → before 15 (g .checks) ≡ g .checks → 512 < o → 512 ≤ p → Alike 15 (nat o) (first (checks call g tau k v o memory)) (first (checks call g tau k v p memory))
+  unfolding checks job length-checks
+  alike-output v o p free lo lp =
+      wrong-lengths 15 (g .checks) (limit call k) (time-checks tau) o p (wanted call (g .matrix .n) k) _ _ free (λ e. omega (arith, low-limit call k, e)) (time-not-15 tau) (few-wanted call (g .matrix .n) k few) (omega (arith, lo)) (omega (arith, lp))
 
-  alike-vectors : (s : List ℕ) (mass : Mass) (v p : List Float) (output : ℕ) → 512 < length v → 512 ≤ length p → Alike 16 (nat (length v)) (first (checks call (csr n s cols vals) mass tau k v output memory)) (first (checks call (csr n s cols vals) mass tau k p output memory))
-  unfolding checks length-checks time-checks
-  alike-vectors s mass v p output lv lp =
-      wrong-lengths 16 (generator-checks (csr n s cols vals) mass) (limit call k) (time-checks tau ++ (refuse 15 (not (eqb output (wanted call n k))) (nat output) ∷ [])) (length v) (length p) (expected call n k) _ _ (low-generator (csr n s cols vals) mass .1) (omega (arith, low-limit call k)) (low-output tau _ _) (few-expected call n k few) (omega (arith, lv)) (omega (arith, lp))
+  alike-vectors : (v p : List Float) (output : ℕ) → before 16 (g .checks) ≡ g .checks → 512 < length v → 512 ≤ length p → Alike 16 (nat (length v)) (first (checks call g tau k v output memory)) (first (checks call g tau k p output memory))
+  unfolding checks job length-checks time-checks
+  alike-vectors v p output free lv lp =
+      wrong-lengths 16 (g .checks) (limit call k) (time-checks tau ++ (refuse 15 (not (eqb output (wanted call (g .matrix .n) k))) (nat output) ∷ [])) (length v) (length p) (expected call (g .matrix .n) k) _ _ free (λ e. omega (arith, low-limit call k, e)) (output-not-16 tau _ _) (few-expected call (g .matrix .n) k few) (omega (arith, lv)) (omega (arith, lp))
+
+-- ---- other columns
+shape-told : Bool → ℕ → ℕ → Numbers
+shape-told true starts entries = numbers 1 (nat starts) 0 0 0
+shape-told false starts entries = numbers 2 (nat entries) 0 0 0
+
+module _ (call : PhiCall) (n : ℕ) (vals : List Float) (tau : Float) (k : ℕ) (memory : List Float) (s : List ℕ) (mass : Mass) (v o : List Float) where
+  abbrev with-columns : List ℕ → Call Numbers
+  with-columns cols = called call (forward (csr n s cols vals) mass) tau k v o memory
+
+  -- not as many as the entries: refused by 2, unless by 1, and neither tells anything of them
+  columns-refused : (cols : List ℕ) → (length cols ≡ length vals → ⊥) → with-columns cols ≡ ends (shape-told (wrong-rows n (length s)) (length s) (length vals)) o memory
+  unfolding shape-told checks generator-checks matrix-checks shape-checks wrong-entries
+  columns-refused cols h = go (wrong-rows n (length s)) refl
+    where
+      go : (b : Bool) → wrong-rows n (length s) ≡ b → with-columns cols ≡ ends (shape-told b (length s) (length vals)) o memory
+      go true e = refused call (forward (csr n s cols vals) mass) tau k v o memory (sym (stops _ e refl))
+      go false e = refused call (forward (csr n s cols vals) mass) tau k v o memory (sym (passes 1 _ _ e (stops _ (ap (λ (t : Bool). t || not (eqb (getD s n 0) (length vals))) (not-ne {a = length cols} {b = length vals} h)) refl)))
+
+  pub other-columns : (cols other : List ℕ) → (length cols ≡ length vals → ⊥) → (length other ≡ length vals → ⊥) → with-columns cols ≡ with-columns other
+  other-columns cols other h h' = columns-refused cols h ∙ sym (columns-refused other h')
 
 -- ---- a call on parts of the lists
 -- l and its part p, where l counts c elements
@@ -197,32 +227,44 @@ by-part : {A : Type 0} (k c : ℕ) {l p : List A} (call : List A → Call Number
 by-part k c {p = p} call f (inl (e, few)) = ap call (sym e) ∙ short k c (call p) few
 by-part k c call f (inr (l, e, m)) = f l e m
 
-module _ (call : PhiCall) (n : ℕ) (cols : List ℕ) (vals : List Float) (tau : Float) (k : ℕ) (memory : List Float) where
-  abbrev pub on : List ℕ → Mass → List Float → List Float → Call Numbers
-  on s mass v o = called call (csr n s cols vals) mass tau k v o memory
+few-rows : (a : Csr) (mass : Mass) → a .n ≤ 64 → quotients a mass .n ≤ 64
+few-rows a mass few = omega (arith, quotients-rows a mass, few)
 
-  refusal : (s : List ℕ) (mass : Mass) (v o : List Float) (j : ℕ) (x : Float) → first (checks call (csr n s cols vals) mass tau k v (length o) (length memory)) ≡ Refused j x → on s mass v o ≡ ends (numbers j x 0 0 0) o memory
-  refusal s mass v o j x e = refused call (csr n s cols vals) mass tau k v o memory e
+module _ (call : PhiCall) (n : ℕ) (cols : List ℕ) (vals : List Float) (tau : Float) (k : ℕ) (memory : List Float) where
+  abbrev with-rows : List ℕ → Mass → Generator
+  with-rows s mass = forward (csr n s cols vals) mass
+
+  abbrev pub on : List ℕ → Mass → List Float → List Float → Call Numbers
+  on s mass v o = called call (with-rows s mass) tau k v o memory
+
+  refusal : (s : List ℕ) (mass : Mass) (v o : List Float) (j : ℕ) (x : Float) → first (checks call (with-rows s mass) tau k v (length o) (length memory)) ≡ Refused j x → on s mass v o ≡ ends (numbers j x 0 0 0) o memory
+  refusal s mass v o j x e = refused call (with-rows s mass) tau k v o memory e
+
+  -- two matrices that are refused alike
+  alike-calls : {i c : ℕ} (s t : List ℕ) (m p : Mass) (v o : List Float) → 512 < c → Alike i (nat c) (first (generator-checks (csr n s cols vals) m)) (first (generator-checks (csr n t cols vals) p)) → on s m v o ≡ recalled i c (on t p v o)
+  unfolding checks
+  alike-calls {i} {c} s t m p v o l α =
+      again i c (resolved l (in-front (generator-checks (csr n s cols vals) m) (generator-checks (csr n t cols vals) p) (job call (with-rows s m) tau k v (length o) (length memory)) (job call (with-rows t p) tau k v (length o) (length memory)) α) (refusal s m v o) (refusal t p v o))
 
   module _ (few : n ≤ 64) where
     pub part-starts : {c : ℕ} {s p : List ℕ} (mass : Mass) (v o : List Float) → Part c s p → on s mass v o ≡ recalled 1 c (on p mass v o)
     part-starts {c} {s} {p} mass v o =
         by-part 1 c (λ l. on l mass v o)
-        (λ l e m. again 1 c (resolved l (recount e (alike-starts call n cols vals tau k (length memory) few s p mass v (length o) (omega (arith, l, e)) m)) (refusal s mass v o) (refusal p mass v o)))
+        (λ l e m. alike-calls s p mass mass v o l (recount e (alike-starts n s p cols vals mass few (omega (arith, l, e)) m)))
 
     pub part-mass : {c : ℕ} {m p : List Float} (s : List ℕ) (b : Bool) (v o : List Float) → (b ≡ true → Part c m p) → (b ≡ false → c ≤ 512) → on s (given b m) v o ≡ recalled 7 c (on s (given b p) v o)
     part-mass {c} {m} {p} s true v o h h' =
         by-part 7 c (λ l. on s (some l) v o)
-        (λ l e i. again 7 c (resolved l (recount e (alike-mass call n cols vals tau k (length memory) few s m p v (length o) (omega (arith, l, e)) i)) (refusal s (some m) v o) (refusal s (some p) v o)))
+        (λ l e i. alike-calls s s (some m) (some p) v o l (recount e (alike-mass (csr n s cols vals) m p few (omega (arith, l, e)) i)))
         (h refl)
     part-mass {c} s false v o h h' = short 7 c (on s none v o) (h' refl)
 
     pub part-vectors : {c : ℕ} {v p : List Float} (s : List ℕ) (mass : Mass) (o : List Float) → Part c v p → on s mass v o ≡ recalled 16 c (on s mass p o)
     part-vectors {c} {v} {p} s mass o =
         by-part 16 c (λ l. on s mass l o)
-        (λ l e m. again 16 c (resolved l (recount e (alike-vectors call n cols vals tau k (length memory) few s mass v p (length o) (omega (arith, l, e)) m)) (refusal s mass v o) (refusal s mass p o)))
+        (λ l e m. again 16 c (resolved l (recount e (alike-vectors call (with-rows s mass) tau k (length memory) (few-rows (csr n s cols vals) mass few) v p (length o) (not-15-16 (csr n s cols vals) mass .1) (omega (arith, l, e)) m)) (refusal s mass v o) (refusal s mass p o)))
 
     -- a call whose output is too long leaves it as it was
     pub long-output : {c : ℕ} {o p : List Float} (s : List ℕ) (mass : Mass) (v : List Float) → 512 < c → length o ≡ c → 512 ≤ length p → (on s mass v o ≡ ends (retold 15 c (on s mass v p .answer)) o memory) × (on s mass v p ≡ ends (on s mass v p .answer) p memory)
     long-output {c} {o} {p} s mass v l e m =
-        resolved l (recount e (alike-output call n cols vals tau k (length memory) few s mass v (length o) (length p) (omega (arith, l, e)) m)) (refusal s mass v o) (refusal s mass v p)
+        resolved l (recount e (alike-output call (with-rows s mass) tau k (length memory) (few-rows (csr n s cols vals) mass few) v (length o) (length p) (not-15-16 (csr n s cols vals) mass .0) (omega (arith, l, e)) m)) (refusal s mass v o) (refusal s mass v p)

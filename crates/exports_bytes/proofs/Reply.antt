@@ -6,7 +6,7 @@ use Prim.Native.Nat.{ℕ}
 use lib.Ieee.{Float}
 use Rattle.combination.specs.Call.{Call, ends}
 use Rattle.exports.specs.Told.{Numbers}
-use Rattle.exports_bytes.specs.Bytes.{written-over}
+use Rattle.le_bytes.specs.Bytes.{written-over}
 use Rattle.exports_bytes.specs.Replies.{Reply, replies, packed, replied}
 
 pub packing : {t : Numbers} {f g : List Float} (out work : List ℕ) {out₁ work₁ : List ℕ} (call : Call Numbers) → ends t f g ≡ call → out₁ ≡ written-over f out → work₁ ≡ written-over g work → replies t out₁ work₁ ≡ packed call out work

@@ -1,31 +1,19 @@
 -- What a call on bytes answers (document 01, 'Oracle'). Definitions only.
--- A job is large when it has more than 64 rows, more than 512 columns or entries, or more than 4,096 doubles of working memory, whole elements
--- counted: the local arrays hold no more. A large job gets 255, and nothing is changed. Every other job is the call on the lists that its slices
--- stand for. So row starts, a given mass, vectors or an output that are too long for the job, by however much, get their numbered refusal (1, 7,
--- 16, 15), or one that comes before it, with the number of whole elements handed in.
-use mathlib.Core.Bool.{Bool, true, false, _&&_, _||_, cond}
+-- A job is large when it has more than 64 rows, more than 512 entries, or more than 4,096 doubles of working memory, whole elements counted: the
+-- local arrays hold no more. A large job gets 255, and nothing is changed. Every other job is the call on the lists that its slices stand for. So
+-- row starts, columns, a given mass, vectors or an output that are too long for the job, by however much, get their numbered refusal (1, 2, 7, 16,
+-- 15), or one that comes before it, with the number of whole elements handed in (2: of entries).
+use mathlib.Core.Bool.{Bool, true, false, _||_}
 use mathlib.Core.List.{List}
-use mathlib.Core.Logic.{_⊎_}
-use mathlib.Core.Path.{_≡_}
-use Prim.Native.Nat.{ℕ, _/_, _≤_, _<_}
-use lib.Dec.{ltb, eqb}
-use lib.Ieee.{Float}
-use Rattle.doubles.specs.F64.{nat}
-use Rattle.general_operator.specs.Csr.{Csr}
-use Rattle.generator_action.specs.Mass.{Mass}
+use Prim.Native.Nat.{ℕ, _/_}
+use lib.Dec.{ltb}
 use Rattle.combination.specs.Call.{Call}
-use Rattle.phi_action.specs.Calls.{phi-combination, phi-action, phi-action-batched}
-use Rattle.phi_krylov.specs.KrylovCall.{phi-combination-krylov}
-use Rattle.phi_krylov.specs.Combine.{answering}
-use Rattle.exports.specs.Told.{Numbers, numbers, taylor-numbers, krylov-numbers, options}
-use Rattle.exports_bytes.specs.Bytes.{written-over}
-use Rattle.exports_bytes.specs.declared.Told.{Told}
-use Rattle.exports_bytes.specs.declared.PhiCall.{PhiCall}
-use Rattle.exports_bytes.specs.declared.PhiCall.the-variants.{Combination, Action, Batch, Krylov}
+use Rattle.exports.specs.Told.{Numbers}
+use Rattle.le_bytes.specs.Bytes.{written-over}
 
--- by the rows, and the lengths in bytes of columns, entries and working memory
-unfoldable pub large : ℕ → ℕ → ℕ → ℕ → Bool
-large n cols vals work = ltb 64 n || (ltb 512 (cols / 4) || (ltb 512 (vals / 8) || ltb 4096 (work / 8)))
+-- by the rows, and the lengths in bytes of entries and working memory
+unfoldable pub large : ℕ → ℕ → ℕ → Bool
+large n vals work = ltb 64 n || (ltb 512 (vals / 8) || ltb 4096 (work / 8))
 
 -- the numbers told, and the bytes of the output and of the working memory
 pub record Reply : Type 0 where
@@ -44,46 +32,3 @@ packed c output memory = replies (c .answer) (written-over (c .output) output) (
 unfoldable pub replied : Bool → Reply → Call Numbers → Reply
 replied true unchanged c = unchanged
 replied false unchanged c = packed c (unchanged .output) (unchanged .memory)
-
--- ---- for the functions behind the exported ones
--- the numbers of a Taylor call and those of a Krylov call
-abbrev pub taylor-told : Told → Numbers
-taylor-told t = numbers (t .number) (t .value) (t .s) (t .m) (t .applications)
-
-abbrev pub krylov-told : Told → Numbers
-krylov-told t = numbers (t .number) (t .value) (t .substeps) (t .matvecs) (t .rejected)
-
-unfoldable pub told : PhiCall → Told → Numbers
-told Combination = taylor-told
-told Action = taylor-told
-told Batch = taylor-told
-told (Krylov tol m limit) = krylov-told
-
--- the four calls, told as numbers
-unfoldable pub called : PhiCall → Csr → Mass → Float → ℕ → List Float → List Float → List Float → Call Numbers
-called Combination a mass tau k v output memory = answering taylor-numbers (phi-combination a mass tau k v output memory)
-called Action a mass tau k v output memory = answering taylor-numbers (phi-action a mass tau k v output memory)
-called Batch a mass tau k v output memory = answering taylor-numbers (phi-action-batched a mass tau k v output memory)
-called (Krylov tol m limit) a mass tau k v output memory = answering krylov-numbers (phi-combination-krylov a mass tau k v (options tol m limit) output memory)
-
--- the same with another double
-abbrev pub revalued : Told → Float → Told
-revalued t x =
-    record {
-      number = t .number;
-      value = x;
-      s = t .s;
-      m = t .m;
-      applications = t .applications;
-      substeps = t .substeps;
-      matvecs = t .matvecs;
-      rejected = t .rejected;
-    }
-
--- a slice of `len` bytes is cut to r: not at all, or to the `most`
-abbrev pub Cut : ℕ → ℕ → ℕ → Type 0
-Cut len most r = ((r ≡ len) × (len ≤ most)) ⊎ ((r ≡ most) × (most < len))
-
--- the double x of a refusal where a slice of `len` elements was cut to 512: that of number k is the length handed in
-unfoldable pub long-told : ℕ → ℕ → ℕ → Float → Float
-long-told k len number x = cond (ltb 512 len && eqb number k) (nat len) x

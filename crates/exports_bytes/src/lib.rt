@@ -3,21 +3,20 @@ use phi_action::TaylorAnswer;
 use phi_krylov::KrylovAnswer;
 use phi_krylov::KrylovPhiOptions;
 ghost use mathlib.Core.Path.{_≡_};
-ghost use mathlib.Core.Bool.{_&&_, false, cond};
-ghost use Prim.Native.Nat.{_+_, _*_, _/_, _≤_, _<_};
-ghost use lib.ListN.{length, getD};
-ghost use lib.Ieee.{binary64, isNan, ofBits, toBits};
-ghost use Rattle.lists.specs.Loop.{tabulate};
-ghost use Rattle.lists.specs.Window.{splice};
+ghost use mathlib.Core.Bool.{false, cond};
+ghost use Prim.Native.Nat.{_*_, _/_, _≤_};
+ghost use lib.ListN.{length, take};
 ghost use Rattle.general_operator.specs.Csr.{csr};
 ghost use Rattle.generator_action.specs.Mass.{given};
+ghost use Rattle.generator_action.specs.Generator.{forward};
 ghost use Rattle.combination.specs.Call.{ends};
 ghost use Rattle.phi_action.specs.Calls.{phi-combination, phi-action, phi-action-batched};
 ghost use Rattle.phi_krylov.specs.KrylovCall.{phi-combination-krylov};
 ghost use Rattle.phi_krylov.specs.Combine.{answering};
+ghost use Rattle.le_bytes.specs.Bytes.{numbers-of, doubles-of};
 ghost use Rattle.exports.specs.Told.{numbers, taylor-numbers, krylov-numbers, options};
-ghost use Rattle.exports_bytes.specs.Replies.{large, replies, packed, replied, taylor-told, krylov-told, told, revalued, Cut, long-told, called};
-ghost use Rattle.exports_bytes.specs.Bytes.{half, word, double-at, numbers-of, doubles-of, byte-over, written-over};
+ghost use Rattle.exports_bytes.specs.Replies.{large, replies, packed, replied};
+ghost use Rattle.exports_bytes.specs.Inner.{taylor-told, krylov-told, told, revalued, Cut, long-told, called};
 
 // Which call; of Krylov with tol, m and max_substeps.
 enum PhiCall {
@@ -39,107 +38,12 @@ struct Told {
     rejected: usize,
 }
 
-fn byte(b: &[u8], k: usize) -> u64
-    requires { ⌜ k < length (now b) ⌝ }
-    ensures { λ r. ⌜ (r ≡ getD (now (b .entry)) k 0) × (r < 256) ⌝ }
-{
-    b[k] as u64
-}
-
-pub fn half_at(b: &[u8], k: usize) -> u64
-    requires { ⌜ k + 4 ≤ length (now b) ⌝ }
-    ensures { λ r. ⌜ (r ≡ half (now (b .entry)) k) × (r < 4294967296) ⌝ }
-{
-    byte(b, k) + 256 * byte(b, k + 1) + 65536 * byte(b, k + 2) + 16777216 * byte(b, k + 3)
-}
-
-// The double of a pattern: of every NaN pattern, the one NaN.
-fn double(w: u64) -> f64
-    ensures { λ r. ⌜ r ≡ ofBits binary64 w ⌝ }
-{
-    if w % 0x8000_0000_0000_0000 > 0x7ff0_0000_0000_0000 {
-        return float::not_a_number();
-    }
-    f64::from_bits(w)
-}
-
-pub fn double_at(b: &[u8], k: usize) -> f64
-    requires { ⌜ k + 8 ≤ length (now b) ⌝ }
-    ensures { λ r. ⌜ r ≡ double-at (now (b .entry)) k ⌝ }
-{
-    double(half_at(b, k) + 4294967296 * half_at(b, k + 4))
-}
-
-pub fn pattern(x: f64) -> u64
-    ensures { λ r. ⌜ r ≡ toBits binary64 x ⌝ }
-{
-    if x != x {
-        return 0x7ff8_0000_0000_0000;
-    }
-    f64::to_bits(x)
-}
-
-// A NaN over a NaN.
-fn stays(x: f64, b: &[u8], p: usize) -> bool
-    requires { ⌜ p + 8 ≤ length (now b) ⌝ }
-    ensures { λ r. ⌜ r ≡ (isNan x && isNan (double-at (now (b .entry)) p)) ⌝ }
-{
-    if x != x {
-        let y = double_at(b, p);
-        return y != y;
-    }
-    false
-}
-
-fn unpack_numbers(src: &[u8], dst: &mut [u32])
-    requires { ⌜ length (now dst) ≡ length (now src) / 4 ⌝ }
-    ensures { λ _. ⌜ now (dst .exit) ≡ numbers-of (now (src .entry)) ⌝ }
-{
-    for k in 0..dst.len() {
-        dst[k] = half_at(src, 4 * k) as u32;
-    }
-}
-
-fn unpack_doubles(src: &[u8], dst: &mut [f64])
-    requires { ⌜ length (now dst) ≡ length (now src) / 8 ⌝ }
-    ensures { λ _. ⌜ now (dst .exit) ≡ doubles-of (now (src .entry)) ⌝ }
-{
-    for k in 0..dst.len() {
-        dst[k] = double_at(src, 8 * k);
-    }
-}
-
-fn put(x: f64, dst: &mut [u8], p: usize)
-    requires { ⌜ p + 8 ≤ length (now dst) ⌝ }
-    ensures { λ _. ⌜ now (dst .exit) ≡ splice p (tabulate 8 (byte-over x (now (dst .entry)) p)) (now (dst .entry)) ⌝ }
-{
-    if stays(x, dst, p) {
-        return;
-    }
-    let w = pattern(x);
-    for j in 0..8usize {
-        dst[p + j] = ((w >> (8 * j)) % 256) as u8;
-    }
-}
-
-fn pack_doubles(src: &[f64], dst: &mut [u8])
-    requires { ⌜ 8 * length (now src) ≤ length (now dst) ⌝ }
-    ensures { λ _. ⌜ now (dst .exit) ≡ written-over (now (src .entry)) (now (dst .entry)) ⌝ }
-{
-    for k in 0..src.len() {
-        put(src[k], dst, 8 * k);
-    }
-}
-
 // By lengths in bytes.
-fn large(n: usize, cols: usize, vals: usize, work: usize) -> bool
-    ensures { λ r. ⌜ r ≡ large n cols vals work ⌝ }
-    ensures { λ r. ⌜ (r ≡ false → (n ≤ 64) × (cols / 4 ≤ 512) × (vals / 8 ≤ 512) × (work / 8 ≤ 4096)) ⌝ }
+fn large(n: usize, vals: usize, work: usize) -> bool
+    ensures { λ r. ⌜ r ≡ large n vals work ⌝ }
+    ensures { λ r. ⌜ (r ≡ false → (n ≤ 64) × (vals / 8 ≤ 512) × (work / 8 ≤ 4096)) ⌝ }
 {
     if n > 64 {
-        return true;
-    }
-    if cols / 4 > 512 {
         return true;
     }
     if vals / 8 > 512 {
@@ -148,7 +52,7 @@ fn large(n: usize, cols: usize, vals: usize, work: usize) -> bool
     work / 8 > 4096
 }
 
-// A slice is cut to `most` bytes, which hold 512 elements and no more.
+// A slice is cut to `most` bytes.
 fn part(len: usize, most: usize) -> usize
     ensures { λ r. ⌜ (r ≤ len) × (r ≤ most) × Cut len most r ⌝ }
 {
@@ -253,7 +157,7 @@ fn solve(
     out: &mut [f64],
     work: &mut [f64],
 ) -> Told
-    ensures { λ r. ⌜ ends (told call r) (now (out .exit)) (now (work .exit)) ≡ called call (csr n (now (starts .entry)) (now (cols .entry)) (now (vals .entry))) (given «with_mass» (now (mass .entry))) tau k (now (v .entry)) (now (out .entry)) (now (work .entry)) ⌝ }
+    ensures { λ r. ⌜ ends (told call r) (now (out .exit)) (now (work .exit)) ≡ called call (forward (csr n (now (starts .entry)) (now (cols .entry)) (now (vals .entry))) (given «with_mass» (now (mass .entry)))) tau k (now (v .entry)) (now (out .entry)) (now (work .entry)) ⌝ }
 {
     match call {
         PhiCall::Combination => of_taylor(phi_action::phi_combination(
@@ -316,54 +220,74 @@ fn solve(
     }
 }
 
-// The slices unpacked into exactly the room that they need, the call, and what it leaves packed.
+// A slice's numbers, at the front of an array.
+fn numbers_in(src: &[u8]) -> [u32; 513]
+    requires { ⌜ length (now src) / 4 ≤ 513 ⌝ }
+    ensures { λ r. ⌜ take (length (now (src .entry)) / 4) r ≡ numbers-of (now (src .entry)) ⌝ }
+{
+    let mut room = [0u32; 513];
+    let count = src.len() / 4;
+    le_bytes::unpack_numbers(src, &mut room[..count]);
+    room
+}
+
+fn doubles_in(src: &[u8]) -> [f64; 512]
+    requires { ⌜ length (now src) / 8 ≤ 512 ⌝ }
+    ensures { λ r. ⌜ take (length (now (src .entry)) / 8) r ≡ doubles-of (now (src .entry)) ⌝ }
+{
+    let mut room = [0.0f64; 512];
+    let count = src.len() / 8;
+    le_bytes::unpack_doubles(src, &mut room[..count]);
+    room
+}
+
+// Of working memory, which has up to 4,096.
+fn memory_in(src: &[u8]) -> [f64; 4096]
+    requires { ⌜ length (now src) / 8 ≤ 4096 ⌝ }
+    ensures { λ r. ⌜ take (length (now (src .entry)) / 8) r ≡ doubles-of (now (src .entry)) ⌝ }
+{
+    let mut room = [0.0f64; 4096];
+    let count = src.len() / 8;
+    le_bytes::unpack_doubles(src, &mut room[..count]);
+    room
+}
+
+// The call, and what it leaves packed.
 fn run(
     call: PhiCall,
     n: usize,
-    starts: &[u8],
-    cols: &[u8],
-    vals: &[u8],
+    starts: &[u32],
+    cols: &[u32],
+    vals: &[f64],
     with_mass: bool,
-    mass: &[u8],
+    mass: &[f64],
     tau: f64,
     k: usize,
-    v: &[u8],
+    v: &[f64],
     out: &mut [u8],
     work: &mut [u8],
-    starts_room: &mut [u32],
-    cols_room: &mut [u32],
-    vals_room: &mut [f64],
-    mass_room: &mut [f64],
-    v_room: &mut [f64],
     out_room: &mut [f64],
     work_room: &mut [f64],
 ) -> Told
-    requires { ⌜ (length (now «starts_room») ≡ length (now starts) / 4) × (length (now «cols_room») ≡ length (now cols) / 4) × (length (now «vals_room») ≡ length (now vals) / 8) × (length (now «mass_room») ≡ length (now mass) / 8) × (length (now «v_room») ≡ length (now v) / 8) × (length (now «out_room») ≡ length (now out) / 8) × (length (now «work_room») ≡ length (now work) / 8) ⌝ }
-    ensures { λ r. ⌜ replies (told call r) (now (out .exit)) (now (work .exit)) ≡ packed (called call (csr n (numbers-of (now (starts .entry))) (numbers-of (now (cols .entry))) (doubles-of (now (vals .entry)))) (given «with_mass» (doubles-of (now (mass .entry)))) tau k (doubles-of (now (v .entry))) (doubles-of (now (out .entry))) (doubles-of (now (work .entry)))) (now (out .entry)) (now (work .entry)) ⌝ }
+    requires { ⌜ (8 * length (now «out_room») ≤ length (now out)) × (8 * length (now «work_room») ≤ length (now work)) ⌝ }
+    ensures { λ r. ⌜ replies (told call r) (now (out .exit)) (now (work .exit)) ≡ packed (called call (forward (csr n (now (starts .entry)) (now (cols .entry)) (now (vals .entry))) (given «with_mass» (now (mass .entry)))) tau k (now (v .entry)) (now («out_room» .entry)) (now («work_room» .entry))) (now (out .entry)) (now (work .entry)) ⌝ }
 {
-    unpack_numbers(starts, starts_room);
-    unpack_numbers(cols, cols_room);
-    unpack_doubles(vals, vals_room);
-    unpack_doubles(mass, mass_room);
-    unpack_doubles(v, v_room);
-    unpack_doubles(out, out_room);
-    unpack_doubles(work, work_room);
     let answer = solve(
         call,
         n,
-        starts_room,
-        cols_room,
-        vals_room,
+        starts,
+        cols,
+        vals,
         with_mass,
-        mass_room,
+        mass,
         tau,
         k,
-        v_room,
+        v,
         out_room,
         work_room,
     );
-    pack_doubles(out_room, out);
-    pack_doubles(work_room, work);
+    le_bytes::pack_doubles(out_room, out);
+    le_bytes::pack_doubles(work_room, work);
     answer
 }
 
@@ -382,16 +306,16 @@ fn in_rooms(
     out: &mut [u8],
     work: &mut [u8],
 ) -> Told
-    requires { ⌜ (length (now starts) / 4 ≤ 512) × (length (now cols) / 4 ≤ 512) × (length (now vals) / 8 ≤ 512) × (length (now mass) / 8 ≤ 512) × (length (now v) / 8 ≤ 512) × (length (now out) / 8 ≤ 512) × (length (now work) / 8 ≤ 4096) ⌝ }
-    ensures { λ r. ⌜ replies (told call r) (now (out .exit)) (now (work .exit)) ≡ packed (called call (csr n (numbers-of (now (starts .entry))) (numbers-of (now (cols .entry))) (doubles-of (now (vals .entry)))) (given «with_mass» (doubles-of (now (mass .entry)))) tau k (doubles-of (now (v .entry))) (doubles-of (now (out .entry))) (doubles-of (now (work .entry)))) (now (out .entry)) (now (work .entry)) ⌝ }
+    requires { ⌜ (length (now starts) / 4 ≤ 512) × (length (now cols) / 4 ≤ 513) × (length (now vals) / 8 ≤ 512) × (length (now mass) / 8 ≤ 512) × (length (now v) / 8 ≤ 512) × (length (now out) / 8 ≤ 512) × (length (now work) / 8 ≤ 4096) ⌝ }
+    ensures { λ r. ⌜ replies (told call r) (now (out .exit)) (now (work .exit)) ≡ packed (called call (forward (csr n (numbers-of (now (starts .entry))) (numbers-of (now (cols .entry))) (doubles-of (now (vals .entry)))) (given «with_mass» (doubles-of (now (mass .entry))))) tau k (doubles-of (now (v .entry))) (doubles-of (now (out .entry))) (doubles-of (now (work .entry)))) (now (out .entry)) (now (work .entry)) ⌝ }
 {
-    let mut starts_room = [0u32; 512];
-    let mut cols_room = [0u32; 512];
-    let mut vals_room = [0.0f64; 512];
-    let mut mass_room = [0.0f64; 512];
-    let mut v_room = [0.0f64; 512];
-    let mut out_room = [0.0f64; 512];
-    let mut work_room = [0.0f64; 4096];
+    let starts_room = numbers_in(starts);
+    let cols_room = numbers_in(cols);
+    let vals_room = doubles_in(vals);
+    let mass_room = doubles_in(mass);
+    let v_room = doubles_in(v);
+    let mut out_room = doubles_in(out);
+    let mut work_room = memory_in(work);
     let starts_count = starts.len() / 4;
     let cols_count = cols.len() / 4;
     let vals_count = vals.len() / 8;
@@ -402,28 +326,23 @@ fn in_rooms(
     run(
         call,
         n,
-        starts,
-        cols,
-        vals,
+        &starts_room[..starts_count],
+        &cols_room[..cols_count],
+        &vals_room[..vals_count],
         with_mass,
-        mass,
+        &mass_room[..mass_count],
         tau,
         k,
-        v,
+        &v_room[..v_count],
         out,
         work,
-        &mut starts_room[..starts_count],
-        &mut cols_room[..cols_count],
-        &mut vals_room[..vals_count],
-        &mut mass_room[..mass_count],
-        &mut v_room[..v_count],
         &mut out_room[..out_count],
         &mut work_room[..work_count],
     )
 }
 
-// A job that is not large is refused where row starts, a given mass, vectors or output have more than 512 elements. Cut slices are refused alike;
-// `reported` gives the length handed in.
+// A job that is not large is refused where columns, row starts, a given mass, vectors or output have more than 512 elements. Cut slices are refused
+// alike, columns while they are more than 512, the most entries; `reported` gives the length handed in. 2 reports the entries, which are not cut.
 fn answer(
     call: PhiCall,
     n: usize,
@@ -439,9 +358,9 @@ fn answer(
     work: &mut [u8],
     unchanged: Told,
 ) -> Told
-    ensures { λ r. ⌜ replies (told call r) (now (out .exit)) (now (work .exit)) ≡ replied (large n (length (now (cols .entry))) (length (now (vals .entry))) (length (now (work .entry)))) (replies (told call unchanged) (now (out .entry)) (now (work .entry))) (called call (csr n (numbers-of (now (starts .entry))) (numbers-of (now (cols .entry))) (doubles-of (now (vals .entry)))) (given «with_mass» (doubles-of (now (mass .entry)))) tau k (doubles-of (now (v .entry))) (doubles-of (now (out .entry))) (doubles-of (now (work .entry)))) ⌝ }
+    ensures { λ r. ⌜ replies (told call r) (now (out .exit)) (now (work .exit)) ≡ replied (large n (length (now (vals .entry))) (length (now (work .entry)))) (replies (told call unchanged) (now (out .entry)) (now (work .entry))) (called call (forward (csr n (numbers-of (now (starts .entry))) (numbers-of (now (cols .entry))) (doubles-of (now (vals .entry)))) (given «with_mass» (doubles-of (now (mass .entry))))) tau k (doubles-of (now (v .entry))) (doubles-of (now (out .entry))) (doubles-of (now (work .entry)))) ⌝ }
 {
-    if large(n, cols.len(), vals.len(), work.len()) {
+    if large(n, vals.len(), work.len()) {
         return unchanged;
     }
     let starts_len = starts.len();
@@ -449,6 +368,7 @@ fn answer(
     let v_len = v.len();
     let out_len = out.len();
     let starts_part = part(starts_len, 2051);
+    let cols_part = part(cols.len(), 2055);
     let mass_part = part(mass_len, 4103);
     let v_part = part(v_len, 4103);
     let out_part = part(out_len, 4103);
@@ -456,7 +376,7 @@ fn answer(
         call,
         n,
         &starts[..starts_part],
-        cols,
+        &cols[..cols_part],
         vals,
         with_mass,
         &mass[..mass_part],
@@ -498,7 +418,7 @@ pub extern "C" fn hazhendu_phi_combination_bytes(
     m: &mut u32,
     applications: &mut u64,
 ) -> u32
-    ensures { λ r. ⌜ replies (numbers r (now (value .exit)) (now (s .exit)) (now (m .exit)) (now (applications .exit))) (now (out .exit)) (now (work .exit)) ≡ replied (large n (length (now (cols .entry))) (length (now (vals .entry))) (length (now (work .entry)))) (replies (numbers 255 (now (value .entry)) (now (s .entry)) (now (m .entry)) (now (applications .entry))) (now (out .entry)) (now (work .entry))) (answering taylor-numbers (phi-combination (csr n (numbers-of (now (starts .entry))) (numbers-of (now (cols .entry))) (doubles-of (now (vals .entry)))) (given «with_mass» (doubles-of (now (mass .entry)))) tau count (doubles-of (now (w .entry))) (doubles-of (now (out .entry))) (doubles-of (now (work .entry))))) ⌝ }
+    ensures { λ r. ⌜ replies (numbers r (now (value .exit)) (now (s .exit)) (now (m .exit)) (now (applications .exit))) (now (out .exit)) (now (work .exit)) ≡ replied (large n (length (now (vals .entry))) (length (now (work .entry)))) (replies (numbers 255 (now (value .entry)) (now (s .entry)) (now (m .entry)) (now (applications .entry))) (now (out .entry)) (now (work .entry))) (answering taylor-numbers (phi-combination (forward (csr n (numbers-of (now (starts .entry))) (numbers-of (now (cols .entry))) (doubles-of (now (vals .entry)))) (given «with_mass» (doubles-of (now (mass .entry))))) tau count (doubles-of (now (w .entry))) (doubles-of (now (out .entry))) (doubles-of (now (work .entry))))) ⌝ }
 {
     let t = answer(
         PhiCall::Combination,
@@ -537,7 +457,7 @@ pub extern "C" fn hazhendu_phi_action_bytes(
     m: &mut u32,
     applications: &mut u64,
 ) -> u32
-    ensures { λ r. ⌜ replies (numbers r (now (value .exit)) (now (s .exit)) (now (m .exit)) (now (applications .exit))) (now (out .exit)) (now (work .exit)) ≡ replied (large n (length (now (cols .entry))) (length (now (vals .entry))) (length (now (work .entry)))) (replies (numbers 255 (now (value .entry)) (now (s .entry)) (now (m .entry)) (now (applications .entry))) (now (out .entry)) (now (work .entry))) (answering taylor-numbers (phi-action (csr n (numbers-of (now (starts .entry))) (numbers-of (now (cols .entry))) (doubles-of (now (vals .entry)))) (given «with_mass» (doubles-of (now (mass .entry)))) tau k (doubles-of (now (v .entry))) (doubles-of (now (out .entry))) (doubles-of (now (work .entry))))) ⌝ }
+    ensures { λ r. ⌜ replies (numbers r (now (value .exit)) (now (s .exit)) (now (m .exit)) (now (applications .exit))) (now (out .exit)) (now (work .exit)) ≡ replied (large n (length (now (vals .entry))) (length (now (work .entry)))) (replies (numbers 255 (now (value .entry)) (now (s .entry)) (now (m .entry)) (now (applications .entry))) (now (out .entry)) (now (work .entry))) (answering taylor-numbers (phi-action (forward (csr n (numbers-of (now (starts .entry))) (numbers-of (now (cols .entry))) (doubles-of (now (vals .entry)))) (given «with_mass» (doubles-of (now (mass .entry))))) tau k (doubles-of (now (v .entry))) (doubles-of (now (out .entry))) (doubles-of (now (work .entry))))) ⌝ }
 {
     let t = answer(
         PhiCall::Action,
@@ -576,7 +496,7 @@ pub extern "C" fn hazhendu_phi_action_batched_bytes(
     m: &mut u32,
     applications: &mut u64,
 ) -> u32
-    ensures { λ r. ⌜ replies (numbers r (now (value .exit)) (now (s .exit)) (now (m .exit)) (now (applications .exit))) (now (out .exit)) (now (work .exit)) ≡ replied (large n (length (now (cols .entry))) (length (now (vals .entry))) (length (now (work .entry)))) (replies (numbers 255 (now (value .entry)) (now (s .entry)) (now (m .entry)) (now (applications .entry))) (now (out .entry)) (now (work .entry))) (answering taylor-numbers (phi-action-batched (csr n (numbers-of (now (starts .entry))) (numbers-of (now (cols .entry))) (doubles-of (now (vals .entry)))) (given «with_mass» (doubles-of (now (mass .entry)))) tau p (doubles-of (now (v .entry))) (doubles-of (now (out .entry))) (doubles-of (now (work .entry))))) ⌝ }
+    ensures { λ r. ⌜ replies (numbers r (now (value .exit)) (now (s .exit)) (now (m .exit)) (now (applications .exit))) (now (out .exit)) (now (work .exit)) ≡ replied (large n (length (now (vals .entry))) (length (now (work .entry)))) (replies (numbers 255 (now (value .entry)) (now (s .entry)) (now (m .entry)) (now (applications .entry))) (now (out .entry)) (now (work .entry))) (answering taylor-numbers (phi-action-batched (forward (csr n (numbers-of (now (starts .entry))) (numbers-of (now (cols .entry))) (doubles-of (now (vals .entry)))) (given «with_mass» (doubles-of (now (mass .entry))))) tau p (doubles-of (now (v .entry))) (doubles-of (now (out .entry))) (doubles-of (now (work .entry))))) ⌝ }
 {
     let t = answer(
         PhiCall::Batch,
@@ -618,7 +538,7 @@ pub extern "C" fn hazhendu_phi_combination_krylov_bytes(
     matvecs: &mut usize,
     rejected: &mut usize,
 ) -> u32
-    ensures { λ r. ⌜ replies (numbers r (now (value .exit)) (now (substeps .exit)) (now (matvecs .exit)) (now (rejected .exit))) (now (out .exit)) (now (work .exit)) ≡ replied (large n (length (now (cols .entry))) (length (now (vals .entry))) (length (now (work .entry)))) (replies (numbers 255 (now (value .entry)) (now (substeps .entry)) (now (matvecs .entry)) (now (rejected .entry))) (now (out .entry)) (now (work .entry))) (answering krylov-numbers (phi-combination-krylov (csr n (numbers-of (now (starts .entry))) (numbers-of (now (cols .entry))) (doubles-of (now (vals .entry)))) (given «with_mass» (doubles-of (now (mass .entry)))) tau count (doubles-of (now (w .entry))) (options tol m «max_substeps») (doubles-of (now (out .entry))) (doubles-of (now (work .entry))))) ⌝ }
+    ensures { λ r. ⌜ replies (numbers r (now (value .exit)) (now (substeps .exit)) (now (matvecs .exit)) (now (rejected .exit))) (now (out .exit)) (now (work .exit)) ≡ replied (large n (length (now (vals .entry))) (length (now (work .entry)))) (replies (numbers 255 (now (value .entry)) (now (substeps .entry)) (now (matvecs .entry)) (now (rejected .entry))) (now (out .entry)) (now (work .entry))) (answering krylov-numbers (phi-combination-krylov (forward (csr n (numbers-of (now (starts .entry))) (numbers-of (now (cols .entry))) (doubles-of (now (vals .entry)))) (given «with_mass» (doubles-of (now (mass .entry))))) tau count (doubles-of (now (w .entry))) (options tol m «max_substeps») (doubles-of (now (out .entry))) (doubles-of (now (work .entry))))) ⌝ }
 {
     let t = answer(
         PhiCall::Krylov(tol, m, max_substeps),

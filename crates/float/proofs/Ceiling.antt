@@ -1,27 +1,27 @@
 -- Each way out of `ceil` gives the ceiling. Assumes nothing.
 use mathlib.Core.Path.{_≡_, refl, sym, ap, _∙_, subst}
-use mathlib.Core.Logic.{_⊎_, inl, inr}
-use Prim.Native.Nat.{ℕ, zero, suc, _+_, _-_, _*_, _/_, _%_, _^_, _≤_, _<_, compare}
-use native.Mathlib.Nat.{le-trans, le-of-eq, lt-of-lt-of-le, lt-of-le-of-lt, lt-irrefl, mul-comm, mul-assoc, mul-right-comm, mul-one, one-mul, zero-add, add-mul, eq-of-mul-eq-mul-right, div-add-mod', mod-lt}
+use Prim.Native.Nat.{ℕ, zero, suc, _+_, _-_, _*_, _/_, _%_, _^_, _≤_, _<_}
+use native.Mathlib.Nat.{lt-of-le-of-lt, lt-irrefl, mul-right-comm, mul-one, one-mul, zero-add, add-mul, eq-of-mul-eq-mul-right, div-add-mod', mod-lt}
 use native.Mathlib.Omega.{arith}
 use mathlib.Core.Bool.{Bool, true, false, not, cond, true≢false}
-use lib.IntN.{ℤ, pos}
-use lib.Dec.{T, ltb, lt→ltb}
+use lib.IntN.{ℤ}
+use lib.Dec.{T, ltb}
 use lib.Pow.{pow-pos}
 use lib.Arith.{digits-div}
-use lib.Ieee.{Float, nan, inf, fin, Format, binary64, prec, emax, low, up, down, nearest, odd, units, round, neg, add, ofBits, toBits, nanBits, isNan, fits}
-use lib.Ieee.Fits.{round-fits, round-is, neg-fits, down-pos}
-use lib.Ieee.Bits.{ofBits-toBits, ofBits-fits, nanBits-is}
+use lib.Ieee.{Float, nan, inf, fin, Format, binary64, prec, emax, low, up, down, odd, units, round, neg, add, ofBits, toBits, nanBits, isNan, fits}
+use lib.Ieee.Fits.{round-is, down-pos}
+use lib.Ieee.Bits.{ofBits-fits}
 use lib.Ieee.Exact.{HasValue}
 use lib.Ieee.Nearest.{div-same}
 use lib.Ieee.Scale.{round-same}
-use borrow.Author.Tests.{lt-ltb, ltb-false}
-use Rattle.doubles.specs.F64.{abs, is-finite}
+use borrow.Author.Tests.{lt-ltb}
+use Rattle.lists.proofs.Bounds.{pred-lt}
+use Rattle.doubles.specs.F64.{is-finite}
 use Rattle.doubles.specs.Value.{val}
 use Rattle.doubles.specs.Whole.{whole-above, whole-below, ceil, floor}
 use Rattle.doubles.proofs.Patterns.{bits-value, finite-no-nan}
-use Rattle.doubles.proofs.Magnitude.{bits-abs, finite-bits, finite-test, bits-fin, rest, rest-lt, flip-fits}
-use Rattle.doubles.proofs.Unique.{pattern-value, val-inj, round-self, value-unique}
+use Rattle.doubles.proofs.Magnitude.{bits-abs, finite-bits, finite-test, bits-fin, rest, flip-fits}
+use Rattle.doubles.proofs.Unique.{pattern-value, val-inj, round-self}
 
 -- ---- a sign goes through `round`
 neg-odd : (d : ℕ) (s : Bool) (q k l : ℕ) → neg (odd d s q k l) ≡ odd d (not s) q k l
@@ -111,11 +111,8 @@ module _ (m : ℕ) (e : ℤ) (f : T (fits binary64 (fin false m e))) (w : ℕ) (
   when-whole s p =
       let q : m * up e ≡ part m e * down e = same-whole p in
       go s (sym (round-self (fin s m e) s (part m e) 1 (pow-pos 0) (flip-fits false s m e f) (refl, mul-one (m * up e) ∙ q)))
-      (sym (ap (λ (z : ℕ). (z + (down e - 1)) / down e) q ∙ digits-div (part m e) (less (down e) (down-pos e))))
+      (sym (ap (λ (z : ℕ). (z + (down e - 1)) / down e) q ∙ digits-div (part m e) (pred-lt (down e) (down-pos e))))
     where
-      less : (d : ℕ) → 0 < d → d - 1 < d
-      less d h = omega arith
-
       go : (s : Bool) → fin s m e ≡ round binary64 s (part m e) 1 → part m e ≡ whole-above (m * up e) (down e) → fin s m e ≡ ceil (fin s m e)
       go true h k = h
       go false h k = h ∙ ap (λ (z : ℕ). round binary64 false z 1) k

@@ -1,12 +1,11 @@
 -- A ceiling that is at most 4294967295 is a `u32`: the cast is allowed, and gives the whole number. Assumes nothing.
-use mathlib.Core.Path.{_≡_, refl, sym, ap, _∙_, subst}
-use mathlib.Core.Logic.{_⊎_, inl, inr}
-use Prim.Native.Nat.{ℕ, _*_, _^_, _≤_, _<_}
-use native.Mathlib.Nat.{le-trans, le-of-lt, le-of-eq, lt-of-le-of-lt, not-le-of-lt, mul-le-mul-right, mul-one}
-use native.Mathlib.Omega.{arith}
-use mathlib.Core.Bool.{Bool, true, false}
-use lib.IntN.{ℤ, pos}
-use lib.Dec.{T, le→leb, lit≤, lit<}
+use mathlib.Core.Path.{_≡_}
+use mathlib.Core.Logic.{inl, inr}
+use Prim.Native.Nat.{ℕ, _*_, _<_}
+use native.Mathlib.Nat.{le-trans, le-of-lt, mul-le-mul-right}
+use mathlib.Core.Bool.{false}
+use lib.IntN.{ℤ}
+use lib.Dec.{T, le→leb, lit≤}
 use lib.Pow.{pow-pos}
 use lib.Ieee.{Float, fin, binary64, up, down, round, le, ofInt, inFloat, inUnsigned, toUnsigned}
 use lib.Ieee.Order.{round-mono}

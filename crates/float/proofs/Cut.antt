@@ -1,12 +1,12 @@
 -- The whole part of the number that a pattern stands for, by the pattern: the digits below the point are cut off. Assumes nothing.
-use mathlib.Core.Path.{_≡_, refl, sym, ap, _∙_, subst}
-use Prim.Native.Nat.{ℕ, zero, suc, _+_, _-_, _*_, _/_, _%_, _^_, _≤_, _<_}
-use native.Mathlib.Nat.{le-trans, le-of-eq, lt-of-lt-of-le, mod-eq-of-lt, mod-le, one-mul, mul-assoc, mul-comm, mul-le-mul-left, mul-div-cancel, mul-div-mul-right, div-add-mod', add-mul-mod-self-right, zero-mul, div-eq-of-lt}
+use mathlib.Core.Path.{_≡_, refl, sym, ap, _∙_}
+use Prim.Native.Nat.{ℕ, suc, _+_, _-_, _*_, _/_, _%_, _^_, _≤_, _<_}
+use native.Mathlib.Nat.{le-trans, lt-of-lt-of-le, mod-le, mul-assoc, mul-comm, mul-le-mul-left, mul-div-cancel, mul-div-mul-right, div-add-mod', add-mul-mod-self-right, zero-mul, div-eq-of-lt}
 use native.Mathlib.Omega.{arith}
 use lib.Dec.{lit≤}
-use lib.Pow.{pow-add, pow-pos, pow-mono, pow-lt}
-use Rattle.doubles.specs.Value.{unitsOf, val}
-use Rattle.doubles.proofs.Patterns.{field-end, val-carry, val-field}
+use lib.Pow.{pow-add, pow-pos, pow-mono}
+use Rattle.doubles.specs.Value.{val}
+use Rattle.doubles.proofs.Patterns.{field-end, digits-in, val-carry, val-field}
 
 -- below 1
 low-field : (x : ℕ) → x < 1023 → x ≤ 1022
@@ -16,9 +16,6 @@ pub below-one : (a : ℕ) → a / 4503599627370496 < 1023 → val a < 2 ^ 1074
 below-one a h =
     lt-of-lt-of-le (field-end (a / 4503599627370496) (a % 4503599627370496) (digits-in a))
     (le-trans (mul-le-mul-left 4503599627370496 (pow-mono (low-field (a / 4503599627370496) h))) (lit≤ tt))
-  where
-    digits-in : (b : ℕ) → b % 4503599627370496 < 4503599627370496
-    digits-in b = omega arith
 
 pub cut-low : (a : ℕ) → a / 4503599627370496 < 1023 → 0 ≡ val a / 2 ^ 1074 * 2 ^ 1074
 cut-low a h = sym (ap (λ (z : ℕ). z * 2 ^ 1074) (div-eq-of-lt (below-one a h)) ∙ zero-mul (2 ^ 1074))
@@ -48,8 +45,8 @@ split-exp y h l = omega arith
 few-digits : (y : ℕ) → 1023 ≤ y → (52 - (1075 - y)) + (1075 - y) ≡ 52
 few-digits y h = omega arith
 
-pub few : (y : ℕ) → 1023 ≤ y → 1075 - y < 64
-few y h = omega arith
+pub shift-under : (y : ℕ) → 1023 ≤ y → 1075 - y < 64
+shift-under y h = omega arith
 
 pattern-is : (a : ℕ) → a ≡ a % 4503599627370496 + a / 4503599627370496 * 4503599627370496
 pattern-is a = omega arith

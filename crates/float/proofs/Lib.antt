@@ -1,4 +1,3 @@
 pub mod Cut
 pub mod Ceiling
 pub mod Counts
-pub mod Extremes

@@ -1,10 +1,12 @@
 // Exact functions of a double, each total: NaN, infinities, zeros of both signs and subnormals included.
 ghost use mathlib.Core.Path.{_≡_};
 ghost use Prim.Native.Nat.{_<_, _≤_, _*_, _/_, _^_};
-ghost use lib.Ieee.{Float, nan};
-ghost use Rattle.doubles.specs.F64.{abs, is-finite, maxNum, minNum, nat};
+ghost use lib.Ieee.{nan};
+ghost use Rattle.doubles.specs.F64.{INF-BITS, abs, is-finite, maxNum, minNum, nat};
 ghost use Rattle.doubles.specs.Value.{val};
 ghost use Rattle.doubles.specs.Whole.{ceil, floor};
+use doubles::INF_BITS;
+use doubles::SIGN_BIT;
 
 // The bits of a NaN are not defined, so that is tested first.
 pub fn abs(x: f64) -> f64
@@ -13,7 +15,7 @@ pub fn abs(x: f64) -> f64
     if x != x {
         return x;
     }
-    f64::from_bits(f64::to_bits(x) % 0x8000_0000_0000_0000)
+    f64::from_bits(f64::to_bits(x) % SIGN_BIT)
 }
 
 pub fn is_finite(x: f64) -> bool
@@ -22,7 +24,7 @@ pub fn is_finite(x: f64) -> bool
     if x != x {
         return false;
     }
-    f64::to_bits(x) % 0x8000_0000_0000_0000 < 0x7ff0_0000_0000_0000
+    f64::to_bits(x) % SIGN_BIT < INF_BITS
 }
 
 pub fn not_a_number() -> f64
@@ -66,7 +68,7 @@ pub fn min(x: f64, y: f64) -> f64
 
 // The pattern of the whole part of the number that the pattern a stands for.
 fn whole_bits(a: u64) -> u64
-    requires { ⌜ a < 0x7ff0_0000_0000_0000 ⌝ }
+    requires { ⌜ a < INF-BITS ⌝ }
     ensures { λ r. ⌜ (r ≤ a) × (val r ≡ val a / 2 ^ 1074 * 2 ^ 1074) ⌝ }
 {
     let field = a / 0x10_0000_0000_0000;
@@ -86,8 +88,8 @@ pub fn ceil(x: f64) -> f64
         return x;
     }
     let b = f64::to_bits(x);
-    let a = b % 0x8000_0000_0000_0000;
-    if a < 0x7ff0_0000_0000_0000 {
+    let a = b % SIGN_BIT;
+    if a < INF_BITS {
         let w = whole_bits(a);
         if w == a {
             return x;

@@ -1,13 +1,17 @@
 -- Where the rows of a valid matrix lie. Assumes nothing.
-use mathlib.Core.Path.{_≡_, refl, sym, ap, _∙_, subst}
+use mathlib.Core.Path.{_≡_, subst}
 use Prim.Native.Nat.{ℕ, zero, suc, _+_, _-_, _≤_, _<_}
 use native.Mathlib.Nat.{add-zero, add-suc, le-refl, le-trans, add-sub-of-le}
 use native.Mathlib.Numerals.{add-one}
 use native.Mathlib.Omega.{arith}
 use lib.ListN.{length}
 use Rattle.lists.proofs.Loop.{length-tabulate}
-use Rattle.general_operator.specs.Csr.{Csr, start, Valid, row-product, apply-generator}
-use lib.Ieee.{Float}
+use Rattle.general_operator.specs.Csr.{Csr, start, Valid, apply-generator, size-sum, row-sum}
+use lib.Dec.{T}
+use lib.Ieee.{Float, binary64, fits, isNan}
+use mathlib.Core.Bool.{not}
+use Rattle.doubles.specs.F64.{at, nonneg}
+use Rattle.doubles.proofs.Sizes.{abs-nonneg, sum-nonneg, sum-fits}
 use mathlib.Core.List.{List}
 
 module _ {q : Csr} (v : Valid q) where
@@ -29,3 +33,12 @@ module _ {q : Csr} (v : Valid q) where
 pub length-apply : (q : Csr) (x : List Float) → length (apply-generator q x) ≡ q .n
 unfolding apply-generator
 length-apply q x = length-tabulate (q .n) _
+
+-- a row whose entries are no NaN sums to what is not negative
+pub row-sum-nonneg : (q : Csr) (i : ℕ) → ((k : ℕ) → start q i ≤ k → k < start q (i + 1) → T (not (isNan (at (q .entries) k)))) → T (nonneg (row-sum q i))
+unfolding row-sum size-sum
+row-sum-nonneg q i h = sum-nonneg (start q (i + 1) - start q i) _ (λ k l. abs-nonneg _ (h (start q i + k) (omega arith) (omega arith)))
+
+pub row-sum-fits : (q : Csr) (i : ℕ) → T (fits binary64 (row-sum q i))
+unfolding row-sum size-sum
+row-sum-fits q i = sum-fits _ _

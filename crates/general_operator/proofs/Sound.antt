@@ -1,22 +1,23 @@
 -- What a matrix is known to have that passes the checks. Assumes nothing.
-use mathlib.Core.Bool.{Bool, true, false, not, _&&_, _||_}
-use mathlib.Core.List.{List, [], _∷_, _++_}
+use mathlib.Core.Bool.{Bool, true, false, not, _||_}
+use mathlib.Core.List.{List, _++_}
 use mathlib.Core.Path.{_≡_, refl, sym, _∙_}
-use mathlib.Core.Logic.{_⊎_, inl, inr, ⊎-elim}
-use Prim.Native.Nat.{ℕ, zero, suc, _+_, _≤_, _<_}
+use mathlib.Core.Logic.{⊎-elim}
+use Prim.Native.Nat.{ℕ, _+_, _≤_, _<_}
+use native.Mathlib.Nat.{eq-zero-or-pos}
 use native.Mathlib.Omega.{arith}
-use lib.Dec.{leb, ltb, eqb}
+use lib.Dec.{eqb}
 use lib.ListN.{length, getD}
-use lib.Ieee.{Float, nan}
+use lib.Ieee.{Float}
 use borrow.Author.Tests.{eqb-true, eqb-false, not-false, ltb-false, leb-false}
 use Rattle.lists.specs.Find.{exists}
 use Rattle.lists.proofs.Find.{none-below}
 use Rattle.checks.specs.First.{first}
 use Rattle.checks.proofs.First.{sound-cons, sound-append}
 use Rattle.checks.specs.declared.Checked.{Checked}
-use Rattle.checks.specs.declared.Checked.the-variants.{Sound, Refused}
+use Rattle.checks.specs.declared.Checked.the-variants.{Sound}
 use Rattle.doubles.specs.F64.{is-finite, at}
-use Rattle.general_operator.specs.Csr.{Csr, csr, start, Valid}
+use Rattle.general_operator.specs.Csr.{Csr, Valid}
 use Rattle.general_operator.specs.Checks.{wrong-rows, wrong-entries, too-large, falls, bad-column, bad-entry, shape-checks, row-checks, entry-checks, matrix-checks}
 
 -- ---- 1 to 3
@@ -28,10 +29,6 @@ pub record Shape (n : ℕ) (starts : List ℕ) (columns entries : ℕ) : Type 0 
   pub few : n ≤ 1000000
   pub light : entries ≤ 16777216
 
-zero-or : (n : ℕ) → (n ≡ 0) ⊎ (0 < n)
-zero-or zero = inl refl
-zero-or (suc n) = inr (omega arith)
-
 pub or-false : (a b : Bool) → (a || b) ≡ false → (a ≡ false) × (b ≡ false)
 or-false true b e = (e, cc)
 or-false false b e = (refl, e)
@@ -41,7 +38,7 @@ unfolding wrong-rows
 rows-right n len e =
     let q = or-false (eqb n 0) (not (eqb len (n + 1))) e in
     let z = eqb-false n 0 (q .0) in
-    (⊎-elim (λ (g : n ≡ 0). absurd (z g)) (λ (g : 0 < n). g) (zero-or n), eqb-true len (n + 1) (not-false (eqb len (n + 1)) (q .1)))
+    (⊎-elim (λ (g : n ≡ 0). absurd (z g)) (λ (g : 0 < n). g) (eq-zero-or-pos n), eqb-true len (n + 1) (not-false (eqb len (n + 1)) (q .1)))
 
 pub shape-sound : (n : ℕ) (starts : List ℕ) (columns entries : ℕ) → Sound ≡ first (shape-checks n starts columns entries) → Shape n starts columns entries
 unfolding shape-checks wrong-entries too-large

@@ -1,8 +1,8 @@
 // The checks 1 to 6 of a sparse matrix, on any input.
 use checks::Checked;
 ghost use mathlib.Core.Path.{_≡_};
-ghost use Prim.Native.Nat.{ℕ, _+_, _≤_, _<_};
-ghost use lib.ListN.{length, getD};
+ghost use Prim.Native.Nat.{_+_, _<_};
+ghost use lib.ListN.{length};
 ghost use Rattle.lists.specs.Find.{find};
 ghost use Rattle.checks.specs.First.{first};
 ghost use Rattle.general_operator.specs.Csr.{csr};

@@ -1,16 +1,17 @@
 -- What the answer to a matrix tells. Assumes nothing.
-use mathlib.Core.Path.{_≡_, refl, sym, ap, _∙_, subst}
+use mathlib.Core.Path.{_≡_, refl, sym, ap, _∙_}
 use mathlib.Core.Bool.{Bool, true, false, true≢false}
 use mathlib.Core.List.{List}
 use mathlib.Core.Option.{none, some}
-use Prim.Native.Nat.{ℕ, zero, suc, _<_}
+use Prim.Native.Nat.{ℕ, zero, suc, _≤_, _<_}
+use native.Mathlib.Nat.{le-refl}
 use native.Mathlib.Omega.{arith}
-use lib.Dec.{T}
-use lib.Ieee.{Float, nan, inf, fin}
+use lib.Ieee.{Float}
 use borrow.Author.Tests.{not-false}
 use Rattle.lists.specs.Loop.{iter}
 use Rattle.lists.proofs.Find.{none-below}
-use Rattle.doubles.specs.F64.{+0, is-finite, replaced, maxNum}
+use Rattle.doubles.specs.F64.{+0, is-finite, maxNum}
+use Rattle.doubles.proofs.Extremes.{replaced-finite}
 use Rattle.checks.specs.First.{first}
 use Rattle.checks.specs.declared.Checked.{Checked}
 use Rattle.checks.specs.declared.Checked.the-variants.{Sound, Refused}
@@ -20,9 +21,9 @@ use Rattle.general_operator.specs.Checks.{matrix-checks}
 use Rattle.general_operator.proofs.Sound.{sound-valid}
 use Rattle.generator_action.specs.declared.MatrixAnswer.{MatrixAnswer}
 use Rattle.generator_action.specs.declared.MatrixAnswer.the-variants.{Refusal, Norm}
-use Rattle.generator_action.specs.Mass.{Mass, given, normalise, quotients, mass-checks, bad-sum, sum-checks, norm-checks, bound-checks, generator-checks}
-use Rattle.generator_action.specs.Answer.{unless-refused, matrix-answer, fixed}
-use Rattle.generator_action.specs.Known.{Dividing, Divided, Accepted}
+use Rattle.generator_action.specs.Mass.{Mass, given, normalise, quotients, quotient-need, mass-checks, bad-sum, sum-checks, norm-checks, bound-checks, generator-checks}
+use Rattle.generator_action.specs.Answer.{number, value, unless-refused, matrix-answer, fixed}
+use Rattle.generator_action.specs.Known.{Dividing, Divided, Accepted, shape-of, Passed}
 use Rattle.generator_action.proofs.Quotients.{quotients-valid}
 use Rattle.generator_action.proofs.Ways.{mass-sound}
 
@@ -37,17 +38,10 @@ norm-of (Refused j y) norm e = (cc, cc)
 norm-of Sound norm e = (refl, cc)
 
 -- the largest of finite sums is finite
-max-finite : (x y : Float) (b : Bool) → is-finite x ≡ true → is-finite y ≡ true → is-finite (replaced x y b) ≡ true
-unfolding replaced
-max-finite nan y b p q = q
-max-finite (inf s) y b p q = absurd (subst T (sym p) tt)
-max-finite (fin s m d) y true p q = q
-max-finite (fin s m d) y false p q = p
-
 largest-finite : (q : Csr) (i : ℕ) → ((k : ℕ) → k < i → is-finite (row-sum q k) ≡ true) → is-finite (iter (λ j m. maxNum m (row-sum q j)) i +0) ≡ true
 unfolding iter maxNum lib.Ieee.ofBits
 largest-finite q zero h = refl
-largest-finite q (suc i) h = max-finite _ (row-sum q i) _ (largest-finite q i (λ k l. h k (omega arith))) (h i (omega arith))
+largest-finite q (suc i) h = replaced-finite _ (row-sum q i) _ (largest-finite q i (λ k l. h k (omega arith))) (h i (omega arith))
 
 sums-finite : (q : Csr) → Sound ≡ first (sum-checks q) → is-finite (row-sum-norm q) ≡ true
 unfolding sum-checks bad-sum row-sum-norm
@@ -65,6 +59,11 @@ bound-sound : (a : Csr) (mass : Mass) → Sound ≡ first (bound-checks a mass) 
 unfolding bound-checks quotients
 bound-sound a none e = (norm-finite a e, tt)
 bound-sound a (some mass) e = let s = sound-append (mass-checks a mass) (sum-checks (normalise a mass)) e in (sums-finite (normalise a mass) (s .1), mass-sound a mass (s .0))
+
+-- a refusal taken apart by its number and its double
+pub passed-up : {r : MatrixAnswer} {j k : ℕ} {x y : Float} → r ≡ Refusal j x → k ≡ number r → y ≡ value r → r ≡ Refusal k y
+unfolding number value
+passed-up e ek ey = rw (ek, ey, e)
 
 module _ (a : Csr) (mass : Mass) {r : MatrixAnswer} (e : fixed r ≡ matrix-answer a mass) where
   pub refusal-told : {k : ℕ} {x : Float} → r ≡ Refusal k x → Refused k x ≡ first (generator-checks a mass)
@@ -86,3 +85,21 @@ module _ (a : Csr) (mass : Mass) {r : MatrixAnswer} (e : fixed r ≡ matrix-answ
         quotients-are = quotients-valid v mass;
         divided = b .1;
       }
+
+-- ---- what a job takes from it
+need-light : (a : Csr) (mass : Mass) → Valid a → quotient-need a mass ≤ 16777216
+unfolding quotient-need
+need-light a none v = omega arith
+need-light a (some mass) v = v .light
+
+pub passed : (a : Csr) (b : Bool) (mass : List Float) {x : Float} → Accepted a (given b mass) x → Passed a (given b mass) (shape-of a b mass x)
+passed a b mass h =
+    record {
+      norm = h .norm;
+      finite = h .finite;
+      valid = h .valid;
+      quotients-are = h .quotients-are;
+      divided = h .divided;
+      room = le-refl _;
+      light = need-light a (given b mass) (h .valid);
+    }

@@ -1,19 +1,21 @@
 -- The largest row sum, row by row, and a row that has it. Assumes nothing.
 use mathlib.Core.Path.{_≡_, refl, sym, ap, _∙_}
-use mathlib.Core.Bool.{Bool, true, false, not, cond}
+use mathlib.Core.Bool.{Bool, true, false, cond}
 use Prim.Native.Nat.{ℕ, _+_, _-_, _≤_, _<_}
 use native.Mathlib.Omega.{arith}
 use lib.Dec.{T}
-use lib.Ieee.{Float, binary64, fits, isNan}
-use mathlib.Core.Logic.{_⊎_, ⊎-elim}
+use lib.Ieee.{Float}
+use mathlib.Core.Logic.{⊎-elim}
+use Rattle.general_operator.proofs.Rows.{row-sum-fits}
+pub use Rattle.general_operator.proofs.Rows.{row-sum-nonneg}
 use Rattle.lists.specs.Loop.{iter}
 use Rattle.lists.proofs.Bounds.{lt-or-le}
 use Rattle.lists.proofs.Loop.{iter-none, iter-turn}
 use Rattle.doubles.specs.F64.{_⋖_, +0, at, maxNum, nonneg}
 use Rattle.doubles.proofs.Order.{nonneg-number}
-use Rattle.doubles.proofs.Sizes.{zero-nonneg, abs-nonneg, sum-nonneg, sum-fits, equals-itself, not-above-zero}
-use Rattle.float.proofs.Extremes.{where-told, where-not}
-use Rattle.general_operator.specs.Csr.{Csr, start, size-sum, row-sum, row-sum-norm}
+use Rattle.doubles.proofs.Sizes.{zero-nonneg, equals-itself, not-above-zero}
+use Rattle.doubles.proofs.Extremes.{where-told, where-not}
+use Rattle.general_operator.specs.Csr.{Csr, row-sum, row-sum-norm}
 
 -- of the rows below i the largest sum is `norm`, and `row` has it
 pub record Leading (q : Csr) (i : ℕ) (norm : Float) (row : ℕ) : Type 0 where
@@ -24,15 +26,6 @@ pub record Leading (q : Csr) (i : ℕ) (norm : Float) (row : ℕ) : Type 0 where
 
 pub leading-start : (q : Csr) → Leading q 0 +0 0
 leading-start q = record { is = sym (iter-none _ +0); sign = zero-nonneg; low = omega arith; has = λ h. absurd (omega arith) }
-
--- a row whose entries are no NaN sums to what is not negative
-pub row-sum-nonneg : (q : Csr) (i : ℕ) → ((k : ℕ) → start q i ≤ k → k < start q (i + 1) → T (not (isNan (at (q .entries) k)))) → T (nonneg (row-sum q i))
-unfolding row-sum size-sum
-row-sum-nonneg q i h = sum-nonneg (start q (i + 1) - start q i) _ (λ k l. abs-nonneg _ (h (start q i + k) (omega arith) (omega arith)))
-
-row-sum-fits : (q : Csr) (i : ℕ) → T (fits binary64 (row-sum q i))
-unfolding row-sum size-sum
-row-sum-fits q i = sum-fits _ _
 
 -- ---- a turn: the sum of row i is above the largest so far, or not
 module _ {q : Csr} {i : ℕ} {norm : Float} {row : ℕ} (l : Leading q i norm row) (p : T (nonneg (row-sum q i))) where

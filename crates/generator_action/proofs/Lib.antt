@@ -2,4 +2,5 @@ pub mod Quotients
 pub mod Leading
 pub mod Ways
 pub mod Answered
+pub mod Norm
 pub mod Examples

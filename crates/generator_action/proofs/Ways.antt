@@ -28,7 +28,7 @@ use Rattle.generator_action.specs.declared.MatrixAnswer.the-variants.{Re
 use Rattle.generator_action.specs.Mass.{Mass, normalise, quotients, bad-mass, mass-checks, bad-sum, sum-checks, norm-checks, generator-checks}
 use Rattle.generator_action.specs.Answer.{unless-refused, matrix-answer, fixed, LargestRow}
 use Rattle.generator_action.specs.Known.{Finite, Dividing, Answered}
-use Rattle.generator_action.proofs.Leading.{row-sum-nonneg}
+use Rattle.general_operator.proofs.Rows.{row-sum-nonneg}
 use Rattle.generator_action.proofs.Quotients.{quotient-at}
 
 -- ---- the two answers

@@ -18,6 +18,15 @@ unless-refused Sound norm = Norm norm 0
 unfoldable pub matrix-answer : Csr → Mass → MatrixAnswer
 matrix-answer a mass = unless-refused (first (generator-checks a mass)) (row-sum-norm (quotients a mass))
 
+-- 0 or the refusal's number; the norm or the refusal's double
+unfoldable pub number : MatrixAnswer → ℕ
+number (Refusal k x) = k
+number (Norm x i) = 0
+
+unfoldable pub value : MatrixAnswer → Float
+value (Refusal k x) = x
+value (Norm x i) = x
+
 -- an answer without its row, which document 01 leaves free
 abbrev pub fixed : MatrixAnswer → MatrixAnswer
 fixed (Refusal k x) = Refusal k x

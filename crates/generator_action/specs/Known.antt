@@ -1,9 +1,9 @@
 -- What the parts of `check_generator` know and answer. Definitions only.
-use mathlib.Core.Bool.{true}
+use mathlib.Core.Bool.{Bool, true}
 use mathlib.Core.Option.{none, some}
 use mathlib.Core.List.{List}
 use mathlib.Core.Path.{_≡_}
-use Prim.Native.Nat.{ℕ, _<_}
+use Prim.Native.Nat.{ℕ, _≤_, _<_}
 use lib.Dec.{T}
 use lib.ListN.{length}
 use lib.Ieee.{Float}
@@ -12,7 +12,8 @@ use Rattle.checks.specs.First.{Check, first}
 use Rattle.checks.specs.declared.Checked.the-variants.{Sound}
 use Rattle.general_operator.specs.Csr.{Csr, Valid, start, row-sum-norm}
 use Rattle.generator_action.specs.declared.MatrixAnswer.{MatrixAnswer}
-use Rattle.generator_action.specs.Mass.{Mass, quotients, generator-checks}
+use Rattle.generator_action.specs.Mass.{Mass, given, quotients, quotient-need, generator-checks}
+use Rattle.generator_action.specs.declared.Shape.{Shape}
 use Rattle.generator_action.specs.Answer.{unless-refused, fixed, LargestRow}
 
 -- what 6 leaves
@@ -43,3 +44,17 @@ pub record Accepted (a : Csr) (mass : Mass) (x : Float) : Type 0 where
   pub valid : Valid a
   pub quotients-are : Valid (quotients a mass)
   pub divided : Divided a mass
+
+-- what is known of a generator's numbers where its norm is answered
+abbrev pub shape-of : Csr → Bool → List Float → Float → Shape
+shape-of a b mass norm = record { n = a .n; «with_mass» = b; stored = quotient-need a (given b mass); norm = norm }
+
+-- what a job takes from the checks of its generator, whichever they were
+pub record Passed (a : Csr) (mass : Mass) (g : Shape) : Type 0 where
+  pub norm : g .norm ≡ row-sum-norm (quotients a mass)
+  pub finite : is-finite (g .norm) ≡ true
+  pub valid : Valid a
+  pub quotients-are : Valid (quotients a mass)
+  pub divided : Divided a mass
+  pub room : quotient-need a mass ≤ g .stored
+  pub light : g .stored ≤ 16777216

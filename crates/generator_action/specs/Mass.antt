@@ -40,6 +40,11 @@ unfoldable pub stored : Csr → Mass → List Float
 stored a none = []
 stored a (some mass) = normalise a mass .entries
 
+-- how many places they take there
+unfoldable pub quotient-need : Csr → Mass → ℕ
+quotient-need a none = 0
+quotient-need a (some mass) = length (a .entries)
+
 -- not finite, or not above 0
 unfoldable pub bad-mass : Float → Bool
 bad-mass x = not (is-finite x) || x ⩽ +0
@@ -73,5 +78,5 @@ generator-checks a mass = matrix-checks a ++ bound-checks a mass
 
 -- to compute: a line `unfolding open-Mass` opens every definition of this file and of those below it
 unfoldable pub open-Mass : Unit {0}
-unfolding row-of normalise quotients stored bad-mass mass-checks bad-sum sum-checks norm-checks bound-checks generator-checks open-Checks
+unfolding row-of normalise quotients stored quotient-need bad-mass mass-checks bad-sum sum-checks norm-checks bound-checks generator-checks open-Checks
 open-Mass = tt

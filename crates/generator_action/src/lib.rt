@@ -14,13 +14,61 @@ ghost use Rattle.doubles.specs.Sum.{sum};
 ghost use Rattle.checks.specs.First.{first};
 ghost use Rattle.general_operator.specs.Csr.{csr, Valid, size-sum};
 ghost use Rattle.generator_action.specs.Mass.{given, normalise, quotients, stored, bad-mass, mass-checks, sum-checks, norm-checks};
-ghost use Rattle.generator_action.specs.Answer.{matrix-answer, fixed, LargestRow};
-ghost use Rattle.generator_action.specs.Known.{Finite, Dividing, Divided, Answered};
+ghost use Rattle.generator_action.specs.Answer.{number, value, matrix-answer, fixed, LargestRow};
+ghost use Rattle.generator_action.specs.Known.{Finite, Dividing, Divided, Answered, shape-of};
 
 // A refusal's number and double, or the norm and a row whose sum equals it.
 pub enum MatrixAnswer {
     Refusal(u32, f64),
     Norm(f64, usize),
+}
+
+// 0, or the refusal's number.
+pub fn number(answer: MatrixAnswer) -> u32
+    ensures { λ r. ⌜ r ≡ number answer ⌝ }
+{
+    match answer {
+        MatrixAnswer::Refusal(k, _) => k,
+        MatrixAnswer::Norm(_, _) => 0,
+    }
+}
+
+// The norm, or the refusal's double.
+pub fn value(answer: MatrixAnswer) -> f64
+    ensures { λ r. ⌜ r ≡ value answer ⌝ }
+{
+    match answer {
+        MatrixAnswer::Refusal(_, x) => x,
+        MatrixAnswer::Norm(norm, _) => norm,
+    }
+}
+
+// A generator that passed its checks: its rows, whether its quotients are stored, the places that they take, and its norm.
+pub struct Shape {
+    pub n: usize,
+    pub with_mass: bool,
+    pub stored: usize,
+    pub norm: f64,
+}
+
+// Of a matrix with so many entries.
+pub fn generator_shape(n: usize, with_mass: bool, entries: usize, norm: f64) -> Shape
+    ensures { λ r. ⌜ ((starts cols : List ℕ) (vals mass : List Float) → length vals ≡ entries → r ≡ shape-of (csr n starts cols vals) «with_mass» mass norm) ⌝ }
+{
+    if with_mass {
+        return Shape {
+            n: n,
+            with_mass: true,
+            stored: entries,
+            norm: norm,
+        };
+    }
+    Shape {
+        n: n,
+        with_mass: false,
+        stored: 0,
+        norm: norm,
+    }
 }
 
 fn is_bad_mass(x: f64) -> bool
@@ -156,14 +204,14 @@ pub fn check_generator(
     ensures { λ r. ⌜ LargestRow (quotients (csr n (now (starts .entry)) (now (cols .entry)) (now (vals .entry))) (given «with_mass» (now (mass .entry)))) r ⌝ }
 {
     let matrix = general_operator::validate_csr(n, starts, cols, vals);
-    if let Checked::Refused(k, x) = matrix {
-        return MatrixAnswer::Refusal(k, x);
-    }
+    let Checked::Sound = matrix else {
+        return MatrixAnswer::Refusal(checks::number(matrix), checks::reported(matrix));
+    };
     if with_mass {
         let masses = check_mass(n, starts, mass);
-        if let Checked::Refused(k, x) = masses {
-            return MatrixAnswer::Refusal(k, x);
-        }
+        let Checked::Sound = masses else {
+            return MatrixAnswer::Refusal(checks::number(masses), checks::reported(masses));
+        };
         return quotient_norm(n, starts, cols, vals, mass);
     }
     entry_norm(n, starts, cols, vals)

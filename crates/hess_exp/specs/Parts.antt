@@ -1,5 +1,4 @@
 -- The parts of `hess-exp-e1` that functions of their own give, and what a SmallExp stands for. Definitions only.
-use mathlib.Core.Bool.{true, false}
 use mathlib.Core.List.{List}
 use Prim.Native.Nat.{ℕ, _+_, _-_, _*_, _≤_}
 use lib.ListN.{length}

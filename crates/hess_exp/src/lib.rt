@@ -95,16 +95,6 @@ fn added_in(w: &[f64], y: &mut [f64])
     }
 }
 
-// w = y
-fn copied_in(y: &[f64], w: &mut [f64])
-    requires { ⌜ length (now y) ≡ length (now w) ⌝ }
-    ensures { λ _. ⌜ now (w .exit) ≡ now (y .entry) ⌝ }
-{
-    for i in 0..w.len() {
-        w[i] = y[i];
-    }
-}
-
 // Term k + 1 of a sweep; hw is room for H w.
 fn hess_term(
     h: &[f64],
@@ -141,7 +131,7 @@ fn hess_sweep(
     requires { ⌜ (length (now y) ≡ mx) × (length (now w) ≡ mx) × (length (now hw) ≡ mx) ⌝ }
     ensures { λ _. ⌜ now (y .exit) ≡ hess-sweep (now (h .entry)) dim mx ts deg (now (y .entry)) ⌝ }
 {
-    copied_in(y, w);
+    vectors::copy_from(w, 0, y, 0, mx);
     for k in 0..deg {
         hess_term(h, dim, mx, ts, k, y, w, hw);
     }
@@ -208,32 +198,30 @@ pub fn hess_exp_e1(h: &[f64], dim: usize, mx: usize, t: f64) -> SmallExp
     let mut w = [0.0; 130];
     let mut hw = [0.0; 130];
     let arg = t * column_sum_norm(h, dim, mx);
-    let plan = expmv::select_s_m(30, arg);
-    match plan {
-        expmv::Selected::NoRow => SmallExp {
+    let plan = expmv::select_s_m(expmv::M_MAX, arg);
+    let expmv::Selected::Row(s, deg) = plan else {
+        return SmallExp {
             planned: false,
             argument: arg,
             column: y,
-        },
-        expmv::Selected::Row(s, deg) => {
-            y[0] = 1.0;
-            let ts = t / float::count(s as usize);
-            hess_sweeps_in(
-                h,
-                dim,
-                mx,
-                ts,
-                deg as usize,
-                s as usize,
-                &mut y,
-                &mut w,
-                &mut hw,
-            );
-            SmallExp {
-                planned: true,
-                argument: arg,
-                column: y,
-            }
-        }
+        };
+    };
+    y[0] = 1.0;
+    let ts = t / float::count(s as usize);
+    hess_sweeps_in(
+        h,
+        dim,
+        mx,
+        ts,
+        deg as usize,
+        s as usize,
+        &mut y,
+        &mut w,
+        &mut hw,
+    );
+    SmallExp {
+        planned: true,
+        argument: arg,
+        column: y,
     }
 }

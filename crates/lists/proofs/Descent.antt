@@ -1,11 +1,12 @@
 -- One turn of a loop that finds the digits of `greatest p K 0` from the highest down, for any test p and any K up to 63. Assumes nothing.
-use mathlib.Core.Path.{_≡_, refl, sym, ap, _∙_, subst}
-use Prim.Native.Nat.{ℕ, zero, suc, _+_, _-_, _*_, _^_, _%_, _≤_, _<_}
-use native.Mathlib.Nat.{pow-succ', le-refl, zero-add, le-of-eq, one-mul, mod-eq-of-lt}
+use mathlib.Core.Path.{_≡_, refl, sym, ap, _∙_}
+use Prim.Native.Nat.{ℕ, suc, _+_, _-_, _*_, _^_, _%_, _≤_, _<_, zero-le}
+use native.Mathlib.Nat.{le-refl, zero-add, le-of-eq, le-antisymm, one-mul, mod-eq-of-lt}
 use native.Mathlib.Omega.{arith}
 use mathlib.Core.Bool.{Bool, true, false, cond}
 use lib.Pow.{pow-pos, pow-mono, pow-lt}
 use Rattle.lists.specs.Greatest.{greatest}
+use Rattle.lists.proofs.Bounds.{suc-pred, pow-pred}
 
 -- `1u64 << k`
 pub shift-is : (k : ℕ) → k < 64 → 1 * 2 ^ k % 18446744073709551616 ≡ 2 ^ k
@@ -18,21 +19,15 @@ pub record Seek (p : ℕ → Bool) (K limit k lo : ℕ) : Type 0 where
   pub low : lo < limit
   pub digits : k ≤ K
 
-pub begin : (p : ℕ → Bool) (K limit : ℕ) → 0 < limit → Seek p K limit K 0
-begin p K limit h = record { same = refl; room = le-of-eq (zero-add (2 ^ K)); low = h; digits = le-refl K }
-
-back : (k : ℕ) → 0 < k → k ≡ suc (k - 1)
-back k h = omega arith
+pub seek-begin : (p : ℕ → Bool) (K limit : ℕ) → 0 < limit → Seek p K limit K 0
+seek-begin p K limit h = record { same = refl; room = le-of-eq (zero-add (2 ^ K)); low = h; digits = le-refl K }
 
 turn : (p : ℕ → Bool) (k lo : ℕ) (b : Bool) → 0 < k → p (lo + 2 ^ (k - 1)) ≡ b → greatest p (k - 1) (cond b (lo + 2 ^ (k - 1)) lo) ≡ greatest p k lo
 turn p k lo b h e =
-    ap (λ (x : Bool). greatest p (k - 1) (cond x (lo + 2 ^ (k - 1)) lo)) (sym e) ∙ sym (one (k - 1)) ∙ ap (λ (n : ℕ). greatest p n lo) (sym (back k h))
+    ap (λ (x : Bool). greatest p (k - 1) (cond x (lo + 2 ^ (k - 1)) lo)) (sym e) ∙ sym (one (k - 1)) ∙ ap (λ (n : ℕ). greatest p n lo) (sym (suc-pred k h))
   where
     one : (j : ℕ) → greatest p (suc j) lo ≡ greatest p j (cond (p (lo + 2 ^ j)) (lo + 2 ^ j) lo)
     one j = unfold greatest in refl
-
-half : (k : ℕ) → 0 < k → 2 ^ k ≡ 2 * 2 ^ (k - 1)
-half k h = ap (λ (n : ℕ). 2 ^ n) (back k h) ∙ pow-succ' 2 (k - 1)
 
 module _ (p : ℕ → Bool) (K limit k lo : ℕ) (s : Seek p K limit k lo) (few : K ≤ 63) (h : 0 < k) where
   -- lo + (1 << (k - 1)), as the machine has it
@@ -47,30 +42,27 @@ module _ (p : ℕ → Bool) (K limit k lo : ℕ) (s : Seek p K limit k lo) (few 
 
   pub next-fits : next < 18446744073709551616
   next-fits =
-      let a = half k h in
+      let a = pow-pred k h in
       let b = weight in
       let c = s .room in
       let d : 2 ^ K ≤ 9223372036854775808 = pow-mono few in
       omega (arith, pow-pos (k - 1))
 
-  pub taken : next < limit → p next ≡ true → Seek p K limit (k - 1) next
-  taken l e =
-      let a = half k h in
+  pub seek-taken : next < limit → p next ≡ true → Seek p K limit (k - 1) next
+  seek-taken l e =
+      let a = pow-pred k h in
       let b = weight in
       let c = s .room in
       let d = s .digits in
       record { same = ap (greatest p (k - 1)) next-is ∙ turn p k lo true h (sym (ap p next-is) ∙ e) ∙ s .same; room = omega arith; low = l; digits = omega arith }
 
-  pub left : p next ≡ false → Seek p K limit (k - 1) lo
-  left e =
-      let a = half k h in
+  pub seek-left : p next ≡ false → Seek p K limit (k - 1) lo
+  seek-left e =
+      let a = pow-pred k h in
       let c = s .room in
       let d = s .digits in
       record { same = turn p k lo false h (sym (ap p next-is) ∙ e) ∙ s .same; room = omega arith; low = s .low; digits = omega arith }
 
-pub end : (p : ℕ → Bool) (K limit k lo : ℕ) → Seek p K limit k lo → k ≤ 0 → lo ≡ greatest p K 0
+pub seek-end : (p : ℕ → Bool) (K limit k lo : ℕ) → Seek p K limit k lo → k ≤ 0 → lo ≡ greatest p K 0
 unfolding greatest
-end p K limit k lo s h = sym (ap (λ (n : ℕ). greatest p n lo) (none k h)) ∙ s .same
-  where
-    none : (k : ℕ) → k ≤ 0 → k ≡ 0
-    none k h = omega arith
+seek-end p K limit k lo s h = sym (ap (λ (n : ℕ). greatest p n lo) (le-antisymm h zero-le)) ∙ s .same

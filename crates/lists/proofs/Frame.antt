@@ -1,15 +1,15 @@
 -- What a write to a window does to the other windows and to the memory outside, in the form in which a caller has it:
 -- the callee's equation `w₁ ≡ splice at vs w` is an argument. Assumes nothing.
 use mathlib.Core.Path.{_≡_, refl, sym, ap, _∙_}
-use mathlib.Core.Logic.{_⊎_, ⊎-elim}
-use mathlib.Core.List.{List, [], _∷_, _++_}
-use Prim.Native.Nat.{ℕ, _+_, _≤_, _<_}
+use mathlib.Core.Logic.{⊎-elim}
+use mathlib.Core.List.{List, [], _∷_}
+use Prim.Native.Nat.{ℕ, _+_, _≤_}
 use native.Mathlib.Omega.{arith}
-use lib.ListN.{length, set, replicate, length-replicate, length-append}
+use lib.ListN.{length, set, replicate, length-replicate}
 use Rattle.lists.specs.Window.{window, splice}
 use Rattle.lists.specs.Bounds.{Disjoint}
 use Rattle.lists.proofs.Bounds.{disjoint-cases}
-use Rattle.lists.proofs.Window.{length-splice, window-splice-same, window-splice-before, window-splice-after, splice-cover, splice-splice, splice-append, set-splice}
+use Rattle.lists.proofs.Window.{length-splice, window-splice-same, window-splice-before, window-splice-after, splice-cover, set-splice}
 pub use Rattle.lists.specs.Frame.{Kept}
 
 module _ {A : Type 0} where
@@ -73,14 +73,3 @@ module _ {A : Type 0} where
   kept-window {p} {n} {z} {w₀} {w} k q m apart =
       let lz = length-replicate n z in
       sym (untouched (wrote p n (replicate n z) w _ lz refl) q m apart) ∙ ap (window q m) (k .outside) ∙ untouched (wrote p n (replicate n z) w₀ _ lz refl) q m apart
-
-  -- all of the part that may differ is written: the same as in w₀
-  pub kept-over : {p q : ℕ} {z : A} {w₀ w : List A} → Kept p q z w₀ w → (vs : List A) → length vs ≡ q → splice p vs w ≡ splice p vs w₀
-  kept-over {p} {q} {z} {w₀} {w} k vs l =
-      let lz : length (replicate q z) ≡ q = length-replicate q z in
-      sym (splice-splice p vs (replicate q z) w (omega arith)) ∙ ap (splice p vs) (k .outside) ∙ splice-splice p vs (replicate q z) w₀ (omega arith)
-
-  -- the same in two neighbouring parts
-  pub kept-over₂ : {p q : ℕ} {z : A} {w₀ w : List A} → Kept p q z w₀ w → (m : ℕ) (vs us : List A) → p + length vs ≡ m → length vs + length us ≡ q → splice p vs (splice m us w) ≡ splice p vs (splice m us w₀)
-  kept-over₂ {p} {q} {z} {w₀} {w} k m vs us e l =
-      rw (← e, ← (splice-append p vs us w), ← (splice-append p vs us w₀)) (kept-over k (vs ++ us) (length-append vs us ∙ l))

@@ -2,12 +2,12 @@
 -- Assumes nothing.
 use mathlib.Core.Path.{_≡_, refl, sym, ap, _∙_, subst}
 use mathlib.Core.List.{List, [], _∷_, _++_, map}
-use Prim.Native.Nat.{ℕ, zero, suc, _+_, _-_, _≤_, _<_, suc-le-suc}
+use Prim.Native.Nat.{ℕ, zero, suc, _+_, _≤_, _<_, suc-le-suc}
 use native.Mathlib.Omega.{arith}
 use native.Mathlib.Numerals.{add-one}
 use native.Mathlib.Nat.{suc-add, zero-add, suc-inj, le-refl, le-antisymm}
-use lib.ListN.{length, getD, set, take, drop, replicate, length-set}
-use mathlib.Core.Logic.{_⊎_, ⊎-elim}
+use lib.ListN.{length, getD, set, replicate, length-set}
+use mathlib.Core.Logic.{⊎-elim}
 use mathlib.Core.Bool.{cond}
 use lib.Dec.{ltb, leb·suc-zero, leb·suc-suc}
 use borrow.Author.Tests.{lt-ltb}
@@ -94,10 +94,6 @@ module _ {A : Type 0} where
   -- the same where the window is the whole slice, or starts it
   pub turned₀ : {i : ℕ} {f : ℕ → A} {w₀ w : List A} {v : A} → Filled 0 i f w₀ w → v ≡ f i → Filled 0 (i + 1) f w₀ (set w i v)
   turned₀ {i} {f} {w₀} {w} {v} h e = subst (λ (k : ℕ). Filled 0 (i + 1) f w₀ (set w k v)) (zero-add i) (turned h e)
-
-  -- the same where the code has the place by another name
-  pub turned-at : {p i : ℕ} {f : ℕ → A} {w₀ w : List A} {v : A} → Filled p i f w₀ w → (k : ℕ) → k ≡ p + i → v ≡ f i → Filled p (i + 1) f w₀ (set w k v)
-  turned-at {p} {i} {f} {w₀} {w} {v} h k e d = subst (λ (m : ℕ). Filled p (i + 1) f w₀ (set w m v)) (sym e) (turned h d)
 
   -- a turn that writes the next m elements
   pub filled-more : {p i : ℕ} {f : ℕ → A} {w₀ w w₁ : List A} → Filled p i f w₀ w → (m : ℕ) → w₁ ≡ splice (p + i) (tabulate m (λ k. f (i + k))) w → Filled p (i + m) f w₀ w₁

@@ -1,16 +1,14 @@
 -- Windows of a list and lists written over: laws for code that keeps several vectors in one slice.
 -- `splice` never changes the length, also where the window runs past the end, so few laws have side conditions.
 -- Assumes nothing.
-use mathlib.Core.Path.{_≡_, refl, sym, ap, _∙_, subst}
-use mathlib.Core.Logic.{_⊎_, inl, inr, ⊎-elim}
+use mathlib.Core.Path.{_≡_, refl, sym, ap, _∙_}
 use mathlib.Core.List.{List, [], _∷_, _++_}
-use Prim.Native.Nat.{ℕ, zero, suc, _+_, _-_, _≤_, _<_, suc-le-suc, zero-le}
+use Prim.Native.Nat.{ℕ, zero, suc, _+_, _-_, _≤_, _<_}
 use native.Mathlib.Omega.{arith}
-use native.Mathlib.Numerals.{add-one}
 use native.Mathlib.Nat.{suc-add, zero-add, suc-inj, add-sub-cancel-left}
-use lib.ListN.{length, getD, set, take, drop, replicate, length-set, length-take, length-drop}
+use lib.ListN.{length, getD, set, take, drop, replicate, length-set, length-drop}
 use Rattle.lists.specs.Window.{window, over, splice}
-use lib.Seq.{take-take, length-take-le, getD-take, getD-drop, ext-getD, drop-drop}
+use lib.Seq.{take-all, take-take, length-take-le, getD-take, getD-drop, drop-drop}
 
 module _ {A : Type 0} where
   -- what `&w[at..at + len]` lends
@@ -230,6 +228,14 @@ module _ {A : Type 0} where
   splice-whole (v ∷ vs) [] e = absurd (omega arith)
   splice-whole (v ∷ vs) (x ∷ w) e = ap (λ (r : List A). v ∷ r) (splice-whole vs w (suc-inj e))
 
+  -- the whole is read, or copied
+  pub window-whole : (n : ℕ) (w : List A) → length w ≡ n → window 0 n w ≡ w
+  unfolding window
+  window-whole n w e = take-all n w (omega arith)
+
+  pub copy-whole : (n : ℕ) (v w : List A) → length v ≡ n → length w ≡ n → splice 0 (window 0 n v) w ≡ v
+  copy-whole n v w e f = let h = window-whole n v e in rw h (splice-whole v w (omega arith))
+
   over-parts : (vs w : List A) → length vs ≤ length w → vs ++ drop (length vs) w ≡ over vs w
   unfolding over
   over-parts [] w h = refl
@@ -281,9 +287,6 @@ module _ {A : Type 0} where
   -- a store beside what was written
   pub set-splice-after : (at : ℕ) (vs w : List A) (k : ℕ) (v : A) → at + length vs ≤ k → set (splice at vs w) k v ≡ splice at vs (set w k v)
   set-splice-after at vs w k v h = set-splice k v (splice at vs w) ∙ sym (splice-comm at k vs (v ∷ []) w h) ∙ ap (splice at vs) (sym (set-splice k v w))
-
-  pub set-splice-before : (at : ℕ) (vs w : List A) (k : ℕ) (v : A) → k < at → set (splice at vs w) k v ≡ splice at vs (set w k v)
-  set-splice-before at vs w k v h = set-splice k v (splice at vs w) ∙ splice-comm k at (v ∷ []) vs w (omega arith) ∙ ap (splice at vs) (sym (set-splice k v w))
 
   -- a store within a window
   pub window-set-in : (at len : ℕ) (w : List A) (k : ℕ) (v : A) → k < len → at + len ≤ length w → window at len (set w (at + k) v) ≡ set (window at len w) k v

@@ -14,17 +14,18 @@ use Rattle.lists.proofs.Bounds.{product-within}
 use Rattle.lists.proofs.Window.{window-splice-same, splice-nil, splice-more, splice-whole}
 use Rattle.lists.proofs.Frame.{wrote, kept-all, kept-by, kept-on}
 use Rattle.doubles.specs.F64.{+0}
+use Rattle.general_operator.specs.Csr.{Csr}
 use Rattle.phi_action_helpers.specs.declared.Layout.{Layout}
 use Rattle.phi_action_helpers.specs.declared.Coupling.{Coupling}
 use Rattle.phi_action_helpers.specs.declared.SweepPlan.{SweepPlan}
 use Rattle.phi_action_helpers.specs.Augmented.{Augmented}
-use Rattle.phi_action_helpers.specs.Laid.{operator-at, Lined}
+use Rattle.phi_action_helpers.specs.Laid.{operator-at, Laid, Lined}
 use Rattle.phi_action_helpers.proofs.Sweeps.{values-kept}
 use Rattle.phi_action_helpers.proofs.Counts.{run-counted}
 use Rattle.combination.specs.Combination.{init-aug-vector}
 use Rattle.phi_action.specs.Calls.{soaked, batch-step, batched}
 use Rattle.phi_action.proofs.Jobs.{soak-long}
-use Rattle.phi_action.proofs.Actions.{length-init}
+use Rattle.combination.proofs.Admitted.{length-init}
 
 -- ---- one run
 pub soak-counted : (b : Augmented) (tau : Float) (y : List Float) (p : SweepPlan) → soaked b tau y p .applied ≡ p .s * p .m
@@ -49,7 +50,10 @@ module _ (b : Augmented) (tau : Float) (v : List Float) (inv : Float) (p : Sweep
 pub batch-fits : (p : SweepPlan) (k : ℕ) → k ≤ 4 → p .s ≤ 4294967295 → p .m ≤ 30 → k * (p .s * p .m) ≤ 515396075400
 batch-fits p k few s m = product-within 4 128849018850 few (product-within 4294967295 30 s m)
 
--- ---- the first field is written before the quotients
+-- ---- the first field lies within the memory, and is written before the quotients
+pub field-within : {l : Layout} {b : Coupling} {q : Csr} {vals vectors work : ℕ} → Laid l b q vals vectors work → Lined l → l .n + l .d ≤ work
+field-within h o = omega (arith, h .av-in, o .field-first, o .then-term)
+
 pub init-kept : {l : Layout} (v : List Float) (inv : Float) (k : ℕ) {w w₁ : List Float} → Lined l → l .d ≡ 3 → length v ≡ l .n → w₁ ≡ splice 0 (init-aug-vector (l .n) v inv k) w → Kept 0 (l .q) +0 w w₁
 init-kept {l} v inv k {w} {w₁} o d lv e =
     kept-by (kept-all 0 (l .q) +0 w) (wrote 0 (l .n + 3) _ w w₁ (length-init (l .n) v inv k lv) e) (omega arith) (omega (arith, o .field-first, o .then-term, o .then-product))

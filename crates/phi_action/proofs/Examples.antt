@@ -1,15 +1,15 @@
 -- Whole Taylor calls, computed. Assumes nothing.
 use mathlib.Core.Path.{_≡_, refl}
-use mathlib.Core.List.{List, [], _∷_, _++_}
-use mathlib.Core.Option.{none, some}
-use Prim.Native.Nat.{ℕ}
+use mathlib.Core.List.{[], _∷_, _++_}
+use mathlib.Core.Option.{none}
 use lib.ListN.{replicate}
-use lib.Ieee.{Float, nan}
+use lib.Ieee.{nan}
 use Rattle.doubles.specs.F64.{bits, nat, 1f, +0}
 use Rattle.general_operator.specs.Csr.{Csr, csr}
+use Rattle.generator_action.specs.Generator.{forward}
 use Rattle.phi_action.specs.declared.TaylorAnswer.the-variants.{Refusal, Soaked}
-use Rattle.combination.specs.Call.{Call, ends}
-use Rattle.phi_action.specs.Calls.{phi-combination, phi-action, phi-action-batched, open-Calls}
+use Rattle.combination.specs.Call.{ends}
+use Rattle.phi_action.specs.Calls.{phi-combination, phi-action-batched, open-Calls}
 
 abbrev laplace : Csr
 laplace = csr 2 (0 ∷ 2 ∷ 4 ∷ []) (0 ∷ 1 ∷ 0 ∷ 1 ∷ []) (nat 2 ∷ bits 0xbff0000000000000 ∷ bits 0xbff0000000000000 ∷ nat 2 ∷ [])
@@ -18,19 +18,19 @@ abbrev empty : Csr
 empty = csr 1 (0 ∷ 0 ∷ []) [] []
 
 -- with a shift: 8 doubles are needed, the ninth stays
-shifted : phi-combination laplace none (nat 2) 2 (1f ∷ bits 0xc000000000000000 ∷ bits 0x3fe0000000000000 ∷ bits 0x3fd0000000000000 ∷ []) (nat 7 ∷ nat 7 ∷ []) (replicate 9 (nat 9))
+shifted : phi-combination (forward laplace none) (nat 2) 2 (1f ∷ bits 0xc000000000000000 ∷ bits 0x3fe0000000000000 ∷ bits 0x3fd0000000000000 ∷ []) (nat 7 ∷ nat 7 ∷ []) (replicate 9 (nat 9))
     ≡ ends (Soaked (record { s = 4; m = 30; mu = bits 0xc010000000000000; applications = 120 })) (bits 0x3fd351b9c75b5bb2 ∷ bits 0x3fcb0be1d2ba255d ∷ []) (replicate 8 +0 ++ (nat 9 ∷ []))
 unfolding open-Calls
 shifted = refl
 
 -- one double short: 26, and nothing changes
-short : phi-combination laplace none (nat 2) 2 (1f ∷ bits 0xc000000000000000 ∷ bits 0x3fe0000000000000 ∷ bits 0x3fd0000000000000 ∷ []) (nat 7 ∷ nat 7 ∷ []) (replicate 7 (nat 9))
+short : phi-combination (forward laplace none) (nat 2) 2 (1f ∷ bits 0xc000000000000000 ∷ bits 0x3fe0000000000000 ∷ bits 0x3fd0000000000000 ∷ []) (nat 7 ∷ nat 7 ∷ []) (replicate 7 (nat 9))
     ≡ ends (Refusal 26 nan) (nat 7 ∷ nat 7 ∷ []) (replicate 7 (nat 9))
 unfolding open-Calls
 short = refl
 
 -- phi_0 and phi_1 of a matrix without entries at time 1: v and v
-batch : phi-action-batched empty none 1f 1 (nat 3 ∷ []) (+0 ∷ +0 ∷ []) (replicate 9 (nat 9))
+batch : phi-action-batched (forward empty none) 1f 1 (nat 3 ∷ []) (+0 ∷ +0 ∷ []) (replicate 9 (nat 9))
     ≡ ends (Soaked (record { s = 2; m = 25; mu = +0; applications = 100 })) (nat 3 ∷ nat 3 ∷ []) (replicate 9 +0)
 unfolding open-Calls
 batch = refl

@@ -3,18 +3,19 @@
 use mathlib.Core.List.{List, [], _++_}
 use Prim.Native.Nat.{ℕ, suc, _+_, _-_, _*_}
 use lib.ListN.{length}
-use lib.Ieee.{Float, nan}
+use lib.Ieee.{Float}
 use Rattle.lists.specs.Loop.{iter}
 use Rattle.lists.specs.Window.{window}
 use Rattle.checks.specs.First.{Check, first}
-use Rattle.general_operator.specs.Csr.{Csr, row-sum-norm}
-use Rattle.generator_action.specs.Mass.{Mass, quotients, generator-checks, open-Mass}
+use Rattle.general_operator.specs.Csr.{row-sum-norm}
+use Rattle.generator_action.specs.Mass.{open-Mass}
+use Rattle.generator_action.specs.Generator.{Generator}
 use Rattle.expmv.specs.Select.{M-MAX}
 use Rattle.pow2.specs.Pow2.{sup, eta-scaling}
 use Rattle.phi_action_helpers.specs.Augmented.{Augmented}
 use Rattle.phi_action_helpers.specs.Sweeps.{run-sweeps}
 use Rattle.phi_action_helpers.specs.declared.SweepPlan.{SweepPlan}
-use Rattle.phi_shift.specs.Plan.{sweep-plan}
+use Rattle.phi_shift.specs.Plan.{argument, sweep-plan}
 use Rattle.phi_shift.specs.declared.PlanAnswer.{PlanAnswer}
 use Rattle.phi_shift.specs.declared.PlanAnswer.the-variants.{NoPlan, Plan}
 use Rattle.phi_action.specs.declared.TaylorAnswer.{TaylorAnswer}
@@ -31,43 +32,45 @@ pub record Fields : Type 0 where
 abbrev pub report : SweepPlan → ℕ → TaylorAnswer
 report p applied = Soaked (record { s = p .s; m = p .m; mu = p .mu; applications = applied })
 
--- an accepted job leaves its fields and clears what it needed. That there is no plan is refusal 25 of the list already.
-unfoldable pub after-plan : ℕ → List Float → List Float → PlanAnswer → (SweepPlan → Fields) → Call TaylorAnswer
-after-plan need output memory NoPlan run = ends (Refusal 25 nan) output memory
-after-plan need output memory (Plan p) run = ends (report p (run p .applied)) (run p .fields) (cleared need memory)
+-- an accepted job leaves its fields and clears what it needed; that there is no plan is refusal 25 of the list already
+unfoldable pub after-plan : ℕ → Float → Float → List Float → List Float → PlanAnswer → (SweepPlan → Fields) → Call TaylorAnswer
+after-plan need tau norm output memory NoPlan run = ends (Refusal 25 (argument tau norm)) output memory
+after-plan need tau norm output memory (Plan p) run = ends (report p (run p .applied)) (run p .fields) (cleared need memory)
 
 -- the n values of the field after the sweeps
 unfoldable pub soaked : Augmented → Float → List Float → SweepPlan → Fields
 soaked b tau y p = let r = run-sweeps b tau p y in record { fields = window 0 (b .matrix .n) (r .y); applied = r .applied }
 
 -- ---- `phi_combination` of `count` vectors in one slice
-unfoldable pub combination-checks : Csr → Mass → Float → ℕ → List Float → ℕ → ℕ → List Check
-combination-checks a mass tau count w output memory =
-    generator-checks a mass
-    ++ (vector-checks (a .n) tau count w output
-    ++ sweep-checks (a .n) tau (count - 1) w (row-sum-norm (quotients a mass)) memory (taylor-need a mass (count - 1)))
+unfoldable pub combination-checks : Generator → Float → ℕ → List Float → ℕ → ℕ → List Check
+combination-checks g tau count w output memory =
+    let n = g .matrix .n in
+    g .checks
+    ++ (vector-checks n tau count w output
+    ++ sweep-checks n tau (count - 1) w (row-sum-norm (g .matrix)) memory (taylor-need n (count - 1) (g .stored)))
 
-unfoldable pub phi-combination : Csr → Mass → Float → ℕ → List Float → List Float → List Float → Call TaylorAnswer
-phi-combination a mass tau count w output memory =
+unfoldable pub phi-combination : Generator → Float → ℕ → List Float → List Float → List Float → Call TaylorAnswer
+phi-combination g tau count w output memory =
     let d = count - 1 in
-    let q = quotients a mass in
-    let eta = eta-of (a .n) w tau d in
-    unless-refused Refusal (first (combination-checks a mass tau count w (length output) (length memory))) output memory
-    (after-plan (taylor-need a mass d) output memory (sweep-plan M-MAX tau q (row-sum-norm q))
-    (soaked (combination-operator q w tau d (eta .eta)) tau (combination-start (a .n) w d (eta .inv))))
+    let q = g .matrix in
+    let eta = eta-of (q .n) w tau d in
+    unless-refused Refusal (first (combination-checks g tau count w (length output) (length memory))) output memory
+    (after-plan (taylor-need (q .n) d (g .stored)) tau (row-sum-norm q) output memory (sweep-plan M-MAX tau q (row-sum-norm q))
+    (soaked (combination-operator q w tau d (eta .eta)) tau (combination-start (q .n) w d (eta .inv))))
 
 -- ---- `phi_action` of index k, `phi_action_batched` of the indices 0 to p
-unfoldable pub action-checks : Csr → Mass → Float → ℕ → List Float → ℕ → ℕ → ℕ → List Check
-action-checks a mass tau k v output wanted memory =
-    generator-checks a mass ++ job-checks k tau output wanted (length v) (a .n) (row-sum-norm (quotients a mass)) memory (taylor-need a mass 3)
+unfoldable pub action-checks : Generator → Float → ℕ → List Float → ℕ → ℕ → ℕ → List Check
+action-checks g tau k v output wanted memory =
+    let n = g .matrix .n in
+    g .checks ++ job-checks k tau output wanted (length v) n (row-sum-norm (g .matrix)) memory (taylor-need n 3 (g .stored))
 
-unfoldable pub phi-action : Csr → Mass → Float → ℕ → List Float → List Float → List Float → Call TaylorAnswer
-phi-action a mass tau k v output memory =
-    let q = quotients a mass in
+unfoldable pub phi-action : Generator → Float → ℕ → List Float → List Float → List Float → Call TaylorAnswer
+phi-action g tau k v output memory =
+    let q = g .matrix in
     let eta = eta-scaling (sup v) in
-    unless-refused Refusal (first (action-checks a mass tau k v (length output) (a .n) (length memory))) output memory
-    (after-plan (taylor-need a mass 3) output memory (sweep-plan M-MAX tau q (row-sum-norm q))
-    (soaked (action-operator q v (eta .eta)) tau (init-aug-vector (a .n) v (eta .inv) k)))
+    unless-refused Refusal (first (action-checks g tau k v (length output) (q .n) (length memory))) output memory
+    (after-plan (taylor-need (q .n) 3 (g .stored)) tau (row-sum-norm q) output memory (sweep-plan M-MAX tau q (row-sum-norm q))
+    (soaked (action-operator q v (eta .eta)) tau (init-aug-vector (q .n) v (eta .inv) k)))
 
 -- one more function of a batch
 unfoldable pub batch-step : Augmented → Float → SweepPlan → List Float → Float → ℕ → Fields → Fields
@@ -78,12 +81,12 @@ batch-step b tau p v inv k r =
 unfoldable pub batched : Augmented → Float → List Float → Float → ℕ → SweepPlan → Fields
 batched b tau v inv k p = iter (batch-step b tau p v inv) k (record { fields = []; applied = 0 })
 
-unfoldable pub phi-action-batched : Csr → Mass → Float → ℕ → List Float → List Float → List Float → Call TaylorAnswer
-phi-action-batched a mass tau p v output memory =
-    let q = quotients a mass in
+unfoldable pub phi-action-batched : Generator → Float → ℕ → List Float → List Float → List Float → Call TaylorAnswer
+phi-action-batched g tau p v output memory =
+    let q = g .matrix in
     let eta = eta-scaling (sup v) in
-    unless-refused Refusal (first (action-checks a mass tau p v (length output) (suc p * a .n) (length memory))) output memory
-    (after-plan (taylor-need a mass 3) output memory (sweep-plan M-MAX tau q (row-sum-norm q))
+    unless-refused Refusal (first (action-checks g tau p v (length output) (suc p * q .n) (length memory))) output memory
+    (after-plan (taylor-need (q .n) 3 (g .stored)) tau (row-sum-norm q) output memory (sweep-plan M-MAX tau q (row-sum-norm q))
     (batched (action-operator q v (eta .eta)) tau v (eta .inv) (suc p)))
 
 -- to compute: a line `unfolding open-Calls` opens every definition of this file and of those below it

@@ -1,31 +1,32 @@
 // Taylor: the combination, the single action and the batch of actions.
 use checks::Checked;
+use combination::Job;
+use csr_shift::Shift;
 use generator_action::MatrixAnswer;
-use phi_action_helpers::Coupling;
+use generator_action::Shape;
 use phi_action_helpers::Layout;
+use phi_action_helpers::SweepArgs;
 use phi_action_helpers::SweepPlan;
-use phi_shift::PlanAnswer;
 ghost use mathlib.Core.Path.{_≡_};
-ghost use mathlib.Core.Bool.{true, false};
+ghost use mathlib.Core.Bool.{true};
 ghost use mathlib.Core.List.{List};
-ghost use Prim.Native.Nat.{ℕ, _+_, _-_, _*_, _≤_, _<_};
-ghost use lib.ListN.{length, getD};
-ghost use lib.Ieee.{Float};
+ghost use Prim.Native.Nat.{_+_, _*_, _≤_};
+ghost use lib.ListN.{length};
 ghost use Rattle.lists.specs.Window.{window, splice};
 ghost use Rattle.lists.specs.Frame.{Kept};
 ghost use Rattle.doubles.specs.F64.{+0};
+ghost use Rattle.checks.specs.First.{Check, first};
+ghost use Rattle.checks.specs.declared.Checked.the-variants.{Sound};
 ghost use Rattle.general_operator.specs.Csr.{csr, Valid};
-ghost use Rattle.generator_action.specs.Mass.{given, quotients};
-ghost use Rattle.generator_action.specs.Known.{Accepted};
-ghost use Rattle.expmv.specs.Select.{select-s-m, M-MAX};
-ghost use Rattle.phi_action_helpers.specs.Augmented.{augmented};
+ghost use Rattle.generator_action.specs.Mass.{given, stored};
+ghost use Rattle.generator_action.specs.Generator.{forward};
+ghost use Rattle.generator_action.specs.Known.{Passed};
+ghost use Rattle.csr_shift.specs.Shift.{negated-csr-shift};
 ghost use Rattle.phi_action_helpers.specs.Laid.{matrix-at, operator-at, Ready, Lined};
-ghost use Rattle.phi_shift.specs.Plan.{argument, sweep-plan};
-ghost use Rattle.combination.specs.Combination.{combination-start, init-aug-vector};
 ghost use Rattle.combination.specs.Call.{ends, cleared};
-ghost use Rattle.combination.specs.Checks.{no-row, taylor-need};
-ghost use Rattle.phi_action.specs.Memory.{layout, Coupled, one-column};
-ghost use Rattle.phi_action.specs.Calls.{after-plan, report, soaked, phi-combination, phi-action, batched, phi-action-batched};
+ghost use Rattle.combination.specs.Inner.{Coupled, matrix-of, after-checks};
+ghost use Rattle.phi_action.specs.Inner.{layout, plan-by, operator-by, job-end, Allowed};
+ghost use Rattle.phi_action.specs.Calls.{report, soaked, phi-combination, phi-action, batched, phi-action-batched};
 
 // Of an accepted job: the plan, and the products with the generator made, over all sweeps of a batch.
 pub struct TaylorReport {
@@ -55,64 +56,40 @@ fn layout(n: usize, d: usize, mass: bool) -> Layout
     }
 }
 
-// What a job needs of the lent memory.
-fn taylor_need(n: usize, d: usize, with_mass: bool, entries: usize) -> usize
-    requires { ⌜ (n ≤ 1000000) × (d ≤ 3) × (entries ≤ 16777216) ⌝ }
-    ensures { λ r. ⌜ ((starts cols : List ℕ) (vals mass : List Float) → length vals ≡ entries → r ≡ taylor-need (csr n starts cols vals) (given «with_mass» mass) d) ⌝ }
-{
-    if with_mass {
-        return 3 * n + 2 * d + entries;
-    }
-    3 * n + 2 * d
-}
-
-// w_0, then the chain: zeros, and 1 / eta at its end.
-pub fn combination_start(n: usize, w: &[f64], d: usize, inv: f64, work: &mut [f64])
-    requires { ⌜ (n ≤ length (now w)) × (n + d ≤ length (now work)) ⌝ }
-    ensures { λ _. ⌜ now (work .exit) ≡ splice 0 (combination-start n (now (w .entry)) d inv) (now (work .entry)) ⌝ }
-{
-    vectors::copy_from(work, 0, w, 0, n);
-    vectors::clear_in(work, n, d);
-    if d > 0 {
-        work[n + d - 1] = inv;
-    }
-}
-
-// For phi_0 v and an empty chain, for phi_k zeros and 1 / eta at place k - 1 of the chain.
-fn init_aug_vector(n: usize, v: &[f64], k: usize, inv: f64, work: &mut [f64])
-    requires { ⌜ (length (now v) ≡ n) × (n + 3 ≤ length (now work)) × (k ≤ 3) ⌝ }
-    ensures { λ _. ⌜ now (work .exit) ≡ splice 0 (init-aug-vector n (now (v .entry)) inv k) (now (work .entry)) ⌝ }
-{
-    if k == 0 {
-        vectors::copy_from(work, 0, v, 0, n);
-        vectors::clear_in(work, n, 3);
-        return;
-    }
-    vectors::clear_in(work, 0, n + 3);
-    work[n + k - 1] = inv;
-}
-
-// The plan, of the quotients in the lent memory where there is a mass.
-fn plan_at(
-    starts: &[u32],
-    cols: &[u32],
-    vals: &[f64],
-    work: &[f64],
-    l: Layout,
-    tau: f64,
-    norm: f64,
-) -> PlanAnswer
+// The shift, of the quotients in the lent memory where there is a mass.
+fn shift_at(starts: &[u32], cols: &[u32], vals: &[f64], work: &[f64], l: Layout, norm: f64) -> Shift
     requires { ⌜ Valid (matrix-at l (now starts) (now cols) (now vals) (now work)) ⌝ }
     requires { ⌜ (l .mass ≡ true → l .q + length (now vals) ≤ length (now work)) ⌝ }
-    ensures { λ r. ⌜ r ≡ sweep-plan M-MAX tau (matrix-at l (now (starts .entry)) (now (cols .entry)) (now (vals .entry)) (now (work .entry))) norm ⌝ }
+    ensures { λ r. ⌜ r ≡ negated-csr-shift (matrix-at l (now (starts .entry)) (now (cols .entry)) (now (vals .entry)) (now (work .entry))) norm ⌝ }
 {
     let n = l.n;
     if l.mass {
         let from = l.q;
         let to = from + vals.len();
-        return phi_shift::sweep_plan(30, tau, n, starts, cols, &work[from..to], norm);
+        return csr_shift::negated_csr_shift(n, starts, cols, &work[from..to], norm);
     }
-    phi_shift::sweep_plan(30, tau, n, starts, cols, vals, norm)
+    csr_shift::negated_csr_shift(n, starts, cols, vals, norm)
+}
+
+// The quotients in their place, and the plan from the row that the checks found.
+fn prepare(
+    starts: &[u32],
+    cols: &[u32],
+    vals: &[f64],
+    mass: &[f64],
+    work: &mut [f64],
+    j: Job,
+) -> SweepPlan
+    requires { ⌜ Allowed (now starts) (now cols) (now vals) (now mass) (now work) j ⌝ }
+    ensures { λ r. ⌜ r ≡ plan-by j (matrix-of (j .g) (now (starts .entry)) (now (cols .entry)) (now (vals .entry)) (now (mass .entry))) ⌝ }
+    ensures { λ _. ⌜ now (work .exit) ≡ splice (layout (j .g .n) (j .d) (j .g .«with_mass») .q) (stored (csr (j .g .n) (now (starts .entry)) (now (cols .entry)) (now (vals .entry))) (given (j .g .«with_mass») (now (mass .entry)))) (now (work .entry)) ⌝ }
+{
+    let g = j.g;
+    let l = layout(g.n, j.d, g.with_mass);
+    let q = l.q;
+    generator_action::store_quotients(g.n, starts, cols, vals, g.with_mass, mass, work, q);
+    let shift = shift_at(starts, cols, vals, work, l, g.norm);
+    phi_shift::with_shift(expmv::M_MAX, j.tau, j.s, j.m, shift)
 }
 
 // The sweeps, and their n values from `place` of the output on.
@@ -124,19 +101,16 @@ fn swept_out(
     out: &mut [f64],
     place: usize,
     work: &mut [f64],
-    l: Layout,
-    b: Coupling,
-    tau: f64,
-    p: SweepPlan,
+    x: SweepArgs,
 ) -> u64
-    requires { ⌜ Ready l b (now starts) (now cols) (now vals) (now vectors) (now work) ⌝ }
-    requires { ⌜ Lined l × (p .m ≤ 30) × (place + l .n ≤ length (now out)) ⌝ }
-    ensures { λ r. ⌜ r ≡ soaked (operator-at l b (now (starts .entry)) (now (cols .entry)) (now (vals .entry)) (now (vectors .entry)) (now (work .entry))) tau (window 0 (l .n + l .d) (now (work .entry))) p .applied ⌝ }
-    ensures { λ _. ⌜ now (out .exit) ≡ splice place (soaked (operator-at l b (now (starts .entry)) (now (cols .entry)) (now (vals .entry)) (now (vectors .entry)) (now (work .entry))) tau (window 0 (l .n + l .d) (now (work .entry))) p .fields) (now (out .entry)) ⌝ }
-    ensures { λ _. ⌜ Kept 0 (l .q) +0 (now (work .entry)) (now (work .exit)) ⌝ }
+    requires { ⌜ Ready (x .l) (x .b) (now starts) (now cols) (now vals) (now vectors) (now work) ⌝ }
+    requires { ⌜ Lined (x .l) × (x .p .m ≤ 30) × (place + x .l .n ≤ length (now out)) ⌝ }
+    ensures { λ r. ⌜ r ≡ soaked (operator-at (x .l) (x .b) (now (starts .entry)) (now (cols .entry)) (now (vals .entry)) (now (vectors .entry)) (now (work .entry))) (x .tau) (window 0 (x .l .n + x .l .d) (now (work .entry))) (x .p) .applied ⌝ }
+    ensures { λ _. ⌜ now (out .exit) ≡ splice place (soaked (operator-at (x .l) (x .b) (now (starts .entry)) (now (cols .entry)) (now (vals .entry)) (now (vectors .entry)) (now (work .entry))) (x .tau) (window 0 (x .l .n + x .l .d) (now (work .entry))) (x .p) .fields) (now (out .entry)) ⌝ }
+    ensures { λ _. ⌜ Kept 0 (x .l .q) +0 (now (work .entry)) (now (work .exit)) ⌝ }
 {
-    let n = l.n;
-    let applied = phi_action_helpers::run_sweeps(starts, cols, vals, vectors, work, l, b, tau, p);
+    let n = x.l.n;
+    let applied = phi_action_helpers::run_sweeps(starts, cols, vals, vectors, work, x);
     vectors::copy_from(out, place, work, 0, n);
     applied
 }
@@ -156,91 +130,63 @@ fn finish(work: &mut [f64], need: usize, p: SweepPlan, applied: u64) -> TaylorAn
     })
 }
 
-// A job whose first field stands at the front of the lent memory: quotients, plan, sweeps.
-fn soak(
-    n: usize,
+// A job whose first field stands at the front of the lent memory.
+fn run_job(
     starts: &[u32],
     cols: &[u32],
     vals: &[f64],
-    with_mass: bool,
     mass: &[f64],
     vectors: &[f64],
     out: &mut [f64],
     work: &mut [f64],
-    d: usize,
-    b: Coupling,
-    tau: f64,
-    norm: f64,
-    need: usize,
+    j: Job,
 ) -> TaylorAnswer
-    requires { ⌜ Accepted (csr n (now starts) (now cols) (now vals)) (given «with_mass» (now mass)) norm ⌝ }
-    requires { ⌜ Coupled b n d (length (now vectors)) ⌝ }
-    requires { ⌜ (need ≡ taylor-need (csr n (now starts) (now cols) (now vals)) (given «with_mass» (now mass)) d) × (need ≤ length (now work)) × (length (now out) ≡ n) ⌝ }
-    requires { ⌜ no-row (select-s-m M-MAX (argument tau norm)) ≡ false ⌝ }
-    ensures { λ r. ⌜ ends r (now (out .exit)) (now (work .exit)) ≡ after-plan need (now (out .entry)) (now (work .entry)) (sweep-plan M-MAX tau (quotients (csr n (now (starts .entry)) (now (cols .entry)) (now (vals .entry))) (given «with_mass» (now (mass .entry)))) norm) (soaked (augmented (quotients (csr n (now (starts .entry)) (now (cols .entry)) (now (vals .entry))) (given «with_mass» (now (mass .entry)))) d (now (vectors .entry)) (b .places) (b .gains) (b .count)) tau (window 0 (n + d) (now (work .entry)))) ⌝ }
+    requires { ⌜ Allowed (now starts) (now cols) (now vals) (now mass) (now work) j ⌝ }
+    requires { ⌜ Coupled (j .b) (j .g .n) (j .d) (length (now vectors)) × (length (now out) ≡ j .g .n) ⌝ }
+    ensures { λ r. ⌜ ends r (now (out .exit)) (now (work .exit)) ≡ job-end j (matrix-of (j .g) (now (starts .entry)) (now (cols .entry)) (now (vals .entry)) (now (mass .entry))) (soaked (operator-by j (matrix-of (j .g) (now (starts .entry)) (now (cols .entry)) (now (vals .entry)) (now (mass .entry))) (now (vectors .entry))) (j .tau) (window 0 (j .g .n + j .d) (now (work .entry)))) (now (work .entry)) ⌝ }
 {
-    let l = layout(n, d, with_mass);
-    let q = l.q;
-    generator_action::store_quotients(n, starts, cols, vals, with_mass, mass, work, q);
-    let plan = plan_at(starts, cols, vals, work, l, tau, norm);
-    let PlanAnswer::Plan(p) = plan else {
-        return TaylorAnswer::Refusal(25, float::not_a_number());
+    let g = j.g;
+    let l = layout(g.n, j.d, g.with_mass);
+    let b = j.b;
+    let p = prepare(starts, cols, vals, mass, work, j);
+    let x = SweepArgs {
+        l: l,
+        b: b,
+        tau: j.tau,
+        p: p,
     };
-    let applied = swept_out(starts, cols, vals, vectors, out, 0, work, l, b, tau, p);
-    finish(work, need, p, applied)
+    let applied = swept_out(starts, cols, vals, vectors, out, 0, work, x);
+    finish(work, j.need, p, applied)
 }
 
-// The combination of a matrix that passed 1 to 11.
+// The combination over a generator that passed its checks.
 fn combined(
-    n: usize,
     starts: &[u32],
     cols: &[u32],
     vals: &[f64],
-    with_mass: bool,
     mass: &[f64],
+    g: Shape,
     tau: f64,
     count: usize,
     w: &[f64],
     out: &mut [f64],
     work: &mut [f64],
-    norm: f64,
 ) -> TaylorAnswer
-    requires { ⌜ Accepted (csr n (now starts) (now cols) (now vals)) (given «with_mass» (now mass)) norm ⌝ }
-    ensures { λ r. ⌜ ends r (now (out .exit)) (now (work .exit)) ≡ phi-combination (csr n (now (starts .entry)) (now (cols .entry)) (now (vals .entry))) (given «with_mass» (now (mass .entry))) tau count (now (w .entry)) (now (out .entry)) (now (work .entry)) ⌝ }
+    requires { ⌜ Passed (csr (g .n) (now starts) (now cols) (now vals)) (given (g .«with_mass») (now mass)) g ⌝ }
+    ensures { λ r. ⌜ ((gs : List Check) → Sound ≡ first gs → ends r (now (out .exit)) (now (work .exit)) ≡ phi-combination (after-checks gs (csr (g .n) (now (starts .entry)) (now (cols .entry)) (now (vals .entry))) (given (g .«with_mass») (now (mass .entry))) g) tau count (now (w .entry)) (now (out .entry)) (now (work .entry))) ⌝ }
 {
-    let vectors = combination::validate_combination(n, tau, count, w, out.len());
-    if let Checked::Refused(k, x) = vectors {
-        return TaylorAnswer::Refusal(k, x);
-    }
-    let d = count - 1;
-    let need = taylor_need(n, d, with_mass, vals.len());
-    let sweeps = combination::check_sweeps(n, tau, d, w, norm, work.len(), need);
-    if let Checked::Refused(k, x) = sweeps {
-        return TaylorAnswer::Refusal(k, x);
-    }
-    let eta = pow2::eta_scaling(combination::magnitude(n, w, tau, d));
-    let b = Coupling {
-        places: combination::column_places(n, d),
-        gains: combination::scaled_gains(n, w, tau, d, eta.eta),
-        count: d,
+    let vectors = combination::validate_combination(g.n, tau, count, w, out.len());
+    let Checked::Sound = vectors else {
+        return TaylorAnswer::Refusal(checks::number(vectors), checks::reported(vectors));
     };
-    combination_start(n, w, d, eta.inv, work);
-    soak(
-        n,
-        starts,
-        cols,
-        vals,
-        with_mass,
-        mass,
-        w,
-        out,
-        work,
-        d,
-        b,
-        tau,
-        norm,
-        need,
-    )
+    let d = count - 1;
+    let j = combination::admit_combination(g, tau, d, w, work.len());
+    let checked = j.checked;
+    let Checked::Sound = checked else {
+        return TaylorAnswer::Refusal(checks::number(checked), checks::reported(checked));
+    };
+    combination::combination_start(g.n, w, d, j.inv, work);
+    run_job(starts, cols, vals, mass, w, out, work, j)
 }
 
 // The sum over k of tau^k phi_k(tau G) w_k, of `count` vectors in one slice.
@@ -257,81 +203,42 @@ pub fn phi_combination(
     out: &mut [f64],
     work: &mut [f64],
 ) -> TaylorAnswer
-    ensures { λ r. ⌜ ends r (now (out .exit)) (now (work .exit)) ≡ phi-combination (csr n (now (starts .entry)) (now (cols .entry)) (now (vals .entry))) (given «with_mass» (now (mass .entry))) tau count (now (w .entry)) (now (out .entry)) (now (work .entry)) ⌝ }
+    ensures { λ r. ⌜ ends r (now (out .exit)) (now (work .exit)) ≡ phi-combination (forward (csr n (now (starts .entry)) (now (cols .entry)) (now (vals .entry))) (given «with_mass» (now (mass .entry)))) tau count (now (w .entry)) (now (out .entry)) (now (work .entry)) ⌝ }
 {
     let matrix = generator_action::check_generator(n, starts, cols, vals, with_mass, mass);
-    match matrix {
-        MatrixAnswer::Refusal(k, x) => TaylorAnswer::Refusal(k, x),
-        MatrixAnswer::Norm(norm, _) => combined(
-            n,
-            starts,
-            cols,
-            vals,
-            with_mass,
-            mass,
-            tau,
-            count,
-            w,
-            out,
-            work,
-            norm,
-        ),
-    }
+    let MatrixAnswer::Norm(norm, _) = matrix else {
+        return TaylorAnswer::Refusal(
+            generator_action::number(matrix),
+            generator_action::value(matrix),
+        );
+    };
+    let g = generator_action::generator_shape(n, with_mass, vals.len(), norm);
+    combined(starts, cols, vals, mass, g, tau, count, w, out, work)
 }
 
-// An action has one column, v.
-fn one_column(eta: f64) -> Coupling
-    ensures { λ r. ⌜ r ≡ one-column eta ⌝ }
-{
-    Coupling {
-        places: [0, 0, 0],
-        gains: [eta, 1.0, 1.0],
-        count: 1,
-    }
-}
-
-// The action of a matrix that passed 1 to 11.
+// The action over a generator that passed its checks.
 fn acted(
-    n: usize,
     starts: &[u32],
     cols: &[u32],
     vals: &[f64],
-    with_mass: bool,
     mass: &[f64],
+    g: Shape,
     tau: f64,
     k: usize,
     v: &[f64],
     out: &mut [f64],
     work: &mut [f64],
-    norm: f64,
 ) -> TaylorAnswer
-    requires { ⌜ Accepted (csr n (now starts) (now cols) (now vals)) (given «with_mass» (now mass)) norm ⌝ }
-    ensures { λ r. ⌜ ends r (now (out .exit)) (now (work .exit)) ≡ phi-action (csr n (now (starts .entry)) (now (cols .entry)) (now (vals .entry))) (given «with_mass» (now (mass .entry))) tau k (now (v .entry)) (now (out .entry)) (now (work .entry)) ⌝ }
+    requires { ⌜ Passed (csr (g .n) (now starts) (now cols) (now vals)) (given (g .«with_mass») (now mass)) g ⌝ }
+    ensures { λ r. ⌜ ((gs : List Check) → Sound ≡ first gs → ends r (now (out .exit)) (now (work .exit)) ≡ phi-action (after-checks gs (csr (g .n) (now (starts .entry)) (now (cols .entry)) (now (vals .entry))) (given (g .«with_mass») (now (mass .entry))) g) tau k (now (v .entry)) (now (out .entry)) (now (work .entry))) ⌝ }
 {
-    let need = taylor_need(n, 3, with_mass, vals.len());
-    let job = combination::check_action(k, tau, out.len(), n, v.len(), n, norm, work.len(), need);
-    if let Checked::Refused(number, x) = job {
-        return TaylorAnswer::Refusal(number, x);
-    }
-    let eta = pow2::eta_scaling(pow2::sup(v));
-    let b = one_column(eta.eta);
-    init_aug_vector(n, v, k, eta.inv, work);
-    soak(
-        n,
-        starts,
-        cols,
-        vals,
-        with_mass,
-        mass,
-        v,
-        out,
-        work,
-        3,
-        b,
-        tau,
-        norm,
-        need,
-    )
+    let j = combination::admit_action(g, tau, k, v, out.len(), g.n, work.len());
+    let checked = j.checked;
+    let Checked::Sound = checked else {
+        return TaylorAnswer::Refusal(checks::number(checked), checks::reported(checked));
+    };
+    combination::init_aug_vector(g.n, v, k, j.inv, work);
+    run_job(starts, cols, vals, mass, v, out, work, j)
 }
 
 // phi_k(tau G) v.
@@ -348,26 +255,17 @@ pub fn phi_action(
     out: &mut [f64],
     work: &mut [f64],
 ) -> TaylorAnswer
-    ensures { λ r. ⌜ ends r (now (out .exit)) (now (work .exit)) ≡ phi-action (csr n (now (starts .entry)) (now (cols .entry)) (now (vals .entry))) (given «with_mass» (now (mass .entry))) tau k (now (v .entry)) (now (out .entry)) (now (work .entry)) ⌝ }
+    ensures { λ r. ⌜ ends r (now (out .exit)) (now (work .exit)) ≡ phi-action (forward (csr n (now (starts .entry)) (now (cols .entry)) (now (vals .entry))) (given «with_mass» (now (mass .entry)))) tau k (now (v .entry)) (now (out .entry)) (now (work .entry)) ⌝ }
 {
     let matrix = generator_action::check_generator(n, starts, cols, vals, with_mass, mass);
-    match matrix {
-        MatrixAnswer::Refusal(number, x) => TaylorAnswer::Refusal(number, x),
-        MatrixAnswer::Norm(norm, _) => acted(
-            n,
-            starts,
-            cols,
-            vals,
-            with_mass,
-            mass,
-            tau,
-            k,
-            v,
-            out,
-            work,
-            norm,
-        ),
-    }
+    let MatrixAnswer::Norm(norm, _) = matrix else {
+        return TaylorAnswer::Refusal(
+            generator_action::number(matrix),
+            generator_action::value(matrix),
+        );
+    };
+    let g = generator_action::generator_shape(n, with_mass, vals.len(), norm);
+    acted(starts, cols, vals, mass, g, tau, k, v, out, work)
 }
 
 // The sweeps of phi_0 up to phi_(count - 1), one after the other; the products of all.
@@ -378,122 +276,84 @@ fn sweep_batch(
     v: &[f64],
     out: &mut [f64],
     work: &mut [f64],
-    l: Layout,
-    b: Coupling,
+    x: SweepArgs,
     inv: f64,
     count: usize,
-    tau: f64,
-    p: SweepPlan,
 ) -> u64
-    requires { ⌜ Ready l b (now starts) (now cols) (now vals) (now v) (now work) ⌝ }
-    requires { ⌜ Lined l × (p .s ≤ 4294967295) × (p .m ≤ 30) × (l .d ≡ 3) ⌝ }
-    requires { ⌜ (length (now v) ≡ l .n) × (count ≤ 4) × (length (now out) ≡ count * l .n) ⌝ }
-    ensures { λ r. ⌜ r ≡ batched (operator-at l b (now (starts .entry)) (now (cols .entry)) (now (vals .entry)) (now (v .entry)) (now (work .entry))) tau (now (v .entry)) inv count p .applied ⌝ }
-    ensures { λ _. ⌜ now (out .exit) ≡ batched (operator-at l b (now (starts .entry)) (now (cols .entry)) (now (vals .entry)) (now (v .entry)) (now (work .entry))) tau (now (v .entry)) inv count p .fields ⌝ }
-    ensures { λ _. ⌜ Kept 0 (l .q) +0 (now (work .entry)) (now (work .exit)) ⌝ }
+    requires { ⌜ Ready (x .l) (x .b) (now starts) (now cols) (now vals) (now v) (now work) ⌝ }
+    requires { ⌜ Lined (x .l) × (x .p .s ≤ 4294967295) × (x .p .m ≤ 30) × (x .l .d ≡ 3) ⌝ }
+    requires { ⌜ (length (now v) ≡ x .l .n) × (count ≤ 4) × (length (now out) ≡ count * x .l .n) ⌝ }
+    ensures { λ r. ⌜ r ≡ batched (operator-at (x .l) (x .b) (now (starts .entry)) (now (cols .entry)) (now (vals .entry)) (now (v .entry)) (now (work .entry))) (x .tau) (now (v .entry)) inv count (x .p) .applied ⌝ }
+    ensures { λ _. ⌜ now (out .exit) ≡ batched (operator-at (x .l) (x .b) (now (starts .entry)) (now (cols .entry)) (now (vals .entry)) (now (v .entry)) (now (work .entry))) (x .tau) (now (v .entry)) inv count (x .p) .fields ⌝ }
+    ensures { λ _. ⌜ Kept 0 (x .l .q) +0 (now (work .entry)) (now (work .exit)) ⌝ }
 {
-    let n = l.n;
+    let n = x.l.n;
     let mut applied = 0u64;
     for k in 0..count {
-        init_aug_vector(n, v, k, inv, work);
-        applied = applied + swept_out(starts, cols, vals, v, out, k * n, work, l, b, tau, p);
+        combination::init_aug_vector(n, v, k, inv, work);
+        applied = applied + swept_out(starts, cols, vals, v, out, k * n, work, x);
     }
     applied
 }
 
-// A batch: quotients, the plan once, the sweeps of each function.
-fn soak_batched(
-    n: usize,
+// A batch: the plan once, the sweeps of each function.
+fn run_batch(
     starts: &[u32],
     cols: &[u32],
     vals: &[f64],
-    with_mass: bool,
     mass: &[f64],
     v: &[f64],
     out: &mut [f64],
     work: &mut [f64],
-    b: Coupling,
-    inv: f64,
+    j: Job,
     count: usize,
-    tau: f64,
-    norm: f64,
-    need: usize,
 ) -> TaylorAnswer
-    requires { ⌜ Accepted (csr n (now starts) (now cols) (now vals)) (given «with_mass» (now mass)) norm ⌝ }
-    requires { ⌜ Coupled b n 3 (length (now v)) ⌝ }
-    requires { ⌜ (need ≡ taylor-need (csr n (now starts) (now cols) (now vals)) (given «with_mass» (now mass)) 3) × (need ≤ length (now work)) × (length (now out) ≡ count * n) ⌝ }
-    requires { ⌜ no-row (select-s-m M-MAX (argument tau norm)) ≡ false ⌝ }
-    requires { ⌜ (length (now v) ≡ n) × (count ≤ 4) ⌝ }
-    ensures { λ r. ⌜ ends r (now (out .exit)) (now (work .exit)) ≡ after-plan need (now (out .entry)) (now (work .entry)) (sweep-plan M-MAX tau (quotients (csr n (now (starts .entry)) (now (cols .entry)) (now (vals .entry))) (given «with_mass» (now (mass .entry)))) norm) (batched (augmented (quotients (csr n (now (starts .entry)) (now (cols .entry)) (now (vals .entry))) (given «with_mass» (now (mass .entry)))) 3 (now (v .entry)) (b .places) (b .gains) (b .count)) tau (now (v .entry)) inv count) ⌝ }
+    requires { ⌜ Allowed (now starts) (now cols) (now vals) (now mass) (now work) j ⌝ }
+    requires { ⌜ Coupled (j .b) (j .g .n) (j .d) (length (now v)) ⌝ }
+    requires { ⌜ (j .d ≡ 3) × (length (now v) ≡ j .g .n) × (count ≤ 4) × (length (now out) ≡ count * j .g .n) ⌝ }
+    ensures { λ r. ⌜ ends r (now (out .exit)) (now (work .exit)) ≡ job-end j (matrix-of (j .g) (now (starts .entry)) (now (cols .entry)) (now (vals .entry)) (now (mass .entry))) (batched (operator-by j (matrix-of (j .g) (now (starts .entry)) (now (cols .entry)) (now (vals .entry)) (now (mass .entry))) (now (v .entry))) (j .tau) (now (v .entry)) (j .inv) count) (now (work .entry)) ⌝ }
 {
-    let l = layout(n, 3, with_mass);
-    let q = l.q;
-    generator_action::store_quotients(n, starts, cols, vals, with_mass, mass, work, q);
-    let plan = plan_at(starts, cols, vals, work, l, tau, norm);
-    let PlanAnswer::Plan(p) = plan else {
-        return TaylorAnswer::Refusal(25, float::not_a_number());
+    let g = j.g;
+    let l = layout(g.n, j.d, g.with_mass);
+    let b = j.b;
+    let p = prepare(starts, cols, vals, mass, work, j);
+    let x = SweepArgs {
+        l: l,
+        b: b,
+        tau: j.tau,
+        p: p,
     };
-    let applied = sweep_batch(starts, cols, vals, v, out, work, l, b, inv, count, tau, p);
-    finish(work, need, p, applied)
+    let applied = sweep_batch(starts, cols, vals, v, out, work, x, j.inv, count);
+    finish(work, j.need, p, applied)
 }
 
-// The batch of a matrix that passed 1 to 11. An index above 3 is refused before the output's length is computed.
+// The batch over a generator that passed its checks. An index above 3 is refused before the output's length is computed.
 fn acted_batched(
-    n: usize,
     starts: &[u32],
     cols: &[u32],
     vals: &[f64],
-    with_mass: bool,
     mass: &[f64],
+    g: Shape,
     tau: f64,
     p: usize,
     v: &[f64],
     out: &mut [f64],
     work: &mut [f64],
-    norm: f64,
 ) -> TaylorAnswer
-    requires { ⌜ Accepted (csr n (now starts) (now cols) (now vals)) (given «with_mass» (now mass)) norm ⌝ }
-    ensures { λ r. ⌜ ends r (now (out .exit)) (now (work .exit)) ≡ phi-action-batched (csr n (now (starts .entry)) (now (cols .entry)) (now (vals .entry))) (given «with_mass» (now (mass .entry))) tau p (now (v .entry)) (now (out .entry)) (now (work .entry)) ⌝ }
+    requires { ⌜ Passed (csr (g .n) (now starts) (now cols) (now vals)) (given (g .«with_mass») (now mass)) g ⌝ }
+    ensures { λ r. ⌜ ((gs : List Check) → Sound ≡ first gs → ends r (now (out .exit)) (now (work .exit)) ≡ phi-action-batched (after-checks gs (csr (g .n) (now (starts .entry)) (now (cols .entry)) (now (vals .entry))) (given (g .«with_mass») (now (mass .entry))) g) tau p (now (v .entry)) (now (out .entry)) (now (work .entry))) ⌝ }
 {
     let index = combination::check_index(p);
-    if let Checked::Refused(number, x) = index {
-        return TaylorAnswer::Refusal(number, x);
-    }
+    let Checked::Sound = index else {
+        return TaylorAnswer::Refusal(checks::number(index), checks::reported(index));
+    };
     let count = p + 1;
-    let need = taylor_need(n, 3, with_mass, vals.len());
-    let job = combination::check_action(
-        p,
-        tau,
-        out.len(),
-        count * n,
-        v.len(),
-        n,
-        norm,
-        work.len(),
-        need,
-    );
-    if let Checked::Refused(number, x) = job {
-        return TaylorAnswer::Refusal(number, x);
-    }
-    let eta = pow2::eta_scaling(pow2::sup(v));
-    let b = one_column(eta.eta);
-    soak_batched(
-        n,
-        starts,
-        cols,
-        vals,
-        with_mass,
-        mass,
-        v,
-        out,
-        work,
-        b,
-        eta.inv,
-        count,
-        tau,
-        norm,
-        need,
-    )
+    let j = combination::admit_action(g, tau, p, v, out.len(), count * g.n, work.len());
+    let checked = j.checked;
+    let Checked::Sound = checked else {
+        return TaylorAnswer::Refusal(checks::number(checked), checks::reported(checked));
+    };
+    run_batch(starts, cols, vals, mass, v, out, work, j, count)
 }
 
 // phi_0(tau G) v up to phi_p(tau G) v, one after the other.
@@ -510,24 +370,15 @@ pub fn phi_action_batched(
     out: &mut [f64],
     work: &mut [f64],
 ) -> TaylorAnswer
-    ensures { λ r. ⌜ ends r (now (out .exit)) (now (work .exit)) ≡ phi-action-batched (csr n (now (starts .entry)) (now (cols .entry)) (now (vals .entry))) (given «with_mass» (now (mass .entry))) tau p (now (v .entry)) (now (out .entry)) (now (work .entry)) ⌝ }
+    ensures { λ r. ⌜ ends r (now (out .exit)) (now (work .exit)) ≡ phi-action-batched (forward (csr n (now (starts .entry)) (now (cols .entry)) (now (vals .entry))) (given «with_mass» (now (mass .entry)))) tau p (now (v .entry)) (now (out .entry)) (now (work .entry)) ⌝ }
 {
     let matrix = generator_action::check_generator(n, starts, cols, vals, with_mass, mass);
-    match matrix {
-        MatrixAnswer::Refusal(number, x) => TaylorAnswer::Refusal(number, x),
-        MatrixAnswer::Norm(norm, _) => acted_batched(
-            n,
-            starts,
-            cols,
-            vals,
-            with_mass,
-            mass,
-            tau,
-            p,
-            v,
-            out,
-            work,
-            norm,
-        ),
-    }
+    let MatrixAnswer::Norm(norm, _) = matrix else {
+        return TaylorAnswer::Refusal(
+            generator_action::number(matrix),
+            generator_action::value(matrix),
+        );
+    };
+    let g = generator_action::generator_shape(n, with_mass, vals.len(), norm);
+    acted_batched(starts, cols, vals, mass, g, tau, p, v, out, work)
 }

@@ -1,6 +1,5 @@
 -- The augmented operator [tau G, W; 0, J] of n + d values (phi_action_helpers.rs, `aug_matvec_inplace`; phi_shift.rs, `aug_matvec_shifted`;
 -- Al-Mohy and Higham 2011, Theorem 2.1). Definitions only.
-use mathlib.Core.Bool.{Bool, true, false}
 use mathlib.Core.List.{List, _++_}
 use Prim.Native.Nat.{ℕ, _+_}
 use lib.Dec.{ltb}

@@ -45,6 +45,14 @@ pub struct Layout {
     pub mass: bool,
 }
 
+// What the sweeps of a run are made with: the places, the columns, the time and the plan.
+pub struct SweepArgs {
+    pub l: Layout,
+    pub b: Coupling,
+    pub tau: f64,
+    pub p: SweepPlan,
+}
+
 // The factor of each column, from the chain c.
 fn scalars(gains: [f64; 3], count: usize, one: f64, c: &[f64]) -> [f64; 3]
     requires { ⌜ (count ≤ 3) × (count ≤ length (now c)) ⌝ }
@@ -205,19 +213,19 @@ fn horner_step(
     vals: &[f64],
     vectors: &[f64],
     work: &mut [f64],
-    l: Layout,
-    b: Coupling,
-    tau: f64,
-    p: SweepPlan,
+    x: SweepArgs,
     k: u32,
     applied: u64,
 ) -> u64
-    requires { ⌜ Ready l b (now starts) (now cols) (now vals) (now vectors) (now work) ⌝ }
-    requires { ⌜ Lined l × (k < p .m) × (applied ≤ k) ⌝ }
-    ensures { λ r. ⌜ horner-at l r (now (work .exit)) ≡ horner-step (operator-at l b (now (starts .entry)) (now (cols .entry)) (now (vals .entry)) (now (vectors .entry)) (now (work .entry))) tau p k (horner-at l applied (now (work .entry))) ⌝ }
-    ensures { λ _. ⌜ Kept 0 (l .q) +0 (now (work .entry)) (now (work .exit)) ⌝ }
+    requires { ⌜ Ready (x .l) (x .b) (now starts) (now cols) (now vals) (now vectors) (now work) ⌝ }
+    requires { ⌜ Lined (x .l) × (k < x .p .m) × (applied ≤ k) ⌝ }
+    ensures { λ r. ⌜ horner-at (x .l) r (now (work .exit)) ≡ horner-step (operator-at (x .l) (x .b) (now (starts .entry)) (now (cols .entry)) (now (vals .entry)) (now (vectors .entry)) (now (work .entry))) (x .tau) (x .p) k (horner-at (x .l) applied (now (work .entry))) ⌝ }
+    ensures { λ _. ⌜ Kept 0 (x .l .q) +0 (now (work .entry)) (now (work .exit)) ⌝ }
 {
-    let s = scales_of(tau, p, k + 1);
+    let l = x.l;
+    let b = x.b;
+    let p = x.p;
+    let s = scales_of(x.tau, p, k + 1);
     aug_matvec(starts, cols, vals, vectors, work, l, b, s);
     let w = l.w;
     let len = l.n + l.d;
@@ -232,20 +240,17 @@ fn terms(
     vals: &[f64],
     vectors: &[f64],
     work: &mut [f64],
-    l: Layout,
-    b: Coupling,
-    tau: f64,
-    p: SweepPlan,
+    x: SweepArgs,
 ) -> u64
-    requires { ⌜ Ready l b (now starts) (now cols) (now vals) (now vectors) (now work) ⌝ }
-    requires { ⌜ Lined l ⌝ }
-    ensures { λ r. ⌜ horner-at l r (now (work .exit)) ≡ iter (horner-step (operator-at l b (now (starts .entry)) (now (cols .entry)) (now (vals .entry)) (now (vectors .entry)) (now (work .entry))) tau p) (p .m) (horner-at l 0 (now (work .entry))) ⌝ }
-    ensures { λ _. ⌜ Kept 0 (l .q) +0 (now (work .entry)) (now (work .exit)) ⌝ }
+    requires { ⌜ Ready (x .l) (x .b) (now starts) (now cols) (now vals) (now vectors) (now work) ⌝ }
+    requires { ⌜ Lined (x .l) ⌝ }
+    ensures { λ r. ⌜ horner-at (x .l) r (now (work .exit)) ≡ iter (horner-step (operator-at (x .l) (x .b) (now (starts .entry)) (now (cols .entry)) (now (vals .entry)) (now (vectors .entry)) (now (work .entry))) (x .tau) (x .p)) (x .p .m) (horner-at (x .l) 0 (now (work .entry))) ⌝ }
+    ensures { λ _. ⌜ Kept 0 (x .l .q) +0 (now (work .entry)) (now (work .exit)) ⌝ }
 {
-    let m = p.m;
+    let m = x.p.m;
     let mut applied = 0u64;
     for k in 0..m {
-        applied = horner_step(starts, cols, vals, vectors, work, l, b, tau, p, k, applied);
+        applied = horner_step(starts, cols, vals, vectors, work, x, k, applied);
     }
     applied
 }
@@ -257,20 +262,17 @@ fn aug_horner_outer(
     vals: &[f64],
     vectors: &[f64],
     work: &mut [f64],
-    l: Layout,
-    b: Coupling,
-    tau: f64,
-    p: SweepPlan,
+    x: SweepArgs,
 ) -> u64
-    requires { ⌜ Ready l b (now starts) (now cols) (now vals) (now vectors) (now work) ⌝ }
-    requires { ⌜ Lined l ⌝ }
-    ensures { λ r. ⌜ horner-at l r (now (work .exit)) ≡ aug-horner-outer (operator-at l b (now (starts .entry)) (now (cols .entry)) (now (vals .entry)) (now (vectors .entry)) (now (work .entry))) tau p (window 0 (l .n + l .d) (now (work .entry))) ⌝ }
-    ensures { λ _. ⌜ Kept 0 (l .q) +0 (now (work .entry)) (now (work .exit)) ⌝ }
+    requires { ⌜ Ready (x .l) (x .b) (now starts) (now cols) (now vals) (now vectors) (now work) ⌝ }
+    requires { ⌜ Lined (x .l) ⌝ }
+    ensures { λ r. ⌜ horner-at (x .l) r (now (work .exit)) ≡ aug-horner-outer (operator-at (x .l) (x .b) (now (starts .entry)) (now (cols .entry)) (now (vals .entry)) (now (vectors .entry)) (now (work .entry))) (x .tau) (x .p) (window 0 (x .l .n + x .l .d) (now (work .entry))) ⌝ }
+    ensures { λ _. ⌜ Kept 0 (x .l .q) +0 (now (work .entry)) (now (work .exit)) ⌝ }
 {
-    let w = l.w;
-    let len = l.n + l.d;
+    let w = x.l.w;
+    let len = x.l.n + x.l.d;
     vectors::copy_in(work, w, 0, len);
-    terms(starts, cols, vals, vectors, work, l, b, tau, p)
+    terms(starts, cols, vals, vectors, work, x)
 }
 
 // With a shift, work[y + i] = work[y + i] * f.
@@ -291,20 +293,18 @@ fn sweep(
     vals: &[f64],
     vectors: &[f64],
     work: &mut [f64],
-    l: Layout,
-    b: Coupling,
-    tau: f64,
-    p: SweepPlan,
+    x: SweepArgs,
     f: f64,
     applied: u64,
 ) -> u64
-    requires { ⌜ Ready l b (now starts) (now cols) (now vals) (now vectors) (now work) ⌝ }
-    requires { ⌜ Lined l × (f ≡ rescale p) × (applied + p .m ≤ 18446744073709551615) ⌝ }
-    ensures { λ r. ⌜ swept-at l r (now (work .exit)) ≡ sweep (operator-at l b (now (starts .entry)) (now (cols .entry)) (now (vals .entry)) (now (vectors .entry)) (now (work .entry))) tau p (swept-at l applied (now (work .entry))) ⌝ }
-    ensures { λ _. ⌜ Kept 0 (l .q) +0 (now (work .entry)) (now (work .exit)) ⌝ }
+    requires { ⌜ Ready (x .l) (x .b) (now starts) (now cols) (now vals) (now vectors) (now work) ⌝ }
+    requires { ⌜ Lined (x .l) × (f ≡ rescale (x .p)) × (applied + x .p .m ≤ 18446744073709551615) ⌝ }
+    ensures { λ r. ⌜ swept-at (x .l) r (now (work .exit)) ≡ sweep (operator-at (x .l) (x .b) (now (starts .entry)) (now (cols .entry)) (now (vals .entry)) (now (vectors .entry)) (now (work .entry))) (x .tau) (x .p) (swept-at (x .l) applied (now (work .entry))) ⌝ }
+    ensures { λ _. ⌜ Kept 0 (x .l .q) +0 (now (work .entry)) (now (work .exit)) ⌝ }
 {
-    let made = aug_horner_outer(starts, cols, vals, vectors, work, l, b, tau, p);
-    let len = l.n + l.d;
+    let made = aug_horner_outer(starts, cols, vals, vectors, work, x);
+    let len = x.l.n + x.l.d;
+    let p = x.p;
     rescale_in(work, 0, len, p, f);
     applied + made
 }
@@ -316,21 +316,18 @@ pub fn run_sweeps(
     vals: &[f64],
     vectors: &[f64],
     work: &mut [f64],
-    l: Layout,
-    b: Coupling,
-    tau: f64,
-    p: SweepPlan,
+    x: SweepArgs,
 ) -> u64
-    requires { ⌜ Ready l b (now starts) (now cols) (now vals) (now vectors) (now work) ⌝ }
-    requires { ⌜ Lined l × (p .m ≤ 30) ⌝ }
-    ensures { λ r. ⌜ swept-at l r (now (work .exit)) ≡ run-sweeps (operator-at l b (now (starts .entry)) (now (cols .entry)) (now (vals .entry)) (now (vectors .entry)) (now (work .entry))) tau p (window 0 (l .n + l .d) (now (work .entry))) ⌝ }
-    ensures { λ _. ⌜ Kept 0 (l .q) +0 (now (work .entry)) (now (work .exit)) ⌝ }
+    requires { ⌜ Ready (x .l) (x .b) (now starts) (now cols) (now vals) (now vectors) (now work) ⌝ }
+    requires { ⌜ Lined (x .l) × (x .p .m ≤ 30) ⌝ }
+    ensures { λ r. ⌜ swept-at (x .l) r (now (work .exit)) ≡ run-sweeps (operator-at (x .l) (x .b) (now (starts .entry)) (now (cols .entry)) (now (vals .entry)) (now (vectors .entry)) (now (work .entry))) (x .tau) (x .p) (window 0 (x .l .n + x .l .d) (now (work .entry))) ⌝ }
+    ensures { λ _. ⌜ Kept 0 (x .l .q) +0 (now (work .entry)) (now (work .exit)) ⌝ }
 {
-    let s = p.s;
-    let f = dense_la::dense_exp(p.mu / (s as f64));
+    let s = x.p.s;
+    let f = dense_la::dense_exp(x.p.mu / (s as f64));
     let mut applied = 0u64;
     for i in 0..s {
-        applied = sweep(starts, cols, vals, vectors, work, l, b, tau, p, f, applied);
+        applied = sweep(starts, cols, vals, vectors, work, x, f, applied);
     }
     applied
 }

@@ -3,8 +3,7 @@ use mathlib.Core.Path.{_≡_, ap, _∙_}
 use mathlib.Core.List.{List}
 use Prim.Native.Nat.{ℕ}
 use lib.Ieee.{Float}
-use Rattle.general_operator.specs.Csr.{Csr}
-use Rattle.generator_action.specs.Mass.{Mass}
+use Rattle.generator_action.specs.Generator.{Generator}
 use Rattle.combination.specs.Call.{Call, ends}
 use Rattle.phi_action.specs.Calls.{phi-combination}
 use Rattle.phi_action.specs.declared.TaylorAnswer.{TaylorAnswer}
@@ -20,12 +19,12 @@ pub answered : {A B : Type 0} (f : A → B) (x : A) {r : B} {out₁ w₁ : List 
 unfolding answering
 answered f x {r} {out₁} {w₁} {c} er ec = (λ i. ends (er i) out₁ w₁) ∙ ap (answering f) ec
 
-module _ (a : Csr) (mass : Mass) (tau : Float) (count : ℕ) (w out w₀ : List Float) {s : PhiSolver} {r : PhiAnswer} {out₁ w₁ : List Float} where
-  pub by-taylor : {x : TaylorAnswer} → s ≡ Taylor → r ≡ of-taylor x → ends x out₁ w₁ ≡ phi-combination a mass tau count w out w₀ → ends r out₁ w₁ ≡ combine s a mass tau count w out w₀
+module _ (g : Generator) (tau : Float) (count : ℕ) (w out w₀ : List Float) {s : PhiSolver} {r : PhiAnswer} {out₁ w₁ : List Float} where
+  pub by-taylor : {x : TaylorAnswer} → s ≡ Taylor → r ≡ of-taylor x → ends x out₁ w₁ ≡ phi-combination g tau count w out w₀ → ends r out₁ w₁ ≡ combine s g tau count w out w₀
   unfolding combine
   by-taylor {x} es er ec = rw es (answered of-taylor x er ec)
 
-  pub by-krylov : {o : KrylovPhiOptions} {x : KrylovAnswer} → s ≡ Krylov o → r ≡ of-krylov x → ends x out₁ w₁ ≡ phi-combination-krylov a mass tau count w o out w₀
-      → ends r out₁ w₁ ≡ combine s a mass tau count w out w₀
+  pub by-krylov : {o : KrylovPhiOptions} {x : KrylovAnswer} → s ≡ Krylov o → r ≡ of-krylov x → ends x out₁ w₁ ≡ phi-combination-krylov g tau count w o out w₀
+      → ends r out₁ w₁ ≡ combine s g tau count w out w₀
   unfolding combine
   by-krylov {o} {x} es er ec = rw es (answered of-krylov x er ec)

@@ -70,8 +70,8 @@ pub record Within (n d m : ℕ) : Type 0 where
   pub before-small : (m + 3) * (n + d) ≤ 131000393
   pub small : (m + 2) * (m + 2) ≤ 16900
 
-pub within : (n d m : ℕ) → n ≤ 1000000 → d ≤ 3 → m ≤ 128 → Within n d m
-within n d m hn hd hm =
+pub within : {n d m : ℕ} → n ≤ 1000000 → d ≤ 3 → m ≤ 128 → Within n d m
+within hn hd hm =
     record {
       columns = product-within 129 1000003 (omega arith) (omega arith);
       small-at = product-within 130 1000003 (omega arith) (omega arith);

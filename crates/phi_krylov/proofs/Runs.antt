@@ -5,34 +5,32 @@ use mathlib.Core.List.{List}
 use Prim.Native.Nat.{ℕ, _+_, _*_, _≤_}
 use native.Mathlib.Omega.{arith}
 use native.Mathlib.Nat.{add-zero}
-use lib.ListN.{length, replicate}
+use lib.ListN.{length}
 use lib.Ieee.{Float}
 use Rattle.lists.specs.Window.{window, splice}
 use Rattle.lists.specs.Frame.{Kept}
 use Rattle.lists.proofs.Bounds.{column-within}
 use Rattle.lists.proofs.Window.{length-window, splice-whole, window-window}
 use Rattle.doubles.specs.F64.{+0}
-use Rattle.general_operator.specs.Csr.{Csr, csr, row-sum-norm}
-use Rattle.generator_action.specs.Mass.{Mass, given, quotients, stored}
-use Rattle.generator_action.specs.Known.{Accepted}
-use Rattle.phi_action_helpers.specs.declared.Coupling.{Coupling}
+use Rattle.general_operator.specs.Csr.{csr}
+use Rattle.generator_action.specs.Mass.{given, stored}
 use Rattle.phi_action_helpers.specs.declared.Layout.{Layout}
-use Rattle.phi_action_helpers.specs.Augmented.{augmented}
 use Rattle.phi_action_helpers.specs.Laid.{Lined, matrix-at, operator-at}
 use Rattle.combination.specs.Call.{ends, cleared}
-use Rattle.combination.specs.Checks.{quotient-need}
-use Rattle.combination.proofs.Stored.{Last}
+use Rattle.combination.specs.Inner.{matrix-of}
+use Rattle.combination.proofs.Stored.{Held}
 use Rattle.combination.proofs.Stored as job
-use Rattle.phi_action.specs.Memory.{Coupled}
 use Rattle.arnoldi.specs.declared.Krylov.{Krylov}
 use Rattle.arnoldi.specs.Memory.{Room}
-use Rattle.phi_krylov_arnoldi.specs.Run.{expv}
+use Rattle.phi_krylov_arnoldi.specs.Run.{End, expv}
 use Rattle.phi_krylov_arnoldi.specs.Memory.{end-at}
 use Rattle.phi_krylov_arnoldi.specs.declared.RunAnswer.{RunAnswer}
 use Rattle.phi_krylov_arnoldi.specs.declared.RunAnswer.the-variants.{Finished, Refused}
 use Rattle.phi_krylov.specs.KrylovCall.{krylov-need, after-run}
-use Rattle.phi_krylov.specs.Memory.{layout, answer-of, Allowed}
+use Rattle.phi_krylov.specs.Memory.{layout}
+use Rattle.phi_krylov.specs.Inner.{answer-of, Allowed, run-of}
 use Rattle.phi_krylov.specs.declared.KrylovAnswer.{KrylovAnswer}
+use Rattle.phi_krylov.specs.declared.RunJob.{RunJob}
 
 lined : (n d m : ℕ) (b : Bool) → Lined (layout n d m b)
 lined n d m b =
@@ -40,9 +38,9 @@ lined n d m b =
     let j = column-within (m + 1) (m + 3) (n + d) (omega arith) in
     record { field-first = omega (arith, i); then-term = omega (arith, j); then-product = omega arith }
 
-before-quotients : (a : Csr) (mass : Mass) (d m : ℕ) → (m + 3) * (a .n + d) + (m + 2) * (m + 2) + a .n + quotient-need a mass ≡ krylov-need a mass d m
+behind : (n d m stored : ℕ) → (m + 3) * (n + d) + (m + 2) * (m + 2) + n + stored ≡ krylov-need n d m stored
 unfolding krylov-need
-before-quotients a mass d m = omega arith
+behind n d m stored = omega arith
 
 -- the field where the run left it
 after-is : (n need : ℕ) (w₀ : List Float) (l : Layout) (k : Krylov) (r : RunAnswer) (w₂ : List Float)
@@ -52,71 +50,70 @@ after-is n need w₀ l k (Finished c r) w₂ = refl
 after-is n need w₀ l k (Refused number x c r) w₂ = refl
 
 module _
-    (n d : ℕ)
-    (starts cols : List ℕ)
-    (vals : List Float)
-    (b : Bool)
-    (mass vectors : List Float)
-    (c : Coupling)
-    (k : Krylov)
-    (limit need : ℕ)
-    (out w₀ : List Float)
-    (acc : Accepted (csr n starts cols vals) (given b mass) (row-sum-norm (quotients (csr n starts cols vals) (given b mass))))
-    (cp : Coupled c n d (length vectors))
-    (al : Allowed (csr n starts cols vals) (given b mass) d k limit need (length out) (length w₀))
+    {starts cols : List ℕ}
+    {vals mass : List Float}
+    {j : RunJob}
+    (vectors w₀ : List Float)
+    (al : Allowed starts cols vals mass j (length vectors) (length w₀))
     {l : Layout}
-    (el : l ≡ layout n d (k .m) b) where
-  abbrev a : Csr
-  a = csr n starts cols vals
+    (el : l ≡ layout (j .g .n) (j .d) (j .k .m) (j .g .«with_mass»)) where
+  held : Held starts cols vals mass (j .g) (j .d) (j .need) l w₀
+  held =
+      rw el
+      (record {
+        passed = al .passed;
+        enough = al .enough;
+        rows = refl;
+        chain = refl;
+        given-mass = refl;
+        behind = behind (j .g .n) (j .d) (j .k .m) (j .g .stored) ∙ sym (al .needed);
+      })
 
-  abbrev norm : Float
-  norm = row-sum-norm (quotients a (given b mass))
+  pub store-fits : j .g .«with_mass» ≡ true → l .q + length vals ≤ length w₀
+  store-fits = job.store-fits held
 
-  last : Last l a d b mass need
-  last = rw el (record { rows = refl; chain = refl; given-mass = refl; behind = before-quotients a (given b mass) d (k .m) ∙ sym (al .needed) })
-
-  pub store-fits : b ≡ true → l .q + length vals ≤ length w₀
-  store-fits = job.store-fits n d starts cols vals b mass norm need w₀ acc (al .enough) last
-
-  module _ {w₁ : List Float} (e₁ : w₁ ≡ splice (l .q) (stored a (given b mass)) w₀) where
-    long₁ : length w₁ ≡ length w₀
-    long₁ = job.long₁ n d starts cols vals b mass norm need w₀ acc (al .enough) last e₁
-
-    pub room : Room l c k (matrix-at l starts cols vals w₁) (length vals) (length vectors) (length w₁)
+  module _ {w₁ : List Float} (e₁ : w₁ ≡ splice (l .q) (stored (csr (j .g .n) starts cols vals) (given (j .g .«with_mass») mass)) w₀) where
+    pub room : Room l (j .b) (j .k) (matrix-at l starts cols vals w₁) (length vals) (length vectors) (length w₁)
     room =
         let h-is = ap (λ (x : Krylov). x .h) (al .placed) in
         let y-is = ap (λ (x : Krylov). x .y) (al .placed) in
-        let i = column-within (k .m) (k .m + 1) (n + d) (omega arith) in
-        let j = column-within (k .m + 1) (k .m + 2) (n + d) (omega arith) in
-        let o = column-within (k .m + 2) (k .m + 3) (n + d) (omega arith) in
+        let n = j .g .n + j .d in
+        let i = column-within (j .k .m) (j .k .m + 1) n (omega arith) in
+        let t = column-within (j .k .m + 1) (j .k .m + 2) n (omega arith) in
+        let o = column-within (j .k .m + 2) (j .k .m + 3) n (omega arith) in
         record {
-          laid = job.ready n d starts cols vals b mass norm need w₀ acc (al .enough) last e₁ c vectors (rw el (lined n d (k .m) b)) (cp .few) (cp .chained) (cp .columns);
+          laid = job.ready held e₁ vectors (al .coupled) (rw el (lined (j .g .n) (j .d) (j .k .m) (j .g .«with_mass»)));
           small = omega (arith, al .small);
           columns = rw el (omega (arith, i));
-          then-h = rw el (omega (arith, j, h-is));
+          then-h = rw el (omega (arith, t, h-is));
           then-y = omega (arith, h-is, y-is);
           then-av = rw el (omega (arith, o, y-is));
           then-q = rw el (omega arith);
         }
 
-    -- the field lies within the memory
-    pub field-in : k .y + (l .n + l .d) ≤ length w₁
-    field-in = omega (arith, room .then-av, room .then-q, last .behind, al .enough, long₁)
+    module _ {w₂ : List Float} (kept : Kept 0 (l .q) +0 w₁ w₂) where
+      pub run-is : (r : RunAnswer) → end-at l (j .k) r w₂ ≡ expv (operator-at l (j .b) starts cols vals vectors w₁) (j .k .tau) (j .k .anorm) (j .k .tol) (j .k .m) (j .limit) (window (j .k .y) (l .n + l .d) w₁)
+          → end-at (layout (j .g .n) (j .d) (j .k .m) (j .g .«with_mass»)) (j .k) r w₂ ≡ run-of j (matrix-of (j .g) starts cols vals mass) vectors (window (j .k .y) (j .g .n + j .d) w₀)
+      run-is r e =
+          let y-is : window (j .k .y) (l .n + l .d) w₁ ≡ window (j .k .y) (j .g .n + j .d) w₀ = job.front-is held e₁ (j .k .y) (l .n + l .d) (omega (arith, room .then-av, room .then-q)) ∙ rw (held .rows, held .chain) refl in
+          ap (λ (x : Layout). end-at x (j .k) r w₂) (sym el) ∙ rw (job.operator-is held e₁ vectors (al .coupled), y-is) at e
 
-    pub done : (r : RunAnswer) {x : KrylovAnswer} {out₁ w₂ w₃ : List Float}
-        → x ≡ answer-of r
-        → end-at l k r w₂ ≡ expv (operator-at l c starts cols vals vectors w₁) (k .tau) (k .anorm) (k .tol) (k .m) limit (window (k .y) (l .n + l .d) w₁)
-        → out₁ ≡ splice 0 (window (k .y) n w₂) out
-        → Kept 0 (l .q) +0 w₁ w₂
-        → w₃ ≡ splice 0 (replicate need +0) w₂
-        → ends x out₁ w₃
-        ≡ after-run n need w₀ (expv (augmented (quotients a (given b mass)) d vectors (c .places) (c .gains) (c .count)) (k .tau) (k .anorm) (k .tol) (k .m) limit (window (k .y) (n + d) w₀))
-    done r {x} {out₁} {w₂} {w₃} ex e eo kept e₃ =
-        let rows : l .n ≡ n = last .rows in
-        let chain : l .d ≡ d = last .chain in
-        let y-is : window (k .y) (l .n + l .d) w₁ ≡ window (k .y) (n + d) w₀ = job.front-is n d starts cols vals b mass norm need w₀ acc (al .enough) last e₁ (k .y) (l .n + l .d) (omega (arith, room .then-av, room .then-q)) ∙ rw (rows, chain) refl in
-        let e′ = rw (job.operator-is n d starts cols vals b mass norm need w₀ acc (al .enough) last e₁ c vectors, y-is) at e in
-        let l₂ = length-window (k .y) n w₂ (omega (arith, field-in, rows, kept .long)) in
-        let eo′ = eo ∙ splice-whole _ out (l₂ ∙ sym (al .whole)) ∙ sym (rw (add-zero (k .y)) at (window-window (k .y) (l .n + l .d) 0 n w₂ (omega (arith, rows)))) in
-        let e₃′ = job.cleared-is n d starts cols vals b mass norm need w₀ acc (al .enough) last e₁ kept e₃ in
-        (λ i. ends (ex i) (eo′ i) (e₃′ i)) ∙ after-is n need w₀ l k r w₂ ∙ ap (after-run n need w₀) e′
+      pub spared : cleared (j .need) w₂ ≡ cleared (j .need) w₀
+      spared = job.cleared-is held e₁ kept refl
+
+-- ---- what is handed out
+pub done : (j : RunJob) (b : Bool) (w₀ out w₂ : List Float) {e : End} (r : RunAnswer) {x : KrylovAnswer} {out₁ w₃ : List Float}
+    → end-at (layout (j .g .n) (j .d) (j .k .m) b) (j .k) r w₂ ≡ e
+    → cleared (j .need) w₂ ≡ cleared (j .need) w₀
+    → out₁ ≡ splice 0 (window (j .k .y) (j .g .n) w₂) out
+    → w₃ ≡ cleared (j .need) w₂
+    → x ≡ answer-of r
+    → length out ≡ j .g .n
+    → j .k .y + j .g .n ≤ length w₂
+    → ends x out₁ w₃ ≡ after-run (j .g .n) (j .need) w₀ e
+done j b w₀ out w₂ r {x} {out₁} {w₃} e c eo e₃ ex lo fits =
+    let y = j .k .y in
+    let n = j .g .n in
+    let eo′ = eo ∙ splice-whole _ out (length-window y n w₂ fits ∙ sym lo) ∙ sym (rw (add-zero y) at (window-window y (n + j .d) 0 n w₂ (omega arith))) in
+    let e₃′ = e₃ ∙ c in
+    (λ i. ends (ex i) (eo′ i) (e₃′ i)) ∙ after-is n (j .need) w₀ (layout n (j .d) (j .k .m) b) (j .k) r w₂ ∙ ap (after-run n (j .need) w₀) e

@@ -2,8 +2,7 @@
 use mathlib.Core.List.{List}
 use Prim.Native.Nat.{ℕ}
 use lib.Ieee.{Float}
-use Rattle.general_operator.specs.Csr.{Csr}
-use Rattle.generator_action.specs.Mass.{Mass}
+use Rattle.generator_action.specs.Generator.{Generator}
 use Rattle.combination.specs.Call.{Call, ends}
 use Rattle.phi_action.specs.Calls.{phi-combination}
 use Rattle.phi_action.specs.declared.TaylorAnswer.{TaylorAnswer}
@@ -28,6 +27,6 @@ of-krylov (krylov.Soaked r) = Krylov r
 unfoldable pub answering : {A B : Type 0} → (A → B) → Call A → Call B
 answering f c = ends (f (c .answer)) (c .output) (c .memory)
 
-unfoldable pub combine : PhiSolver → Csr → Mass → Float → ℕ → List Float → List Float → List Float → Call PhiAnswer
-combine solver.Taylor a mass tau count w output memory = answering of-taylor (phi-combination a mass tau count w output memory)
-combine (solver.Krylov o) a mass tau count w output memory = answering of-krylov (phi-combination-krylov a mass tau count w o output memory)
+unfoldable pub combine : PhiSolver → Generator → Float → ℕ → List Float → List Float → List Float → Call PhiAnswer
+combine solver.Taylor g tau count w output memory = answering of-taylor (phi-combination g tau count w output memory)
+combine (solver.Krylov o) g tau count w output memory = answering of-krylov (phi-combination-krylov g tau count w o output memory)

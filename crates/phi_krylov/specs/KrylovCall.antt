@@ -1,6 +1,6 @@
 -- A whole call of `phi_combination_krylov` (phi_krylov.rs): the checks in number order, the answer, and what the output and the working memory
 -- hold at the end. Definitions only.
-use mathlib.Core.Bool.{Bool, true, false, not, _&&_, _||_}
+use mathlib.Core.Bool.{not, _&&_, _||_}
 use mathlib.Core.List.{List, [], _∷_, _++_}
 use Prim.Native.Nat.{ℕ, _+_, _-_, _*_}
 use lib.Dec.{ltb, eqb}
@@ -9,13 +9,13 @@ use lib.Ieee.{Float, nan}
 use Rattle.lists.specs.Window.{window}
 use Rattle.doubles.specs.F64.{_⊕_, _⊗_, _⋖_, +0, 1f, 2f, is-finite}
 use Rattle.checks.specs.First.{Check, refuse, first}
-use Rattle.general_operator.specs.Csr.{Csr, row-sum-norm}
-use Rattle.generator_action.specs.Mass.{Mass, quotients, generator-checks}
+use Rattle.general_operator.specs.Csr.{row-sum-norm}
+use Rattle.generator_action.specs.Mass.{open-Mass}
+use Rattle.generator_action.specs.Generator.{Generator}
 use Rattle.combination.specs.Combination.{eta-of, combination-operator, combination-start}
-use Rattle.combination.specs.Call.{Call, ends, unless-refused, cleared}
-use Rattle.combination.specs.Checks.{vector-checks, magnitude-checks, memory-checks, quotient-need}
-use Rattle.phi_action.specs.Calls.{open-Calls}
-use Rattle.phi_krylov_arnoldi.specs.Run.{State, End, finished, refused, clamp-m, expv, open-Run}
+use Rattle.combination.specs.Call.{Call, ends, unless-refused, cleared, open-Call}
+use Rattle.combination.specs.Checks.{vector-checks, magnitude-checks, memory-checks, open-Checks}
+use Rattle.phi_krylov_arnoldi.specs.Run.{End, finished, refused, clamp-m, expv, open-Run}
 use Rattle.phi_krylov.specs.declared.KrylovPhiOptions.{KrylovPhiOptions}
 use Rattle.phi_krylov.specs.declared.KrylovAnswer.{KrylovAnswer}
 use Rattle.phi_krylov.specs.declared.KrylovAnswer.the-variants.{Refusal, Soaked}
@@ -39,38 +39,39 @@ option-checks o M =
 unfoldable pub bound-checks : Float → List Check
 bound-checks anorm = refuse 24 (not (is-finite anorm)) anorm ∷ []
 
--- 21 to 26
+-- 21, 22, 24 and 26
 unfoldable pub run-checks : ℕ → Float → ℕ → List Float → Float → ℕ → ℕ → List Check
 run-checks n tau d w anorm memory need = magnitude-checks n w tau d ++ (bound-checks anorm ++ memory-checks memory need)
 
--- n + (M + 3)(n + d) + (M + 2) squared, and the entries with a mass
-unfoldable pub krylov-need : Csr → Mass → ℕ → ℕ → ℕ
-krylov-need a mass d M = a .n + (M + 3) * (a .n + d) + (M + 2) * (M + 2) + quotient-need a mass
+-- n + (M + 3)(n + d) + (M + 2) squared, and what the generator stores
+unfoldable pub krylov-need : ℕ → ℕ → ℕ → ℕ → ℕ
+krylov-need n d M stored = n + (M + 3) * (n + d) + (M + 2) * (M + 2) + stored
 
-unfoldable pub krylov-checks : Csr → Mass → Float → ℕ → List Float → KrylovPhiOptions → ℕ → ℕ → List Check
-krylov-checks a mass tau count w o output memory =
+unfoldable pub krylov-checks : Generator → Float → ℕ → List Float → KrylovPhiOptions → ℕ → ℕ → List Check
+krylov-checks g tau count w o output memory =
+    let n = g .matrix .n in
     let d = count - 1 in
-    let M = dimension (a .n) d (o .m) in
-    generator-checks a mass
-    ++ (vector-checks (a .n) tau count w output
+    let M = dimension n d (o .m) in
+    g .checks
+    ++ (vector-checks n tau count w output
     ++ (option-checks o M
-    ++ run-checks (a .n) tau d w (bound tau (row-sum-norm (quotients a mass))) memory (krylov-need a mass d M)))
+    ++ run-checks n tau d w (bound tau (row-sum-norm (g .matrix))) memory (krylov-need n d M (g .stored))))
 
 -- a run leaves its field, the last accepted one where it was refused, and clears what it needed
 unfoldable pub after-run : ℕ → ℕ → List Float → End → Call KrylovAnswer
 after-run n need memory (finished s) = ends (Soaked (s .report)) (window 0 n (s .y)) (cleared need memory)
 after-run n need memory (refused k x s) = ends (Refusal k x) (window 0 n (s .y)) (cleared need memory)
 
-unfoldable pub phi-combination-krylov : Csr → Mass → Float → ℕ → List Float → KrylovPhiOptions → List Float → List Float → Call KrylovAnswer
-phi-combination-krylov a mass tau count w o output memory =
+unfoldable pub phi-combination-krylov : Generator → Float → ℕ → List Float → KrylovPhiOptions → List Float → List Float → Call KrylovAnswer
+phi-combination-krylov g tau count w o output memory =
     let d = count - 1 in
-    let q = quotients a mass in
-    let eta = eta-of (a .n) w tau d in
-    unless-refused Refusal (first (krylov-checks a mass tau count w o (length output) (length memory))) output memory
-    (after-run (a .n) (krylov-need a mass d (dimension (a .n) d (o .m))) memory
-    (expv (combination-operator q w tau d (eta .eta)) tau (bound tau (row-sum-norm q)) (o .tol) (o .m) (o .«max_substeps») (combination-start (a .n) w d (eta .inv))))
+    let q = g .matrix in
+    let eta = eta-of (q .n) w tau d in
+    unless-refused Refusal (first (krylov-checks g tau count w o (length output) (length memory))) output memory
+    (after-run (q .n) (krylov-need (q .n) d (dimension (q .n) d (o .m)) (g .stored)) memory
+    (expv (combination-operator q w tau d (eta .eta)) tau (bound tau (row-sum-norm q)) (o .tol) (o .m) (o .«max_substeps») (combination-start (q .n) w d (eta .inv))))
 
 -- to compute: a line `unfolding open-KrylovCall` opens every definition of this file and of those below it
 unfoldable pub open-KrylovCall : Unit {0}
-unfolding bound dimension option-checks bound-checks run-checks krylov-need krylov-checks after-run phi-combination-krylov open-Run open-Calls
+unfolding bound dimension option-checks bound-checks run-checks krylov-need krylov-checks after-run phi-combination-krylov open-Run open-Mass open-Checks open-Call
 open-KrylovCall = tt

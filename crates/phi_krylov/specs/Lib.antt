@@ -1,4 +1,4 @@
 pub mod KrylovCall
 pub mod Memory
+pub mod Inner
 pub mod Combine
-pub mod Demand3

@@ -2,6 +2,7 @@
 use arnoldi::Krylov;
 use checks::Checked;
 use generator_action::MatrixAnswer;
+use generator_action::Shape;
 use phi_action::TaylorAnswer;
 use phi_action::TaylorReport;
 use phi_action_helpers::Coupling;
@@ -10,25 +11,28 @@ use phi_krylov_arnoldi::KrylovPhiReport;
 use phi_krylov_arnoldi::RunAnswer;
 ghost use mathlib.Core.Path.{_≡_};
 ghost use mathlib.Core.Bool.{_&&_, _||_};
-ghost use mathlib.Core.List.{List};
-ghost use Prim.Native.Nat.{ℕ, _+_, _*_, _≤_};
+ghost use mathlib.Core.List.{List, _++_};
+ghost use Prim.Native.Nat.{_+_, _*_, _≤_};
 ghost use lib.Dec.{ltb};
 ghost use lib.ListN.{length};
-ghost use lib.Ieee.{Float};
 ghost use Rattle.lists.specs.Window.{window, splice};
 ghost use Rattle.doubles.specs.F64.{_⋖_, +0, 1f};
-ghost use Rattle.checks.specs.First.{first};
-ghost use Rattle.general_operator.specs.Csr.{csr, row-sum-norm};
-ghost use Rattle.generator_action.specs.Mass.{given, quotients};
-ghost use Rattle.generator_action.specs.Known.{Accepted};
-ghost use Rattle.phi_action_helpers.specs.Augmented.{augmented};
-ghost use Rattle.combination.specs.Combination.{eta-of, combination-operator, combination-start};
-ghost use Rattle.combination.specs.Call.{ends};
-ghost use Rattle.phi_action.specs.Memory.{Coupled};
-ghost use Rattle.phi_krylov_arnoldi.specs.Run.{clamp-m, expv};
-ghost use Rattle.phi_krylov.specs.KrylovCall.{bound, option-checks, bound-checks, run-checks, krylov-need, after-run, phi-combination-krylov};
+ghost use Rattle.checks.specs.First.{Check, first};
+ghost use Rattle.checks.specs.declared.Checked.the-variants.{Sound};
+ghost use Rattle.general_operator.specs.Csr.{csr};
+ghost use Rattle.generator_action.specs.Mass.{given};
+ghost use Rattle.generator_action.specs.Generator.{forward};
+ghost use Rattle.generator_action.specs.Known.{Passed};
+ghost use Rattle.combination.specs.Combination.{combination-start};
+ghost use Rattle.combination.specs.Call.{ends, cleared};
+ghost use Rattle.combination.specs.Checks.{memory-checks};
+ghost use Rattle.combination.specs.Inner.{matrix-of, after-checks};
+ghost use Rattle.phi_krylov_arnoldi.specs.Run.{clamp-m};
+ghost use Rattle.phi_krylov_arnoldi.specs.Memory.{end-at};
+ghost use Rattle.phi_krylov.specs.KrylovCall.{bound, option-checks, bound-checks, krylov-need, after-run, phi-combination-krylov};
 ghost use Rattle.phi_krylov.specs.Combine.{of-taylor, of-krylov, combine};
-ghost use Rattle.phi_krylov.specs.Memory.{layout, krylov, answer-of, Allowed};
+ghost use Rattle.phi_krylov.specs.Memory.{layout, krylov};
+ghost use Rattle.phi_krylov.specs.Inner.{answer-of, run-job, Allowed, run-of};
 
 // The accuracy wanted relative to the start's norm, the Krylov dimension, and the limit of substeps.
 pub struct KrylovPhiOptions {
@@ -117,40 +121,20 @@ fn check_bound(anorm: f64) -> Checked
     Checked::Sound
 }
 
-// 21 to 26.
-fn check_run(
-    n: usize,
-    tau: f64,
-    d: usize,
-    w: &[f64],
-    anorm: f64,
-    memory: usize,
-    need: usize,
-) -> Checked
-    requires { ⌜ (d + 1) * n ≤ length (now w) ⌝ }
-    ensures { λ r. ⌜ r ≡ first (run-checks n tau d (now (w .entry)) anorm memory need) ⌝ }
+// 21, 22, 24 and 26, with the answer of 21 and 22.
+fn check_run(weighed: Checked, anorm: f64, memory: usize, need: usize) -> Checked
+    ensures { λ r. ⌜ ((xs : List Check) → weighed ≡ first xs → r ≡ first (xs ++ (bound-checks anorm ++ memory-checks memory need))) ⌝ }
 {
-    let weights = combination::check_magnitude(n, w, tau, d);
-    let Checked::Sound = weights else {
-        return weights;
-    };
-    let operator = check_bound(anorm);
-    let Checked::Sound = operator else {
-        return operator;
-    };
-    combination::check_memory(memory, need)
+    let host = combination::and_then(check_bound(anorm), combination::check_memory(memory, need));
+    combination::and_then(weighed, host)
 }
 
-// What a job needs of the lent memory.
-fn krylov_need(n: usize, d: usize, m: usize, with_mass: bool, entries: usize) -> usize
-    requires { ⌜ (n ≤ 1000000) × (d ≤ 3) × (m ≤ 128) × (entries ≤ 16777216) ⌝ }
-    ensures { λ r. ⌜ ((starts cols : List ℕ) (vals mass : List Float) → length vals ≡ entries → r ≡ krylov-need (csr n starts cols vals) (given «with_mass» mass) d m) ⌝ }
+// What a run needs of the lent memory.
+fn krylov_need(n: usize, d: usize, m: usize, stored: usize) -> usize
+    requires { ⌜ (n ≤ 1000000) × (d ≤ 3) × (m ≤ 128) × (stored ≤ 16777216) ⌝ }
+    ensures { λ r. ⌜ r ≡ krylov-need n d m stored ⌝ }
 {
-    let run = n + (m + 3) * (n + d) + (m + 2) * (m + 2);
-    if with_mass {
-        return run + entries;
-    }
-    run
+    n + (m + 3) * (n + d) + (m + 2) * (m + 2) + stored
 }
 
 fn layout(n: usize, d: usize, m: usize, mass: bool) -> Layout
@@ -183,13 +167,55 @@ fn krylov(n: usize, d: usize, m: usize, tau: f64, anorm: f64, tol: f64) -> Krylo
     }
 }
 
+// A run as its checks leave it: what they found, with the numbers of its generator.
+struct RunJob {
+    checked: Checked,
+    g: Shape,
+    d: usize,
+    need: usize,
+    inv: f64,
+    b: Coupling,
+    k: Krylov,
+    limit: usize,
+}
+
+// 21, 22, 24 and 26.
+fn admit_run(
+    g: Shape,
+    tau: f64,
+    d: usize,
+    w: &[f64],
+    o: KrylovPhiOptions,
+    m: usize,
+    memory: usize,
+) -> RunJob
+    requires { ⌜ ((d + 1) * g .n ≤ length (now w)) × (g .n ≤ 1000000) × (d ≤ 3) × (m ≤ 128) × (g .stored ≤ 16777216) ⌝ }
+    ensures { λ r. ⌜ r ≡ run-job g tau d (now (w .entry)) o m memory ⌝ }
+{
+    let weights = combination::weigh(g.n, w, tau, d);
+    let weighed = weights.checked;
+    let b = weights.b;
+    let anorm = bound(tau, g.norm);
+    let need = krylov_need(g.n, d, m, g.stored);
+    RunJob {
+        checked: check_run(weighed, anorm, memory, need),
+        g: g,
+        d: d,
+        need: need,
+        inv: weights.inv,
+        b: b,
+        k: krylov(g.n, d, m, tau, anorm, o.tol),
+        limit: o.max_substeps,
+    }
+}
+
 // The first field from place `at` of the lent memory on.
 fn start_in(n: usize, w: &[f64], d: usize, inv: f64, work: &mut [f64], at: usize)
     requires { ⌜ (n ≤ length (now w)) × (at + (n + d) ≤ length (now work)) ⌝ }
     ensures { λ _. ⌜ now (work .exit) ≡ splice at (combination-start n (now (w .entry)) d inv) (now (work .entry)) ⌝ }
 {
     let to = at + (n + d);
-    phi_action::combination_start(n, w, d, inv, &mut work[at..to]);
+    combination::combination_start(n, w, d, inv, &mut work[at..to]);
 }
 
 fn answer_of(end: RunAnswer) -> KrylovAnswer
@@ -201,135 +227,89 @@ fn answer_of(end: RunAnswer) -> KrylovAnswer
     }
 }
 
-// A run whose first field stands at k.y: quotients, substeps, and the field's n values; what was needed is cleared.
-fn soak(
-    n: usize,
+// The field's n values; what was needed is cleared.
+fn hand_out(out: &mut [f64], work: &mut [f64], y: usize, n: usize, need: usize)
+    requires { ⌜ (n ≤ length (now out)) × (y + n ≤ length (now work)) × (need ≤ length (now work)) ⌝ }
+    ensures { λ _. ⌜ now (out .exit) ≡ splice 0 (window y n (now (work .entry))) (now (out .entry)) ⌝ }
+    ensures { λ _. ⌜ now (work .exit) ≡ cleared need (now (work .entry)) ⌝ }
+{
+    vectors::copy_from(out, 0, work, y, n);
+    vectors::clear_in(work, 0, need);
+}
+
+// The substeps of a run whose first field stands at k.y, over the quotients where there is a mass.
+fn run_expv(
     starts: &[u32],
     cols: &[u32],
     vals: &[f64],
-    with_mass: bool,
+    mass: &[f64],
+    vectors: &[f64],
+    work: &mut [f64],
+    j: RunJob,
+) -> RunAnswer
+    requires { ⌜ Allowed (now starts) (now cols) (now vals) (now mass) j (length (now vectors)) (length (now work)) ⌝ }
+    ensures { λ r. ⌜ end-at (layout (j .g .n) (j .d) (j .k .m) (j .g .«with_mass»)) (j .k) r (now (work .exit)) ≡ run-of j (matrix-of (j .g) (now (starts .entry)) (now (cols .entry)) (now (vals .entry)) (now (mass .entry))) (now (vectors .entry)) (window (j .k .y) (j .g .n + j .d) (now (work .entry))) ⌝ }
+    ensures { λ _. ⌜ cleared (j .need) (now (work .exit)) ≡ cleared (j .need) (now (work .entry)) ⌝ }
+{
+    let l = layout(j.g.n, j.d, j.k.m, j.g.with_mass);
+    generator_action::store_quotients(j.g.n, starts, cols, vals, j.g.with_mass, mass, work, l.q);
+    phi_krylov_arnoldi::expv(starts, cols, vals, vectors, work, l, j.b, j.k, j.limit)
+}
+
+// A run whose first field stands at k.y, and what it hands out.
+fn run_job(
+    starts: &[u32],
+    cols: &[u32],
+    vals: &[f64],
     mass: &[f64],
     vectors: &[f64],
     out: &mut [f64],
     work: &mut [f64],
-    d: usize,
-    b: Coupling,
-    k: Krylov,
-    limit: usize,
-    need: usize,
+    j: RunJob,
 ) -> KrylovAnswer
-    requires { ⌜ Accepted (csr n (now starts) (now cols) (now vals)) (given «with_mass» (now mass)) (row-sum-norm (quotients (csr n (now starts) (now cols) (now vals)) (given «with_mass» (now mass)))) ⌝ }
-    requires { ⌜ Coupled b n d (length (now vectors)) ⌝ }
-    requires { ⌜ Allowed (csr n (now starts) (now cols) (now vals)) (given «with_mass» (now mass)) d k limit need (length (now out)) (length (now work)) ⌝ }
-    ensures { λ r. ⌜ ends r (now (out .exit)) (now (work .exit)) ≡ after-run n need (now (work .entry)) (expv (augmented (quotients (csr n (now (starts .entry)) (now (cols .entry)) (now (vals .entry))) (given «with_mass» (now (mass .entry)))) d (now (vectors .entry)) (b .places) (b .gains) (b .count)) (k .tau) (k .anorm) (k .tol) (k .m) limit (window (k .y) (n + d) (now (work .entry)))) ⌝ }
+    requires { ⌜ Allowed (now starts) (now cols) (now vals) (now mass) j (length (now vectors)) (length (now work)) ⌝ }
+    requires { ⌜ length (now out) ≡ j .g .n ⌝ }
+    ensures { λ r. ⌜ ends r (now (out .exit)) (now (work .exit)) ≡ after-run (j .g .n) (j .need) (now (work .entry)) (run-of j (matrix-of (j .g) (now (starts .entry)) (now (cols .entry)) (now (vals .entry)) (now (mass .entry))) (now (vectors .entry)) (window (j .k .y) (j .g .n + j .d) (now (work .entry)))) ⌝ }
 {
-    let l = layout(n, d, k.m, with_mass);
-    let q = l.q;
-    let y = k.y;
-    generator_action::store_quotients(n, starts, cols, vals, with_mass, mass, work, q);
-    let end = phi_krylov_arnoldi::expv(starts, cols, vals, vectors, work, l, b, k, limit);
-    vectors::copy_from(out, 0, work, y, n);
-    vectors::clear_in(work, 0, need);
+    let end = run_expv(starts, cols, vals, mass, vectors, work, j);
+    hand_out(out, work, j.k.y, j.g.n, j.need);
     answer_of(end)
 }
 
-// The combination of a job that passed all checks.
-fn admitted(
-    n: usize,
-    starts: &[u32],
-    cols: &[u32],
-    vals: &[f64],
-    with_mass: bool,
-    mass: &[f64],
-    w: &[f64],
-    out: &mut [f64],
-    work: &mut [f64],
-    d: usize,
-    k: Krylov,
-    limit: usize,
-    need: usize,
-) -> KrylovAnswer
-    requires { ⌜ Accepted (csr n (now starts) (now cols) (now vals)) (given «with_mass» (now mass)) (row-sum-norm (quotients (csr n (now starts) (now cols) (now vals)) (given «with_mass» (now mass)))) ⌝ }
-    requires { ⌜ (n ≤ length (now w)) × ((d + 1) * n ≤ length (now w)) × (d ≤ 3) ⌝ }
-    requires { ⌜ Allowed (csr n (now starts) (now cols) (now vals)) (given «with_mass» (now mass)) d k limit need (length (now out)) (length (now work)) ⌝ }
-    ensures { λ r. ⌜ ends r (now (out .exit)) (now (work .exit)) ≡ after-run n need (now (work .entry)) (expv (combination-operator (quotients (csr n (now (starts .entry)) (now (cols .entry)) (now (vals .entry))) (given «with_mass» (now (mass .entry)))) (now (w .entry)) (k .tau) d (eta-of n (now (w .entry)) (k .tau) d .eta)) (k .tau) (k .anorm) (k .tol) (k .m) limit (combination-start n (now (w .entry)) d (eta-of n (now (w .entry)) (k .tau) d .inv))) ⌝ }
-{
-    let eta = pow2::eta_scaling(combination::magnitude(n, w, k.tau, d));
-    let b = Coupling {
-        places: combination::column_places(n, d),
-        gains: combination::scaled_gains(n, w, k.tau, d, eta.eta),
-        count: d,
-    };
-    start_in(n, w, d, eta.inv, work, k.y);
-    soak(
-        n,
-        starts,
-        cols,
-        vals,
-        with_mass,
-        mass,
-        w,
-        out,
-        work,
-        d,
-        b,
-        k,
-        limit,
-        need,
-    )
-}
-
-// The combination of a matrix that passed 1 to 11.
+// The combination over a generator that passed its checks.
 fn combined(
-    n: usize,
     starts: &[u32],
     cols: &[u32],
     vals: &[f64],
-    with_mass: bool,
     mass: &[f64],
+    g: Shape,
     tau: f64,
     count: usize,
     w: &[f64],
     o: KrylovPhiOptions,
     out: &mut [f64],
     work: &mut [f64],
-    norm: f64,
 ) -> KrylovAnswer
-    requires { ⌜ Accepted (csr n (now starts) (now cols) (now vals)) (given «with_mass» (now mass)) norm ⌝ }
-    ensures { λ r. ⌜ ends r (now (out .exit)) (now (work .exit)) ≡ phi-combination-krylov (csr n (now (starts .entry)) (now (cols .entry)) (now (vals .entry))) (given «with_mass» (now (mass .entry))) tau count (now (w .entry)) o (now (out .entry)) (now (work .entry)) ⌝ }
+    requires { ⌜ Passed (csr (g .n) (now starts) (now cols) (now vals)) (given (g .«with_mass») (now mass)) g ⌝ }
+    ensures { λ r. ⌜ ((gs : List Check) → Sound ≡ first gs → ends r (now (out .exit)) (now (work .exit)) ≡ phi-combination-krylov (after-checks gs (csr (g .n) (now (starts .entry)) (now (cols .entry)) (now (vals .entry))) (given (g .«with_mass») (now (mass .entry))) g) tau count (now (w .entry)) o (now (out .entry)) (now (work .entry))) ⌝ }
 {
-    let vectors = combination::validate_combination(n, tau, count, w, out.len());
-    if let Checked::Refused(k, x) = vectors {
-        return KrylovAnswer::Refusal(k, x);
-    }
+    let vectors = combination::validate_combination(g.n, tau, count, w, out.len());
+    let Checked::Sound = vectors else {
+        return KrylovAnswer::Refusal(checks::number(vectors), checks::reported(vectors));
+    };
     let d = count - 1;
-    let m = clamp_m(o.m, n + d);
+    let m = clamp_m(o.m, g.n + d);
     let options = check_options(o, m);
-    if let Checked::Refused(k, x) = options {
-        return KrylovAnswer::Refusal(k, x);
-    }
-    let need = krylov_need(n, d, m, with_mass, vals.len());
-    let anorm = bound(tau, norm);
-    let run = check_run(n, tau, d, w, anorm, work.len(), need);
-    if let Checked::Refused(k, x) = run {
-        return KrylovAnswer::Refusal(k, x);
-    }
-    let k = krylov(n, d, m, tau, anorm, o.tol);
-    admitted(
-        n,
-        starts,
-        cols,
-        vals,
-        with_mass,
-        mass,
-        w,
-        out,
-        work,
-        d,
-        k,
-        o.max_substeps,
-        need,
-    )
+    let Checked::Sound = options else {
+        return KrylovAnswer::Refusal(checks::number(options), checks::reported(options));
+    };
+    let j = admit_run(g, tau, d, w, o, m, work.len());
+    let run = j.checked;
+    let Checked::Sound = run else {
+        return KrylovAnswer::Refusal(checks::number(run), checks::reported(run));
+    };
+    start_in(g.n, w, d, j.inv, work, j.k.y);
+    run_job(starts, cols, vals, mass, w, out, work, j)
 }
 
 // The sum over k of tau^k phi_k(tau G) w_k, of `count` vectors in one slice, by adaptive substeps.
@@ -347,27 +327,17 @@ pub fn phi_combination_krylov(
     out: &mut [f64],
     work: &mut [f64],
 ) -> KrylovAnswer
-    ensures { λ r. ⌜ ends r (now (out .exit)) (now (work .exit)) ≡ phi-combination-krylov (csr n (now (starts .entry)) (now (cols .entry)) (now (vals .entry))) (given «with_mass» (now (mass .entry))) tau count (now (w .entry)) o (now (out .entry)) (now (work .entry)) ⌝ }
+    ensures { λ r. ⌜ ends r (now (out .exit)) (now (work .exit)) ≡ phi-combination-krylov (forward (csr n (now (starts .entry)) (now (cols .entry)) (now (vals .entry))) (given «with_mass» (now (mass .entry)))) tau count (now (w .entry)) o (now (out .entry)) (now (work .entry)) ⌝ }
 {
     let matrix = generator_action::check_generator(n, starts, cols, vals, with_mass, mass);
-    match matrix {
-        MatrixAnswer::Refusal(k, x) => KrylovAnswer::Refusal(k, x),
-        MatrixAnswer::Norm(norm, _) => combined(
-            n,
-            starts,
-            cols,
-            vals,
-            with_mass,
-            mass,
-            tau,
-            count,
-            w,
-            o,
-            out,
-            work,
-            norm,
-        ),
-    }
+    let MatrixAnswer::Norm(norm, _) = matrix else {
+        return KrylovAnswer::Refusal(
+            generator_action::number(matrix),
+            generator_action::value(matrix),
+        );
+    };
+    let g = generator_action::generator_shape(n, with_mass, vals.len(), norm);
+    combined(starts, cols, vals, mass, g, tau, count, w, o, out, work)
 }
 
 fn of_taylor(answer: TaylorAnswer) -> PhiAnswer
@@ -403,7 +373,7 @@ pub fn combine(
     out: &mut [f64],
     work: &mut [f64],
 ) -> PhiAnswer
-    ensures { λ r. ⌜ ends r (now (out .exit)) (now (work .exit)) ≡ combine solver (csr n (now (starts .entry)) (now (cols .entry)) (now (vals .entry))) (given «with_mass» (now (mass .entry))) tau count (now (w .entry)) (now (out .entry)) (now (work .entry)) ⌝ }
+    ensures { λ r. ⌜ ends r (now (out .exit)) (now (work .exit)) ≡ combine solver (forward (csr n (now (starts .entry)) (now (cols .entry)) (now (vals .entry))) (given «with_mass» (now (mass .entry)))) tau count (now (w .entry)) (now (out .entry)) (now (work .entry)) ⌝ }
 {
     match solver {
         PhiSolver::Taylor => of_taylor(phi_action::phi_combination(

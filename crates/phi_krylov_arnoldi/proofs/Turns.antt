@@ -1,10 +1,11 @@
 -- The turns of a run as the answers of a substep tell them. Assumes nothing.
-use mathlib.Core.Path.{_≡_, ap}
+use mathlib.Core.Path.{_≡_, sym, ap, _∙_}
 use mathlib.Core.Bool.{Bool, true, false}
 use mathlib.Core.List.{List}
 use Prim.Native.Nat.{ℕ, suc, _+_, _≤_}
 use native.Mathlib.Nat.{le-of-eq}
 use native.Mathlib.Omega.{arith}
+use lib.ListN.{length}
 use lib.Ieee.{Float}
 use Rattle.lists.specs.Walk.{Turn, on, out}
 use Rattle.phi_action_helpers.specs.declared.Layout.{Layout}
@@ -26,8 +27,16 @@ pub applied-few : (p : Setting) (y : List Float) (beta : Float) → applied-of (
 applied-few p y beta = go (arnoldi p y beta) (basis-products p y beta)
   where
     go : (b : Basis) → Products (p .m) b → applied-of b ≤ suc (p .m)
-    go (breakdown b) h = omega (arith, h .0, h .1)
-    go (full b avnorm) h = le-of-eq h
+    go (breakdown b) h = omega (arith, h .0, h .2)
+    go (full b avnorm) h = le-of-eq (h .0)
+
+-- each column is multiplied once
+pub each-once : (p : Setting) (y : List Float) (beta : Float) → applied-of (arnoldi p y beta) ≡ length (columns-of (arnoldi p y beta))
+each-once p y beta = go (arnoldi p y beta) (basis-products p y beta)
+  where
+    go : (b : Basis) → Products (p .m) b → applied-of b ≡ length (columns-of b)
+    go (breakdown b) h = h .0 ∙ sym (h .1)
+    go (full b avnorm) h = h .0 ∙ sym (h .1)
 
 abbrev More : ℕ → State → Turn State End → Type 0
 More M s (on s') = (s' .report .matvecs ≤ s .report .matvecs + suc M) × (s' .report .substeps ≤ s .report .substeps + 1) × (s' .report .rejected ≤ s .report .rejected + 10)

@@ -15,11 +15,10 @@ use Rattle.round2.specs.Rounded.{round2}
 use Rattle.retry.specs.Retry.{retry}
 use Rattle.vectors.specs.Vectors.{axpy, scale}
 use Rattle.pow2.specs.Pow2.{pow2-scale, open-Pow2}
-use Rattle.pow2.specs.declared.Scale.{Scale}
 use Rattle.pow2.specs.declared.Prescale.{Prescale}
 use Rattle.pow2.specs.declared.Prescale.the-variants.{By, None}
 use Rattle.phi_action_helpers.specs.Augmented.{Augmented}
-use Rattle.arnoldi.specs.Basis.{Setting, Columns, Basis, breakdown, full, norm2, arnoldi}
+use Rattle.arnoldi.specs.Basis.{Setting, Basis, breakdown, full, norm2, arnoldi}
 use Rattle.trial_steps.specs.Trials.{Trying, Tried, accepted, stuck, trials, open-Trials}
 use Rattle.phi_krylov_arnoldi.specs.declared.Control.{Control}
 use Rattle.phi_krylov_arnoldi.specs.declared.KrylovPhiReport.{KrylovPhiReport}

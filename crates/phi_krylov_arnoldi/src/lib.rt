@@ -30,6 +30,15 @@ use trial_steps::Outcome;
 use trial_steps::Step;
 use trial_steps::Trial;
 
+// e and 2 pi, of Stirling's formula; the least normal double, below which no norm is divided by; and 2^-52.
+const E: f64 = 2.718281828459045;
+
+const TWO_PI: f64 = 6.283185307179586;
+
+const MIN_POSITIVE: f64 = 2.2250738585072014e-308;
+
+const EPSILON: f64 = 2.220446049250313e-16;
+
 // Of a run: products with the generator, accepted substeps, rejected lengths, and the accumulated error estimate.
 pub struct KrylovPhiReport {
     pub matvecs: usize,
@@ -63,13 +72,10 @@ fn first_length(m: usize, anorm: f64, tol: f64, beta: f64) -> f64
     requires { ⌜ m ≤ 128 ⌝ }
     ensures { λ r. ⌜ r ≡ first-length m anorm tol beta ⌝ }
 {
-    let e = 2.718281828459045;
-    let two_pi = 6.283185307179586;
-    let min_positive = 2.2250738585072014e-308;
     let m1 = float::count(m) + 1.0;
-    let fact = power::power(m1 / e, (m + 1) as u64) * sqrt::sqrt(two_pi * m1);
+    let fact = power::power(m1 / E, (m + 1) as u64) * sqrt::sqrt(TWO_PI * m1);
     let ratio = fact * tol / (4.0 * beta * float::max(anorm, 1.0));
-    round2::round2(1.0 / float::max(anorm, min_positive) * power::root(ratio, m as u64))
+    round2::round2(1.0 / float::max(anorm, MIN_POSITIVE) * power::root(ratio, m as u64))
 }
 
 // The field: beta times the columns by their coefficients, added up from zeros.
@@ -133,7 +139,7 @@ fn advance(
         matvecs: r.matvecs + applied,
         substeps: r.substeps + 1,
         rejected: r.rejected + s.rejections,
-        est_error: r.est_error + float::max(s.err, k.anorm * 2.220446049250313e-16 * c.beta),
+        est_error: r.est_error + float::max(s.err, k.anorm * EPSILON * c.beta),
     };
     if unfinished(control) {
         return Progress::On(control, report);

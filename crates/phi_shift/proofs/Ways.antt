@@ -1,6 +1,6 @@
 -- The ways out of the plan, of what its parts answer. Assumes nothing.
 use mathlib.Core.Bool.{Bool, true, false}
-use mathlib.Core.Path.{_≡_, refl, sym, ap, _∙_}
+use mathlib.Core.Path.{_≡_}
 use Prim.Native.Nat.{ℕ, _*_, _≤_, _<_}
 use lib.Ieee.{Float}
 use borrow.Author.Tests.{lt-ltb, le-ltb}
@@ -13,7 +13,6 @@ use Rattle.expmv.specs.Select.{select-s-m}
 use Rattle.expmv.specs.declared.Selected.{Selected}
 use Rattle.expmv.specs.declared.Selected.the-variants.{NoRow, Row}
 use Rattle.phi_action_helpers.specs.declared.SweepPlan.{SweepPlan}
-use Rattle.phi_shift.specs.declared.PlanAnswer.{PlanAnswer}
 use Rattle.phi_shift.specs.declared.PlanAnswer.the-variants.{NoPlan, Plan}
 use Rattle.phi_shift.specs.Plan.{argument, shifted-bound, plan, cheaper-shifted, usable, with-shift, plan-of, sweep-plan}
 

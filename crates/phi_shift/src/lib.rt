@@ -68,7 +68,7 @@ fn cheaper_shifted(s: u32, m: u32, mu: f64, row: Selected) -> SweepPlan
     }
 }
 
-fn with_shift(m_max: u32, tau: f64, s: u32, m: u32, shift: Shift) -> SweepPlan
+pub fn with_shift(m_max: u32, tau: f64, s: u32, m: u32, shift: Shift) -> SweepPlan
     ensures { λ r. ⌜ r ≡ with-shift «m_max» tau s m shift ⌝ }
 {
     let Shift::By(g, norm) = shift else {

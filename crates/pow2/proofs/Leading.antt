@@ -4,10 +4,11 @@ use mathlib.Core.Path.{_≡_, refl, sym, ap, _∙_, subst}
 use mathlib.Core.Bool.{Bool, true, false, not}
 use mathlib.Core.Logic.{inl, inr}
 use Prim.Native.Nat.{ℕ, zero, suc, _+_, _-_, _*_, _/_, _%_, _^_, _≤_, _<_}
-use native.Mathlib.Nat.{le-trans, le-antisymm, le-of-eq, lt-of-lt-of-le, lt-of-not-le, not-le-of-lt, mod-lt, mul-lt-mul-of-pos-right, mul-le-mul-right, eq-of-mul-eq-mul-right, eq-zero-or-pos}
+use native.Mathlib.Nat.{le-trans, le-of-eq, lt-of-lt-of-le, not-le-of-lt, mod-lt, mul-lt-mul-of-pos-right, mul-le-mul-right, eq-of-mul-eq-mul-right, eq-zero-or-pos}
+use Rattle.doubles.proofs.Nearest.{size-exact}
 use native.Mathlib.Omega.{arith}
 use lib.Dec.{T, lit≤, lit<}
-use lib.Pow.{pow-pos, pow-add, pow-mono}
+use lib.Pow.{pow-pos, pow-add}
 use lib.IntN.{pos, negsuc, subℕ, _-ℤ_, +ℤ-assoc}
 use lib.Signed.{mag}
 use lib.Ieee.{Float, nan, inf, fin, binary64, size, mul, lt, ofBits, toBits, fits, isNan}
@@ -19,7 +20,7 @@ use borrow.Author.Tests.{lt-ltb, le-ltb}
 use Rattle.lists.proofs.Bounds.{lt-or-le}
 use Rattle.doubles.specs.F64.{_⋖_, +0, abs}
 use Rattle.doubles.specs.Value.{val}
-use Rattle.doubles.proofs.Patterns.{bits-value, val-lt, val-field}
+use Rattle.doubles.proofs.Patterns.{bits-value, val-lt, val-field, val-subnormal}
 use Rattle.doubles.proofs.Magnitude.{bits-abs}
 use Rattle.doubles.proofs.Unique.{pattern-value}
 use Rattle.doubles.proofs.Arithmetic.{mul-by}
@@ -27,9 +28,6 @@ use Rattle.pow2.specs.Pow2.{field, exponent}
 use Rattle.pow2.proofs.Integers.{mag-sub}
 
 -- ---- how many binary digits
-size-is : (n j : ℕ) → 2 ^ j ≤ n → n < 2 ^ suc j → size n ≡ suc j
-size-is n j lo hi = le-antisymm (size-le n (suc j) hi) (lt-of-not-le (λ (g : size n ≤ j). not-le-of-lt (lt-of-lt-of-le (size-lt n) (pow-mono g)) lo))
-
 pub size-scaled : (n t : ℕ) → 0 < n → size (n * 2 ^ t) ≡ size n + t
 size-scaled n t h = go (size n) refl
   where
@@ -39,7 +37,7 @@ size-scaled n t h = go (size n) refl
         let lo : 2 ^ j ≤ n = size-reaches n j (le-of-eq (sym e)) in
         let hi : n < 2 ^ suc j = subst (λ (z : ℕ). n < 2 ^ z) e (size-lt n) in
         let s : suc j + t ≡ suc (j + t) = omega arith in
-        size-is (n * 2 ^ t) (j + t) (le-trans (le-of-eq (pow-add 2 j t)) (mul-le-mul-right (2 ^ t) lo))
+        size-exact (j + t) (n * 2 ^ t) (le-trans (le-of-eq (pow-add 2 j t)) (mul-le-mul-right (2 ^ t) lo))
         (lt-of-lt-of-le (mul-lt-mul-of-pos-right hi (pow-pos t)) (le-of-eq (sym (pow-add 2 (suc j) t) ∙ ap (λ (z : ℕ). 2 ^ z) s)))
         ∙ sym s
 
@@ -47,7 +45,7 @@ normal-size : (b : ℕ) → 1 ≤ b / 4503599627370496 → size (val b) ≡ b / 
 normal-size b h =
     let t = b % 4503599627370496 in
     let x = b / 4503599627370496 - 1 in
-    let d : size (4503599627370496 + t) ≡ 53 = size-is (4503599627370496 + t) 52 (omega arith) (omega arith) in
+    let d : size (4503599627370496 + t) ≡ 53 = size-exact 52 (4503599627370496 + t) (omega arith) (omega arith) in
     ap size (val-field b h) ∙ size-scaled (4503599627370496 + t) x (omega arith) ∙ omega (arith, d)
 
 -- ---- a difference moves with both its terms
@@ -114,11 +112,6 @@ two54-value : HasValue two54 false (2 ^ 54) 1
 unfolding ofBits
 two54-value = (refl, refl)
 
-val-subnormal : (b : ℕ) → b < 4503599627370496 → val b ≡ b
-val-subnormal b h =
-    let e : b / 4503599627370496 ≡ 0 = omega arith in
-    rw e (omega arith)
-
 module _ (x : Float) (f : T (fits binary64 x)) (h : T (+0 ⋖ x)) (z : field (toBits binary64 x) ≡ 0) where
   bits-low : toBits binary64 x < 4503599627370496
   bits-low = let s = bits-small x f (positive-plain x h) in omega arith
@@ -128,7 +121,7 @@ module _ (x : Float) (f : T (fits binary64 x)) (h : T (+0 ⋖ x)) (z : field (to
       let b = toBits binary64 x in
       let v : HasValue x false b (2 ^ 1074) =
       subst (λ (y : Float). HasValue y false b (2 ^ 1074)) (ofBits-toBits binary64 x f)
-      (subst (λ (a : ℕ). HasValue (ofBits binary64 b) false a (2 ^ 1074)) (val-subnormal b bits-low) (bits-value b (omega (arith, bits-low)))) in
+      (subst (λ (a : ℕ). HasValue (ofBits binary64 b) false a (2 ^ 1074)) (val-subnormal b (omega (arith, bits-low))) (bits-value b (omega (arith, bits-low)))) in
       subst (λ (y : Float). HasValue y false (b * 2 ^ 54) (2 ^ 1074)) (sym (mul-by x two54 b (2 ^ 1074) (2 ^ 54) 1 (pow-pos 1074) (pow-pos 0) v two54-value))
       (round-exact binary64 false (b * 2 ^ 54) (2 ^ 1074) b 54 (pow-pos 1074) (omega (arith, bits-low)) (lt-of-lt-of-le (mul-lt-mul-of-pos-right bits-low (pow-pos 54)) (lit≤ tt)) refl)
 
@@ -152,6 +145,6 @@ module _ (x : Float) (f : T (fits binary64 x)) (h : T (+0 ⋖ x)) (z : field (to
       let b = toBits binary64 x in
       let F = field (toBits binary64 (mul binary64 x two54)) in
       let n = normal-field (mul binary64 x two54) (mul-fits binary64 x two54) lifted-plain lifted-normal in
-      let v = ap size (val-subnormal b bits-low) in
+      let v = ap size (val-subnormal b (omega (arith, bits-low))) in
       let d : F ≡ size (val b) + 2 = omega (arith, ap size lifted-val, size-scaled b 54 (bits-positive x f h)) in
       +ℤ-assoc (pos F) (negsuc 1022) (negsuc 53) ∙ ap (λ (k : ℕ). subℕ k 1077) d ∙ sub-moved (size (val b)) 1075 2

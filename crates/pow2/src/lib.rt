@@ -10,6 +10,9 @@ use float::abs;
 use float::is_finite;
 use float::max;
 
+// The exponents of eta and of 1 / eta stay within this, so that both are normal.
+const ETA_EXP_CLAMP: i32 = 1000;
+
 // (eta, 1 / eta)
 pub struct Scaling {
     pub eta: f64,
@@ -68,7 +71,7 @@ pub fn ceil_log2(x: f64) -> i32
     let bits = f64::to_bits(x);
     let field = field(bits);
     if field == 0 {
-        return -1000;
+        return -ETA_EXP_CLAMP;
     }
     let exp = field - 1023;
     if bits % 0x10_0000_0000_0000 == 0 {
@@ -90,7 +93,7 @@ pub fn eta_scaling(max_mag: f64) -> Scaling
 {
     if max_mag > 0.0 {
         if is_finite(max_mag) {
-            let e = clamp(ceil_log2(max_mag), -1000, 1000);
+            let e = clamp(ceil_log2(max_mag), -ETA_EXP_CLAMP, ETA_EXP_CLAMP);
             return Scaling {
                 eta: exact_pow2(-e),
                 inv: exact_pow2(e),

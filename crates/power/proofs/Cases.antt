@@ -1,19 +1,16 @@
 -- The ways out of `root`. Assumes nothing.
 use mathlib.Core.Path.{_≡_, refl, sym, _∙_}
 use Prim.Native.Nat.{ℕ, zero, suc}
-use mathlib.Core.Bool.{Bool, true, false, true≢false}
+use mathlib.Core.Bool.{true, false, true≢false}
 use lib.Ieee.{Float, nan, inf, fin, binary64, lt, eq, div, ofBits}
 use Rattle.lists.specs.Greatest.{greatest}
 use Rattle.doubles.specs.F64.{+0, +∞}
-use Rattle.doubles.proofs.Compare.{is-zero, is-above, Below, is-below, endless-not, number-under, zero-over-zero}
+use Rattle.doubles.proofs.Compare.{zero-cases, is-above, below-cases, endless-not, number-under, zero-over-zero}
 use Rattle.power.specs.Power.{within, root}
 
 pub when-zero : (t : Float) (q : ℕ) → eq t +0 ≡ true → +0 ≡ root t q
 unfolding root
-when-zero nan q h = absurd (is-zero nan h)
-when-zero (inf s) q h = absurd (is-zero (inf s) h)
-when-zero (fin s zero e) q h = refl
-when-zero (fin s (suc m) e) q h = absurd (is-zero (fin s (suc m) e) h)
+when-zero t q = zero-cases (λ t. +0 ≡ root t q) (λ s e. refl) t
 
 pub when-number : (t : Float) (q : ℕ) → lt +0 t ≡ true → lt t +∞ ≡ true → ofBits binary64 (greatest (within t q) 63 0) ≡ root t q
 unfolding root
@@ -31,12 +28,5 @@ when-endless (inf false) q h k = refl
 when-endless (fin s m e) q h k = absurd (true≢false (sym (number-under s m e) ∙ k))
 
 pub when-not : (t : Float) (q : ℕ) → eq t +0 ≡ false → lt +0 t ≡ false → div binary64 +0 +0 ≡ root t q
-when-not t q h k = zero-over-zero ∙ go t (is-below t h k)
-  where
-    go : (t : Float) → Below t → nan ≡ root t q
-    go nan b = unfold root in refl
-    go (inf true) b = unfold root in refl
-    go (inf false) b = absurd (true≢false (sym b))
-    go (fin s zero e) b = absurd b
-    go (fin true (suc m) e) b = unfold root in refl
-    go (fin false (suc m) e) b = absurd (true≢false (sym b))
+unfolding root
+when-not t q = below-cases (λ t. div binary64 +0 +0 ≡ root t q) zero-over-zero zero-over-zero (λ m e. zero-over-zero) t

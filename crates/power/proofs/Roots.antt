@@ -1,24 +1,23 @@
 -- What the root is: of a finite t above 0, a finite double that is not negative, whose q factors give at most t; and q factors of any finite double above it give more than t. Assumes nothing.
-use mathlib.Core.Path.{_≡_, refl, sym, ap, _∙_, subst}
+use mathlib.Core.Path.{_≡_, refl, sym, ap, subst}
 use mathlib.Core.Logic.{_⊎_, inl, inr}
-use Prim.Native.Nat.{ℕ, zero, suc, _+_, _-_, _*_, _^_, _≤_, _<_}
-use native.Mathlib.Nat.{le-antisymm, le-trans, le-of-lt, lt-of-le-of-lt, lt-of-lt-of-le, le-refl, zero-lt-suc, zero-mul, mul-one}
+use Prim.Native.Nat.{ℕ, zero, suc, _-_, _*_, _^_, _≤_, _<_}
+use native.Mathlib.Nat.{le-antisymm, le-of-lt, lt-of-le-of-lt, lt-of-lt-of-le, zero-mul}
 use native.Mathlib.Omega.{arith}
-use mathlib.Core.Bool.{Bool, true, false, not, _&&_, true≢false}
+use mathlib.Core.Bool.{Bool, true, false, not}
 use lib.IntN.{ℤ, pos}
-use lib.Dec.{T, ltb, ltb→lt, lt→ltb, lit<, lit≤}
+use lib.Dec.{T, ltb, ltb→lt, lt→ltb, lit≤}
 use lib.Ieee.{Float, nan, inf, fin, binary64, up, down, mul, le, lt, ofBits, toBits, fits, isNan}
 use lib.Ieee.Fits.{and-i, and-l, and-r, mul-fits}
 use lib.Ieee.Bits.{ofBits-toBits, ofBits-fits}
 use lib.Ieee.Exact.{HasValue}
+use Rattle.doubles.proofs.Sizes.{nonneg-bits}
 use Rattle.doubles.specs.Value.{val}
-use Rattle.doubles.specs.F64.{_⊗_, _⩽_, 1f, abs, is-finite, nonneg}
-use Rattle.doubles.proofs.Patterns.{bits-value}
-use Rattle.doubles.proofs.Magnitude.{finite-bits}
+use Rattle.doubles.specs.F64.{_⊗_, _⩽_, 1f, is-finite, nonneg}
 use Rattle.doubles.proofs.Total.{⩽-refl, ⩽-trans, ⩽-or-⋖, ⋖-not, ⋖-⩽}
 use Rattle.doubles.proofs.Monotone.{mul-grows}
-use Rattle.doubles.proofs.Order.{nonneg-number, nonneg-zero, infinite, Fine, mul-fine, mul-mono, bits-le, bits-nonneg, bits-lt-back, le-trans-nonneg, le-or-above, lt-not-le, cross→le, units-of-le}
-use Rattle.doubles.proofs.Unique.{value-unique, units-of}
+use Rattle.doubles.proofs.Order.{nonneg-number, nonneg-zero, Fine, mul-fine, mul-fine-mono, bits-le, bits-nonneg, bits-lt-back, le-trans-nonneg, le-or-above, lt-not-le, cross→le, units-of-le, ⋖-nonneg}
+use Rattle.doubles.proofs.Unique.{value-unique, units-of, bits-finite}
 use lib.Pow.{pow-pos}
 use Rattle.lists.specs.Greatest.{greatest}
 use Rattle.lists.proofs.Greatest.{Greatest, greatest-is}
@@ -34,7 +33,7 @@ times-mono : (n : ℕ) (d : ℤ) (n' : ℕ) (d' : ℤ) (k : ℕ) → T (le (fin 
 unfolding times
 times-mono n d n' d' zero h = h
 times-mono n d n' d' (suc k) h =
-    mul-mono (times (fin false n d) k) (times (fin false n' d') k) n d n' d' (times-fine n d k) (times-fine n' d' k) (times-mono n d n' d' k h) h
+    mul-fine-mono (times (fin false n d) k) (times (fin false n' d') k) n d n' d' (times-fine n d k) (times-fine n' d' k) (times-mono n d n' d' k h) h
 
 -- a finite double that is not negative is fin false n d
 abbrev Number : Float → Type 0
@@ -58,14 +57,6 @@ power-mono x y q h k h' k' l =
     (times-mono (v .0) (v .1) (w .0) (w .1) (q - 1) (subst (λ (z : Float). T (le (fin false (v .0) (v .1)) z)) (w .2) (subst (λ (z : Float). T (le z y)) (v .2) l))))
 
 -- ---- by patterns
-bits-finite : (b : ℕ) → b < 9218868437227405312 → T (is-finite (ofBits binary64 b))
-bits-finite b h = go (ofBits binary64 b) (bits-value b h)
-  where
-    go : (x : Float) → HasValue x false (val b) (2 ^ 1074) → T (is-finite x)
-    go nan h = h
-    go (inf s) h = h
-    go (fin s m e) h = tt
-
 module _ (t : Float) (q : ℕ) (tp : T (nonneg t)) where
   pub down-closed : (a b : ℕ) → a ≤ b → T (within t q b) → T (within t q a)
   down-closed a b h p =
@@ -103,8 +94,8 @@ module _ (t : Float) (q : ℕ) (tp : T (nonneg t)) where
   pub zero-passes : T (within t q 0)
   zero-passes = subst (λ (x : Float). T (le (power x q) t)) (sym zero-bits) (subst (λ (x : Float). T (le x t)) (sym (zero-times (q - 1))) (zero-le-any t tp))
 
-  found : Greatest (within t q) 0 (0 + 2 ^ 63) (greatest (within t q) 63 0)
-  found = greatest-is (within t q) down-closed 63 0 zero-passes
+  found : Greatest (within t q) 0 (2 ^ 63) (greatest (within t q) 63 0)
+  found = greatest-is (within t q) down-closed 63 zero-passes
 
 -- ---- the law
 pub record Root (t : Float) (q : ℕ) (r : Float) : Type 0 where
@@ -112,26 +103,6 @@ pub record Root (t : Float) (q : ℕ) (r : Float) : Type 0 where
   pub sign : T (nonneg r)
   pub at-most : T (le (power r q) t)
   pub greatest : (y : Float) → T (fits binary64 y) → T (is-finite y) → T (lt r y) → T (lt t (power y q))
-
-above-nonneg : (r y : Float) → T (nonneg r) → T (lt r y) → T (nonneg y)
-unfolding lt
-above-nonneg nan y p h = absurd p
-above-nonneg (inf true) y p h = absurd p
-above-nonneg (inf false) nan p h = absurd h
-above-nonneg (inf false) (inf s) p h = absurd h
-above-nonneg (inf false) (fin s n d) p h = absurd h
-above-nonneg (fin true m e) y p h = absurd p
-above-nonneg (fin false m e) nan p h = absurd h
-above-nonneg (fin false m e) (inf s) p h = h
-above-nonneg (fin false m e) (fin true n d) p h = absurd h
-above-nonneg (fin false m e) (fin false n d) p h = tt
-
-abs-same : (y : Float) → T (nonneg y) → abs y ≡ y
-abs-same nan h = refl
-abs-same (inf true) h = absurd h
-abs-same (inf false) h = refl
-abs-same (fin true m e) h = absurd h
-abs-same (fin false m e) h = refl
 
 pub root-law : (t : Float) (q : ℕ) → T (nonneg t) → Root t q (ofBits binary64 (greatest (within t q) 63 0))
 root-law t q tp =
@@ -145,9 +116,9 @@ root-law t q tp =
       sign = sign;
       at-most = and-r (ltb g 9218868437227405312) (le (power (ofBits binary64 g) q) t) pass;
       greatest = λ y fy ny h.
-          let py = above-nonneg (ofBits binary64 g) y sign h in
+          let py = ⋖-nonneg (ofBits binary64 g) y sign h in
           let b = toBits binary64 y in
-          let lb : b < 9218868437227405312 = subst (λ (x : Float). toBits binary64 x < 9218868437227405312) (abs-same y py) (finite-bits y fy ny) in
+          let lb : b < 9218868437227405312 = nonneg-bits y fy ny py in
           let back = ofBits-toBits binary64 y fy in
           let gb : g < b = bits-lt-back g b (le-of-lt lg) (le-of-lt lb) (subst (λ (x : Float). T (lt (ofBits binary64 g) x)) (sym back) h) in
           elim (le-or-above (power y q) t (power-nonneg y q ny py) tp) [

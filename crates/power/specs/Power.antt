@@ -4,7 +4,7 @@ use mathlib.Core.Bool.{Bool, true, false, _&&_}
 use lib.Dec.{ltb}
 use lib.Ieee.{Float, nan, inf, fin}
 use Rattle.lists.specs.Greatest.{greatest}
-use Rattle.doubles.specs.F64.{_⊗_, _⩽_, bits, +0}
+use Rattle.doubles.specs.F64.{INF-BITS, _⊗_, _⩽_, bits, +0}
 
 -- y and k more factors y, multiplied left to right with rounding
 unfoldable pub times : Float → ℕ → Float
@@ -17,7 +17,7 @@ power y q = times y (q - 1)
 
 -- b is the pattern of a finite double that is not negative, and q factors of it give at most t
 abbrev pub within : Float → ℕ → ℕ → Bool
-within t q b = ltb b 0x7ff0_0000_0000_0000 && power (bits b) q ⩽ t
+within t q b = ltb b INF-BITS && power (bits b) q ⩽ t
 
 -- Document 01, the root of order q: of a finite t above 0 the greatest finite double whose q factors give at most t, found among the
 -- patterns, whose order is that of the doubles from +0 up. Of a zero of either sign it is +0, of +infinity that, else NaN.

@@ -3,8 +3,10 @@ ghost use mathlib.Core.Path.{_≡_};
 ghost use Prim.Native.Nat.{_+_, _<_};
 ghost use lib.Dec.{T};
 ghost use Rattle.lists.specs.Greatest.{greatest};
-ghost use Rattle.doubles.specs.F64.{nonneg};
+ghost use Rattle.doubles.specs.F64.{INF-BITS, nonneg};
 ghost use Rattle.power.specs.Power.{power, within, root};
+use doubles::INF_BITS;
+use doubles::ONE_BITS;
 
 // q factors y, multiplied left to right; one factor for q = 0 too.
 pub fn power(y: f64, q: u64) -> f64
@@ -27,7 +29,7 @@ fn log2_normal(x: f64) -> f64 {
         let b = f64::to_bits(x);
         let e = f64::from_bits(0x4330_0000_0000_0000 + b / 0x10_0000_0000_0000 % 2048)
             - 4503599627371519.0;
-        let m = f64::from_bits(0x3ff0_0000_0000_0000 + b % 0x10_0000_0000_0000);
+        let m = f64::from_bits(ONE_BITS + b % 0x10_0000_0000_0000);
         let s = (m - 1.4142135623730951) / (m + 1.4142135623730951);
         let w = s * s;
         let series = 1.0 + w * (1.0 / 3.0 + w * (1.0 / 5.0 + w * (1.0 / 7.0 + w * (1.0 / 9.0))));
@@ -61,7 +63,7 @@ fn exp2(z: f64) -> f64 {
 // Where the search for the root begins: 2 to the power log2(t) / q, and one step of Newton's method, which is
 // for nearly every normal t the root or the pattern next to it. Any pattern would do; a near one saves products.
 fn first_guess(t: f64, q: u64) -> u64
-    ensures { λ r. ⌜ (0 < r) × (r < 0x7ff0_0000_0000_0000) ⌝ }
+    ensures { λ r. ⌜ (0 < r) × (r < INF-BITS) ⌝ }
 {
     let order = std::num::nearest_u64_to_f64(q);
     let y = exp2(log2(t) / order);
@@ -69,12 +71,12 @@ fn first_guess(t: f64, q: u64) -> u64
     if next > 0.0 {
         let b = f64::to_bits(next);
         if 0 < b {
-            if b < 0x7ff0_0000_0000_0000 {
+            if b < INF_BITS {
                 return b;
             }
         }
     }
-    0x3ff0_0000_0000_0000
+    ONE_BITS
 }
 
 // A pattern between lo and hi, where there is one: `step` above lo, or below hi, or the middle where that is
@@ -106,10 +108,10 @@ fn longer(step: u64) -> u64
 // pattern and go on in growing steps until they pass the root; then each halves what is left between.
 fn root_bits(t: f64, q: u64) -> u64
     requires { ⌜ T (nonneg t) ⌝ }
-    ensures { λ r. ⌜ (r ≡ greatest (within t q) 63 0) × (r < 0x7ff0_0000_0000_0000) ⌝ }
+    ensures { λ r. ⌜ (r ≡ greatest (within t q) 63 0) × (r < INF-BITS) ⌝ }
 {
     let mut lo = 0u64;
-    let mut hi = 0x7ff0_0000_0000_0000u64;
+    let mut hi = INF_BITS;
     let mut trial = first_guess(t, q);
     let mut step = 0u64;
     while lo + 1 < hi {
@@ -132,7 +134,7 @@ pub fn root(t: f64, q: u64) -> f64
         return 0.0;
     }
     if t > 0.0 {
-        if t < f64::from_bits(0x7ff0_0000_0000_0000) {
+        if t < f64::from_bits(INF_BITS) {
             return f64::from_bits(root_bits(t, q));
         }
         return t;

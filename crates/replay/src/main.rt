@@ -1,15 +1,15 @@
 // Replays a fixed list of answers through the exports on byte slices, and says how many differ. `make.py` writes the list
 // and describes its form. Before a call the double and the counts are 90, and so is every byte of output and working memory.
-use exports_bytes::double_at;
-use exports_bytes::half_at;
-use exports_bytes::pattern;
+use le_bytes::double_at;
+use le_bytes::half_at;
+use le_bytes::pattern;
 ghost use mathlib.Core.Path.{_≡_};
 ghost use mathlib.Core.Bool.{true, _&&_, cond};
 ghost use Prim.Native.Nat.{_+_, _-_, _≤_};
 ghost use lib.ListN.{length};
 ghost use lib.Dec.{eqb, leb, ltb};
 ghost use Rattle.lists.specs.Loop.{tabulate};
-ghost use Rattle.exports_bytes.specs.Bytes.{word};
+ghost use Rattle.le_bytes.specs.Bytes.{word};
 
 // The numbers of a job.
 struct Job {

@@ -1,50 +1,28 @@
--- The length tried after a rejection is NaN, or at most the length before it. Assumes nothing.
+-- The length tried after a rejection is NaN, or above 0 and at most the length before it. Assumes nothing.
 use mathlib.Core.Path.{_≡_, refl, sym, ap, _∙_, subst}
 use mathlib.Core.Logic.{_⊎_, inl, inr, ⊎-elim}
-use mathlib.Core.Bool.{Bool, true, false, not, cond, true≢false}
-use Prim.Native.Nat.{ℕ, zero, suc}
-use lib.IntN.{ℤ}
+use mathlib.Core.Bool.{true, false, not, true≢false}
+use Prim.Native.Nat.{ℕ}
 use lib.Dec.{T}
-use lib.Dec.{eqb·suc-zero}
-use lib.Ieee.{Float, nan, inf, fin, binary64, unlike, mul, div, le, lt, fits, isNan, ofBits}
+use lib.Ieee.{Float, nan, inf, fin, binary64, le, fits, isNan, ofBits}
 use lib.Ieee.Bits.{is-true, ofBits-fits}
 use Rattle.doubles.specs.F64.{_⊗_, _⊘_, _⩽_, _⋖_, +0, 1f, is-finite, nonneg}
-use Rattle.doubles.proofs.Compare.{Above, is-above}
 use Rattle.doubles.proofs.Total.{⩽-antisymm, ⩽-refl, ⩽-trans, ⩽-or-⋖, ⋖-⩽, ⩽-⋖-trans, ⋖-⩽-trans, le-number-right, le-highest}
 use Rattle.doubles.proofs.Monotone.{mul-mono, mul-grows, mul-shrinks, mul-number, div-number, div-part, finite-number, mul-nonneg}
 use Rattle.doubles.proofs.Sizes.{finite-below, finite-under}
-use Rattle.doubles.proofs.Order.{nonneg-zero, nonneg-number, nonneg-sign}
+use Rattle.doubles.proofs.Order.{nonneg-zero, nonneg-number, nonneg-sign, view}
 use Rattle.doubles.proofs.Arithmetic.{mul-commutes}
+use Rattle.doubles.proofs.Signs.{mul-nan, nan-mul, div-nan, nan-div, Clear, SignSet, lowest, below, mul-set, div-set, set-low, above-mul-inf, zero-mul-inf, inf-or-finite}
 use Rattle.power.specs.Power.{root}
 use Rattle.power.proofs.Roots.{root-le-one}
-use Rattle.round2.specs.Rounded.{round2, open-Rounded}
+use Rattle.round2.specs.Rounded.{round2}
+use Rattle.round2.proofs.Positive.{round2-above, round2-fits, round2-nan}
 use Rattle.retry.specs.Retry.{GAMMA, DELTA, accepts, retry}
 use Rattle.retry.proofs.Shorter.{retry-le}
 
 -- NaN, or at least 0
 abbrev pub Size : Float → Type 0
 Size x = (x ≡ nan) ⊎ T (+0 ⩽ x)
-
--- ---- NaN goes through
-mul-nan : (x : Float) → x ⊗ nan ≡ nan
-unfolding mul
-mul-nan nan = refl
-mul-nan (inf s) = refl
-mul-nan (fin s m e) = refl
-
-div-nan : (x : Float) → x ⊘ nan ≡ nan
-unfolding div
-div-nan nan = refl
-div-nan (inf s) = refl
-div-nan (fin s m e) = refl
-
-nan-div : (y : Float) → nan ⊘ y ≡ nan
-unfolding div
-nan-div y = refl
-
-round2-nan : round2 nan ≡ nan
-unfolding open-Rounded
-round2-nan = refl
 
 -- ---- the length, by what the root is taken of
 pub length-of : (t a : Float) (q : ℕ) → T (fits binary64 t) → T (is-finite t) → T (nonneg t) → (a ≡ nan) ⊎ T (a ⩽ 1f) → (round2 (GAMMA ⊗ t ⊗ root a q) ≡ nan) ⊎ T (round2 (GAMMA ⊗ t ⊗ root a q) ⩽ t)
@@ -69,28 +47,6 @@ delta-finite = tt
 -- 1.2 * t is no less than t
 delta-grows : (t : Float) → T (fits binary64 t) → T (is-finite t) → T (+0 ⩽ t) → T (t ⩽ DELTA ⊗ t)
 delta-grows t f h p = subst (λ (x : Float). T (t ⩽ x)) (mul-commutes t DELTA) (mul-grows t DELTA f p one-le-delta (mul-number t DELTA h delta-finite))
-
-infinite-bound : (u : Float) → T (+0 ⋖ u) → u ⊗ inf false ≡ inf false
-unfolding mul
-infinite-bound u h = go u (is-above u (is-true (+0 ⋖ u) h))
-  where
-    go : (u : Float) → Above u → u ⊗ inf false ≡ inf false
-    go nan a = absurd a
-    go (inf s) a = ap (λ (b : Bool). inf (unlike b false)) a
-    go (fin s zero e) a = absurd a
-    go (fin s (suc m) e) a = ap (λ (b : Bool). cond b nan (inf (unlike s false))) (eqb·suc-zero m) ∙ ap (λ (b : Bool). inf (unlike b false)) a
-
-zero-endless : +0 ⊗ inf false ≡ nan
-unfolding mul ofBits
-zero-endless = refl
-
--- at least 0: +infinity, or finite
-finite-or : (x : Float) → T (+0 ⩽ x) → (x ≡ inf false) ⊎ T (is-finite x)
-unfolding le ofBits
-finite-or nan h = absurd h
-finite-or (inf true) h = absurd h
-finite-or (inf false) h = inl refl
-finite-or (fin s m e) h = inr tt
 
 module _ (tol t err : Float) (f : T (fits binary64 t)) (p : T (nonneg t)) (l : T (t ⩽ 1f)) (r : accepts tol t err ≡ false) where
   t-zero : T (+0 ⩽ t)
@@ -132,9 +88,9 @@ module _ (tol t err : Float) (f : T (fits binary64 t)) (p : T (nonneg t)) (l : T
   endless : tol ≡ inf false → T (+0 ⩽ err) → t ⊗ tol ≡ nan
   unfolding u ofBits
   endless e c = elim (⩽-or-⋖ t +0 (nonneg-number t p) (unfold ofBits isNan in tt)) [
-    | inl z ↦ ap (λ (x : Float). t ⊗ x) e ∙ ap (λ (x : Float). x ⊗ inf false) (⩽-antisymm t +0 f (ofBits-fits binary64 0) (nonneg-sign t p) z t-zero) ∙ zero-endless
+    | inl z ↦ ap (λ (x : Float). t ⊗ x) e ∙ ap (λ (x : Float). x ⊗ inf false) (⩽-antisymm t +0 f (ofBits-fits binary64 0) (nonneg-sign t p) z t-zero) ∙ zero-mul-inf
     | inr g ↦
-        let b : DELTA ⊗ t ⊗ tol ≡ inf false = ap (λ (x : Float). DELTA ⊗ t ⊗ x) e ∙ infinite-bound (DELTA ⊗ t) (⋖-⩽-trans +0 t (DELTA ⊗ t) g grown) in
+        let b : DELTA ⊗ t ⊗ tol ≡ inf false = ap (λ (x : Float). DELTA ⊗ t ⊗ x) e ∙ above-mul-inf (DELTA ⊗ t) (⋖-⩽-trans +0 t (DELTA ⊗ t) g grown) in
         absurd (true≢false (sym (is-true (accepts tol t err) (subst (λ (x : Float). T (err ⩽ x)) (sym b) (le-highest err (le-number-right +0 err c)))) ∙ r))
   ]
 
@@ -143,7 +99,7 @@ module _ (tol t err : Float) (f : T (fits binary64 t)) (p : T (nonneg t)) (l : T
       (λ (e : tol ≡ nan). inl (ap (λ (x : Float). t ⊗ x ⊘ err) e ∙ ap (λ (x : Float). x ⊘ err) (mul-nan t) ∙ nan-div err))
       (λ (k : T (+0 ⩽ tol)). ⊎-elim
       (λ (e : err ≡ nan). inl (ap (λ (x : Float). t ⊗ tol ⊘ x) e ∙ div-nan (t ⊗ tol)))
-      (λ (d : T (+0 ⩽ err)). ⊎-elim (λ (e : tol ≡ inf false). inl (ap (λ (x : Float). x ⊘ err) (endless e d) ∙ nan-div err)) (λ (g : T (is-finite tol)). inr (part g k d)) (finite-or tol k))
+      (λ (d : T (+0 ⩽ err)). ⊎-elim (λ (e : tol ≡ inf false). inl (ap (λ (x : Float). x ⊘ err) (endless e d) ∙ nan-div err)) (λ (g : T (is-finite tol)). inr (part g k d)) (inf-or-finite tol k))
       c)
       s
 
@@ -151,3 +107,44 @@ module _ (tol t err : Float) (f : T (fits binary64 t)) (p : T (nonneg t)) (l : T
 pub retry-shorter : (q : ℕ) (tol t err : Float) → T (fits binary64 t) → T (nonneg t) → T (t ⩽ 1f) → Size tol → Size err → accepts tol t err ≡ false → (retry q tol t err ≡ nan) ⊎ T (retry q tol t err ⩽ t)
 unfolding retry
 retry-shorter q tol t err f p l s c r = length-of t (t ⊗ tol ⊘ err) q f (t-finite tol t err f p l r) p (rejected tol t err f p l r s c)
+
+-- ---- whatever the tolerance
+set-part : (tol t err : Float) → T (nonneg t) → SignSet tol → Clear err → (t ⊗ tol ⊘ err ≡ nan) ⊎ T (t ⊗ tol ⊘ err ⩽ 1f)
+set-part tol t err p s (inl e) = inl (ap (λ (z : Float). t ⊗ tol ⊘ z) e ∙ div-nan (t ⊗ tol))
+set-part tol t err p s (inr c) = elim (mul-set (view t p) s) [
+  | inl e ↦ inl (ap (λ (z : Float). z ⊘ err) e ∙ nan-div err)
+  | inr u ↦ elim (div-set u (view err c)) [ inl e ↦ inl e | inr v ↦ inr (set-low v) ]
+]
+
+size-of : (x : Float) → Clear x → Size x
+size-of x (inl e) = inl e
+size-of x (inr h) = inr (nonneg-zero x h)
+
+pub retry-at-most : (q : ℕ) (tol t err : Float) → T (fits binary64 t) → T (nonneg t) → T (t ⩽ 1f) → Clear err → accepts tol t err ≡ false → (retry q tol t err ≡ nan) ⊎ T (retry q tol t err ⩽ t)
+retry-at-most q tol t err f p l c r = go tol r
+  where
+    known : (tol : Float) → Clear tol → accepts tol t err ≡ false → (retry q tol t err ≡ nan) ⊎ T (retry q tol t err ⩽ t)
+    known tol s r = retry-shorter q tol t err f p l (size-of tol s) (size-of err c) r
+
+    negative : (tol : Float) → SignSet tol → (retry q tol t err ≡ nan) ⊎ T (retry q tol t err ⩽ t)
+    negative tol s = unfold retry in length-of t (t ⊗ tol ⊘ err) q f (finite-under t 1f (nonneg-zero t p) l (unfold ofBits in tt)) p (set-part tol t err p s c)
+
+    go : (tol : Float) → accepts tol t err ≡ false → (retry q tol t err ≡ nan) ⊎ T (retry q tol t err ⩽ t)
+    go nan r = known nan (inl refl) r
+    go (inf true) r = negative (inf true) lowest
+    go (inf false) r = known (inf false) (inr tt) r
+    go (fin true m e) r = negative (fin true m e) (below m e)
+    go (fin false m e) r = known (fin false m e) (inr tt) r
+
+-- ---- what is tried next: a double, NaN or above 0, and NaN after NaN
+pub retry-above : (q : ℕ) (tol t err : Float) → (retry q tol t err ≡ nan) ⊎ T (+0 ⋖ retry q tol t err)
+unfolding retry
+retry-above q tol t err = round2-above (GAMMA ⊗ t ⊗ root (t ⊗ tol ⊘ err) q)
+
+pub retry-fits : (q : ℕ) (tol t err : Float) → T (fits binary64 (retry q tol t err))
+unfolding retry
+retry-fits q tol t err = round2-fits (GAMMA ⊗ t ⊗ root (t ⊗ tol ⊘ err) q)
+
+pub retry-nan : (q : ℕ) (tol err : Float) → retry q tol nan err ≡ nan
+unfolding retry
+retry-nan q tol err = ap (λ (z : Float). round2 (z ⊗ root (nan ⊗ tol ⊘ err) q)) (mul-nan GAMMA) ∙ ap round2 (nan-mul (root (nan ⊗ tol ⊘ err) q)) ∙ round2-nan

@@ -1,33 +1,38 @@
 -- A retry is no longer than what was tried: with 0 ≤ y ≤ 1 the double 0.9 * t * y, rounded up to two digits, is NaN or at most t. Assumes nothing.
 use mathlib.Core.Path.{_≡_, refl, sym, ap, _∙_, subst}
 use mathlib.Core.Logic.{_⊎_, inl, inr}
-use Prim.Native.Nat.{ℕ, zero, suc, _+_, _-_, _*_, _/_, _%_, _^_, _≤_, _<_, zero-le}
-use native.Mathlib.Nat.{le-refl, le-trans, le-of-eq, le-of-lt, lt-of-lt-of-le, lt-of-le-of-lt, lt-irrefl, not-le-of-lt, eq-or-lt-of-le, eq-zero-or-pos, mul-one, one-mul, mul-comm, mul-assoc, mul-left-comm, mul-right-comm, mul-mul-mul-comm, mul-pos, mul-le-mul-right, mul-le-mul, le-of-mul-le-mul-right, div-mul-le-self, mul-div-mul-right, le-div-iff-mul-le, le-of-suc-le-suc, not-suc-le-zero, div-add-mod', mod-lt, zero-mul, zero-lt-suc, eq-of-mul-eq-mul-right}
+use Prim.Native.Nat.{ℕ, zero, suc, _+_, _-_, _*_, _/_, _%_, _^_, _≤_, _<_}
+use native.Mathlib.Nat.{le-refl, le-trans, le-of-eq, add-le-add, le-of-lt, eq-or-lt-of-le, eq-zero-or-pos, mul-one, mul-comm, mul-assoc, mul-left-comm, mul-pos, mul-le-mul-right, mul-le-mul, le-of-mul-le-mul-right, div-mul-le-self, mul-div-mul-right, le-of-suc-le-suc, not-suc-le-zero, div-add-mod', mod-lt}
+use native.Mathlib.Numerals.{lt-add-one}
 use native.Mathlib.Omega.{arith}
-use mathlib.Core.Bool.{Bool, true, false, not, _&&_, _||_, cond, true≢false}
-use lib.IntN.{ℤ, pos, negsuc}
-use lib.Dec.{T, leb, ltb, leb→le, ltb→lt, lit≤, lit<, lt→ltb, eqb, eqb·suc-zero}
-use lib.Pow.{pow-pos, pow-add, pow-mono}
+use mathlib.Core.Bool.{Bool, true, false, _&&_, cond}
+use lib.IntN.{ℤ, negsuc}
+use lib.Dec.{T, leb, ltb, leb→le, ltb→lt, lit≤, lit<, lt→ltb}
+use lib.Pow.{pow-pos, pow-add}
 use lib.Arith.{digits-div}
-use lib.Ieee.{Float, nan, inf, fin, binary64, up, down, size, round, mul, div, le, lt, ofBits, toBits, fits}
-use lib.Ieee.Fits.{down-pos, up-pos, and-l, and-r, and-i, mul-fits, round-fits}
+use lib.Ieee.{Float, nan, inf, fin, binary64, size, round, mul, div, le, lt, ofBits, toBits, fits}
+use lib.Ieee.Fits.{and-l, and-r, and-i, mul-fits}
 use lib.Ieee.Digits.{size-reaches}
 use lib.Ieee.Exact.{HasValue}
 use lib.Ieee.Back.{round-whole}
 use lib.Ieee.Nearest.{closest, closest-same, div-mono}
-use lib.Ieee.Order.{round-mono, transfer}
-use lib.Ieee.Scale.{grid, finite, round-same, round-val, round-under}
+use lib.Ieee.Order.{round-mono}
+use lib.Ieee.Scale.{grid, finite, round-val, round-under}
+use Rattle.lists.proofs.Bounds.{pred-lt}
 use Rattle.doubles.specs.Value.{val}
-use Rattle.doubles.specs.F64.{is-finite, nonneg}
-use Rattle.doubles.specs.Whole.{ceil, whole-above}
-use Rattle.doubles.proofs.Unique.{pattern-value, round-self, val-under, units-of}
-use Rattle.doubles.proofs.Magnitude.{finite-bits}
-use Rattle.doubles.proofs.Order.{infinite, Fine, View, endless, number, view, le→cross, cross→le, mul-mono, mul-fine, le-or-above, nonneg-round, le-inf, units-of-le}
-use Rattle.doubles.proofs.Nearest.{Near, closest-near}
-use Rattle.doubles.proofs.Arithmetic.{mul-by, div-by}
-use Rattle.doubles.proofs.Time.{one}
+use Rattle.doubles.specs.F64.{_⩽_, 1f, is-finite, nonneg}
+use Rattle.doubles.specs.Whole.{ceil}
+use Rattle.doubles.proofs.Unique.{finite-of-value, round-self, val-under, units-of}
+use Rattle.doubles.proofs.Monotone.{mul-number, mul-shrinks}
+use Rattle.doubles.proofs.Sizes.{finite-under, nonneg-bits}
+use Rattle.doubles.proofs.Signs.{mul-sign}
+use Rattle.doubles.proofs.Ceiling.{ceil-under}
+use Rattle.doubles.proofs.Total.{⋖-⩽}
+use Rattle.doubles.proofs.Order.{view, le-or-above, nonneg-round, nonneg-zero, units-of-le}
+use Rattle.doubles.proofs.Nearest.{closest-near}
+use Rattle.doubles.proofs.Arithmetic.{mul-by, div-by, mul-commutes}
 use Rattle.round2.specs.Ten.{ten}
-use Rattle.round2.specs.Rounded.{reaches, usable, decade, up-to, round2}
+use Rattle.round2.specs.Rounded.{decade, up-to, round2}
 use Rattle.round2.proofs.Powers.{ten-nonneg, ten-fits, reached-nonneg, decade-is, decade-under, decade-reached, decade-from}
 
 -- ---- a number's size in units of 2 ^ -1074
@@ -135,15 +140,6 @@ nine-bits : ofBits binary64 0x3fec_cccc_cccc_cccd ≡ nine
 unfolding ofBits
 nine-bits = refl
 
-number-under : {x : Float} (m : ℕ) (e : ℤ) → View x → T (le x (fin false m e)) → T (is-finite x)
-number-under m e endless h = absurd (unfold le in h)
-number-under m e (number n d) h = tt
-
-own-one : (x : Float) → T (fits binary64 x) → T (is-finite x) → T (nonneg x) → mul binary64 x one ≡ x
-own-one x f h p =
-    mul-by x one (unitsIn x) (2 ^ 1074) 1 1 (pow-pos 1074) (pow-pos 0) (units-of x f h p) (refl, refl)
-    ∙ ap (λ (a : ℕ). round binary64 false a (2 ^ 1074)) (mul-one (unitsIn x)) ∙ round-self x false (unitsIn x) (2 ^ 1074) (pow-pos 1074) f (units-of x f h p)
-
 module _ (m : ℕ) (e : ℤ) (f : T (fits binary64 (fin false m e))) where
   abbrev t : Float
   t = fin false m e
@@ -151,22 +147,14 @@ module _ (m : ℕ) (e : ℤ) (f : T (fits binary64 (fin false m e))) where
   abbrev g : Float
   g = mul binary64 nine t
 
-  g-fine : Fine g m
-  g-fine = mul-fine nine m e (record { sign = tt; grows = λ x. absurd x })
-
-  one-times : mul binary64 one t ≡ t
-  one-times =
-      mul-by one t 1 1 (unitsIn t) (2 ^ 1074) (pow-pos 0) (pow-pos 1074) (refl, refl) (units-of t f tt tt)
-      ∙ ap (λ (a : ℕ). round binary64 false a (2 ^ 1074)) (one-mul (unitsIn t)) ∙ round-self t false (unitsIn t) (2 ^ 1074) (pow-pos 1074) f (units-of t f tt tt)
-
-  self-le : T (le t t)
-  self-le = cross→le m e m e (le-refl (m * up e * down e))
+  g-nonneg : T (nonneg g)
+  g-nonneg = mul-sign nine t tt tt (mul-number nine t tt tt)
 
   g-le : T (le g t)
-  g-le = subst (λ (x : Float). T (le g x)) one-times (mul-mono nine one m e m e (record { sign = tt; grows = λ x. absurd x }) (record { sign = tt; grows = λ x. absurd x }) (unfold le in tt) self-le)
+  g-le = subst (λ (x : Float). T (le x t)) (mul-commutes t nine) (mul-shrinks t nine f (nonneg-zero t tt) (nonneg-zero nine tt) (unfold le ofBits in tt) (mul-number t nine tt tt))
 
   g-number : T (is-finite g)
-  g-number = number-under m e (view g (g-fine .sign)) g-le
+  g-number = finite-under g t (nonneg-zero g g-nonneg) g-le tt
 
   g-is : g ≡ round binary64 false (8106479329266893 * unitsIn t) (9007199254740992 * 2 ^ 1074)
   g-is = mul-by nine t 8106479329266893 9007199254740992 (unitsIn t) (2 ^ 1074) (lit< tt) (pow-pos 1074) (refl, refl) (units-of t f tt tt)
@@ -189,50 +177,7 @@ module _ (m : ℕ) (e : ℤ) (f : T (fits binary64 (fin false m e))) where
       subst (λ (z : ℕ). 2000 * (z * 9007199254740992) ≤ 2001 * (8106479329266893 * unitsIn t) + 1000 * 9007199254740992) (sym (same-grid (8106479329266893 * unitsIn t) 9007199254740992 (2 ^ 1074) (lit< tt) (pow-pos 1074)))
       (rounded-up (8106479329266893 * unitsIn t) 9007199254740992 (2 ^ 1074) (lit< tt) (pow-pos 1074))
 
--- ---- the ceiling of what is at most a whole number q
-number-below : {x y : Float} → View x → View y → T (le x y) → T (is-finite y) → T (is-finite x)
-number-below endless endless h k = k
-number-below endless (number n d) h k = absurd (unfold le in h)
-number-below (number m e) endless h k = tt
-number-below (number m e) (number n d) h k = tt
-
-ceil-under : {w : Float} (q : ℕ) (r : Float) → View w → q ≤ 9007199254740992 → HasValue r false q 1 → T (is-finite w) → T (le w r) → (c : ℕ) × HasValue (ceil w) false c 1 × (c ≤ q)
-unfolding ceil
-ceil-under q r endless b h n l = absurd n
-ceil-under q r (number m e) b h n l =
-    let c = whole-above (m * up e) (down e) in
-    let a : m * up e ≤ q * down e = at-most q r h l in
-    let l : c ≤ q = le-trans (div-mono (m * up e + (down e - 1)) (down e) (q * down e + (down e - 1)) (down e) (down-pos e) (down-pos e) (mul-le-mul-right (down e) (more (m * up e) (q * down e) (down e - 1) a))) (le-of-eq (digits-div q (less (down e) (down-pos e)))) in
-    (c, round-whole binary64 false c (le-trans l b), l)
-  where
-    more : (a b c : ℕ) → a ≤ b → a + c ≤ b + c
-    more a b c h = omega arith
-
-    less : (d : ℕ) → 0 < d → d - 1 < d
-    less d h = omega arith
-
-    at-most : (q : ℕ) (r : Float) → HasValue r false q 1 → T (le (fin false m e) r) → m * up e ≤ q * down e
-    at-most q nan h l = absurd h
-    at-most q (inf s) h l = absurd h
-    at-most q (fin true n d) h l = absurd (true≢false (h .0))
-    at-most q (fin false n d) h l =
-        le-trans (le-of-eq (sym (mul-one (m * up e)))) (transfer (m * up e) q (down e) 1 (m * up e) (n * up d) (down e) (down d) (down-pos e) (down-pos d) refl (sym (h .1)) (le→cross m e n d l))
-
-bits-under : (z : Float) → T (fits binary64 z) → T (is-finite z) → T (nonneg z) → toBits binary64 z < 9218868437227405312
-bits-under nan f h p = absurd h
-bits-under (inf s) f h p = absurd h
-bits-under (fin true m e) f h p = absurd p
-bits-under (fin false m e) f h p = finite-bits (fin false m e) f h
-
 -- ---- z rounded up to two digits, for a z that the table reaches
-or-l : (a b : Bool) → T a → T (a || b)
-or-l true b t = tt
-or-l false b t = absurd t
-
-lt→le : (x y : Float) → T (lt x y) → T (le x y)
-unfolding le
-lt→le x y h = or-l (lt x y) _ h
-
 module _ (z : Float) (fz : T (fits binary64 z)) (nz : T (is-finite z)) (h : T (le (ten 1) z)) where
   abbrev i : ℕ
   i = decade z
@@ -286,17 +231,14 @@ module _ (z : Float) (fz : T (fits binary64 z)) (nz : T (is-finite z)) (h : T (l
       top : j ≤ 630
       top = omega (arith, decade-under z h)
 
-      up : (n : ℕ) → n < n + 1
-      up n = omega arith
-
-      small : (n : ℕ) → n < 632 → n < 0 + 1024
+      small : (n : ℕ) → n < 632 → n < 1024
       small n h = omega arith
 
       next : j + 2 ≡ i + 1
       next = omega (arith, decade-from z h)
 
       go : (j ≡ 630) ⊎ (j < 630) → Z ≤ 2000 * unitsIn (ten j)
-      go (inl e) = subst (λ (n : ℕ). Z ≤ 2000 * unitsIn (ten n)) (sym e) (le-trans (le-of-lt (val-under (toBits binary64 z) (bits-under z fz nz pz))) last-wide)
+      go (inl e) = subst (λ (n : ℕ). Z ≤ 2000 * unitsIn (ten n)) (sym e) (le-trans (le-of-lt (val-under (toBits binary64 z) (nonneg-bits z fz nz pz))) last-wide)
       go (inr l) =
           let n = i + 1 in
           let n-lt : n < 632 = omega (arith, decade-from z h) in
@@ -304,7 +246,7 @@ module _ (z : Float) (fz : T (fits binary64 z)) (nz : T (is-finite z)) (h : T (l
             | inl a ↦
                 le-trans (units-of-le z (ten n) Z (unitsIn (ten n)) (2 ^ 1074) (pow-pos 1074) z-value (entry-value n n-lt) a)
                 (subst (λ (k : ℕ). unitsIn (ten k) ≤ 2000 * unitsIn (ten j)) next (spaced-wide j l))
-            | inr b ↦ absurd (decade-is z h .last n (up i) (small n n-lt) (and-i (ltb n 632) (le (ten n) z) (lt→ltb n 632 n-lt) (lt→le (ten n) z b)))
+            | inr b ↦ absurd (decade-is z h .last n (lt-add-one i) (small n n-lt) (and-i (ltb n 632) (le (ten n) z) (lt→ltb n 632 n-lt) (⋖-⩽ (ten n) z b)))
           ]
 
   abbrev q : ℕ
@@ -323,13 +265,7 @@ module _ (z : Float) (fz : T (fits binary64 z)) (nz : T (is-finite z)) (h : T (l
   q-under = div-mul-le-self (Z + (S - 1)) S
 
   q-small : q ≤ 2000
-  q-small = le-trans (div-mono (Z + (S - 1)) S (2000 * S + (S - 1)) S S-pos S-pos (mul-le-mul-right S (more Z (2000 * S) (S - 1) wide))) (le-of-eq (digits-div 2000 (less S S-pos)))
-    where
-      more : (a b c : ℕ) → a ≤ b → a + c ≤ b + c
-      more a b c h = omega arith
-
-      less : (d : ℕ) → 0 < d → d - 1 < d
-      less d h = omega arith
+  q-small = le-trans (div-mono (Z + (S - 1)) S (2000 * S + (S - 1)) S S-pos S-pos (mul-le-mul-right S (add-le-add wide (le-refl (S - 1))))) (le-of-eq (digits-div 2000 (pred-lt S S-pos)))
 
   abbrev w : Float
   w = div binary64 z (ten j)
@@ -346,13 +282,8 @@ module _ (z : Float) (fz : T (fits binary64 z)) (nz : T (is-finite z)) (h : T (l
   w-le : T (le w (round binary64 false q 1))
   w-le = subst (λ (x : Float). T (le x (round binary64 false q 1))) (sym w-is) (round-mono binary64 Z S q 1 S-pos (pow-pos 0) (le-trans (le-of-eq (mul-one Z)) q-over))
 
-  q-finite : (x : Float) → HasValue x false q 1 → T (is-finite x)
-  q-finite nan h = h
-  q-finite (inf s) h = h
-  q-finite (fin s m e) h = tt
-
   w-number : T (is-finite w)
-  w-number = number-below (view w w-nonneg) (view (round binary64 false q 1) (nonneg-round binary64 q 1)) w-le (q-finite (round binary64 false q 1) q-value)
+  w-number = finite-under w (round binary64 false q 1) (nonneg-zero w w-nonneg) w-le (finite-of-value (round binary64 false q 1) false q 1 q-value)
 
   -- so the result is at most any double t of U units with z + s - 1 ≤ U
   pub up-le : (t : Float) (U : ℕ) → T (fits binary64 t) → HasValue t false U (2 ^ 1074) → Z + (S - 1) ≤ U → T (le (up-to z i) t)
@@ -375,32 +306,18 @@ plain u z s g a b c d = omega arith
 enough : (u z s g : ℕ) → z ≤ g → 1000 * s ≤ 101 * z → 0 < s → 2000 * (g * 9007199254740992) ≤ 2001 * (8106479329266893 * u) + 1000 * 9007199254740992 → z + (s - 1) ≤ u
 enough u z s g a b c d = plain u z s g a b c (le-of-mul-le-mul-right {k = 9007199254740992} (lighter u g d) (lit< tt))
 
-module _ (m : ℕ) (e : ℤ) (f : T (fits binary64 (fin false m e))) (n : ℕ) (d : ℤ) (l : T (le (fin false n d) one)) where
+module _ (m : ℕ) (e : ℤ) (f : T (fits binary64 (fin false m e))) (n : ℕ) (d : ℤ) (l : T (fin false n d ⩽ 1f)) where
   abbrev z : Float
   z = mul binary64 (mul binary64 nine (fin false m e)) (fin false n d)
 
-  not-infinite : (x : Float) → T (is-finite x) → T (infinite x) → ⊥
-  not-infinite nan h k = k
-  not-infinite (inf s) h k = h
-  not-infinite (fin s m e) h k = k
-
   z-le : T (le z (mul binary64 nine (fin false m e)))
-  z-le =
-      subst (λ (x : Float). T (le z x)) (own-one (g m e f) (mul-fits binary64 nine (fin false m e)) (g-number m e f) (g-fine m e f .sign))
-      (mul-mono (g m e f) (g m e f) n d 1 (pos 0)
-      (record { sign = g-fine m e f .sign; grows = λ x. absurd (not-infinite (g m e f) (g-number m e f) x) })
-      (record { sign = g-fine m e f .sign; grows = λ x. absurd (not-infinite (g m e f) (g-number m e f) x) })
-      (self (view (g m e f) (g-fine m e f .sign))) l)
-    where
-      self : {x : Float} → View x → T (le x x)
-      self endless = le-inf (inf false) tt
-      self (number m e) = cross→le m e m e (le-refl (m * up e * down e))
+  z-le = mul-shrinks (g m e f) (fin false n d) (mul-fits binary64 nine (fin false m e)) (nonneg-zero (g m e f) (g-nonneg m e f)) (nonneg-zero (fin false n d) tt) l (mul-number (g m e f) (fin false n d) (g-number m e f) tt)
 
   z-nonneg : T (nonneg z)
-  z-nonneg = mul-fine (g m e f) n d (record { sign = g-fine m e f .sign; grows = λ x. absurd (not-infinite (g m e f) (g-number m e f) x) }) .sign
+  z-nonneg = mul-sign (g m e f) (fin false n d) (g-nonneg m e f) tt (mul-number (g m e f) (fin false n d) (g-number m e f) tt)
 
   z-number : T (is-finite z)
-  z-number = number-below (view z z-nonneg) (view (g m e f) (g-fine m e f .sign)) z-le (g-number m e f)
+  z-number = finite-under z (g m e f) (nonneg-zero z z-nonneg) z-le (g-number m e f)
 
   z-fits : T (fits binary64 z)
   z-fits = mul-fits binary64 (mul binary64 nine (fin false m e)) (fin false n d)
@@ -421,7 +338,7 @@ module _ (m : ℕ) (e : ℤ) (f : T (fits binary64 (fin false m e))) (n : ℕ) (
       go true false h = inl refl
       go false b h = inl refl
 
-pub retry-le : (t y : Float) → T (fits binary64 t) → T (is-finite t) → T (nonneg t) → T (is-finite y) → T (nonneg y) → T (le y one)
+pub retry-le : (t y : Float) → T (fits binary64 t) → T (is-finite t) → T (nonneg t) → T (is-finite y) → T (nonneg y) → T (y ⩽ 1f)
     → (round2 (mul binary64 (mul binary64 nine t) y) ≡ nan) ⊎ T (le (round2 (mul binary64 (mul binary64 nine t) y)) t)
 retry-le nan y f h p k q l = absurd h
 retry-le (inf s) y f h p k q l = absurd h

@@ -6,7 +6,7 @@ use Rattle.doubles.specs.F64.{_⊗_, _⊘_, _⩽_, bits}
 use Rattle.power.specs.Power.{root, open-Power}
 use Rattle.round2.specs.Rounded.{round2, open-Rounded}
 
--- 0.9 and 1.2, safety factors (Sidje 1998)
+-- 0.9 and 1.2, safety factors (Sidje 1998): of the length tried next, and of the error allowed
 abbrev pub GAMMA : Float
 GAMMA = bits 0x3fec_cccc_cccc_cccd
 

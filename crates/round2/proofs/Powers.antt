@@ -1,7 +1,7 @@
 -- The powers of ten grow with the exponent, so the entry that `decade` finds is the largest at most x. Assumes nothing.
-use mathlib.Core.Path.{_≡_, refl, sym, ap, _∙_, subst}
-use Prim.Native.Nat.{ℕ, zero, suc, _+_, _-_, _*_, _^_, _≤_, _<_, zero-le}
-use native.Mathlib.Nat.{le-trans, le-of-eq, le-of-lt, lt-of-le-of-lt, lt-of-not-le, mul-le-mul, lt-of-lt-of-le, pow-le-pow-right, zero-lt-suc}
+use mathlib.Core.Path.{_≡_, ap, _∙_}
+use Prim.Native.Nat.{ℕ, _-_, _^_, _≤_, _<_, zero-le}
+use native.Mathlib.Nat.{lt-of-le-of-lt, lt-of-not-le, mul-le-mul, lt-of-lt-of-le, pow-le-pow-right}
 use native.Mathlib.Omega.{arith}
 use mathlib.Core.Bool.{Bool, true, false, _&&_}
 use lib.Dec.{T, ltb, ltb→lt, lt→ltb, lit<}
@@ -12,7 +12,6 @@ use lib.Ieee.Positive.{positive, above, above-of-le}
 use borrow.Author.Tests.{lt-ltb, le-ltb}
 use Rattle.doubles.specs.F64.{nonneg}
 use Rattle.doubles.proofs.Order.{nonneg-round, le-trans-nonneg}
-use Rattle.lists.specs.Greatest.{greatest}
 use Rattle.lists.proofs.Greatest.{Greatest, greatest-is}
 use Rattle.round2.specs.Ten.{ten}
 use Rattle.round2.specs.Rounded.{reaches, decade}
@@ -63,9 +62,9 @@ module _ (x : Float) (h : T (le (ten 1) x)) where
   one-reaches : T (reaches x 1)
   one-reaches = h
 
-  pub decade-is : Greatest (reaches x) 0 (0 + 2 ^ 10) (decade x)
+  pub decade-is : Greatest (reaches x) 0 (2 ^ 10) (decade x)
   unfolding decade
-  decade-is = greatest-is (reaches x) down-closed 10 0 (down-closed 0 1 zero-le one-reaches)
+  decade-is = greatest-is (reaches x) down-closed 10 (down-closed 0 1 zero-le one-reaches)
 
   pub decade-under : decade x < 632
   decade-under = ltb→lt (decade x) 632 (and-l (ltb (decade x) 632) (le (ten (decade x)) x) (decade-is .passes))

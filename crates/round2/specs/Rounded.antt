@@ -2,7 +2,7 @@
 use Prim.Native.Nat.{ℕ, _-_}
 use mathlib.Core.Bool.{Bool, _&&_}
 use lib.Dec.{ltb}
-use lib.Ieee.{Float, nan, inf}
+use lib.Ieee.{Float, nan}
 use Rattle.lists.specs.Greatest.{greatest}
 use Rattle.doubles.specs.F64.{if_then_else_, _⊗_, _⊘_, _⋖_, _⩽_, +∞}
 use Rattle.doubles.specs.Whole.{ceil}

@@ -5,6 +5,7 @@ ghost use lib.Dec.{T};
 ghost use lib.Ieee.{le};
 ghost use Rattle.round2.specs.Ten.{ten};
 ghost use Rattle.round2.specs.Rounded.{decade, round2};
+use doubles::INF_BITS;
 
 const TENS: [f64; 632] = [
     1e-323,
@@ -673,7 +674,7 @@ pub fn round2(x: f64) -> f64
     ensures { λ r. ⌜ r ≡ round2 x ⌝ }
 {
     if ten(1) <= x {
-        if x < f64::from_bits(0x7ff0_0000_0000_0000) {
+        if x < f64::from_bits(INF_BITS) {
             let s = ten(decade(x) - 1);
             return float::ceil(x / s) * s;
         }

@@ -3,27 +3,24 @@ use mathlib.Core.Path.{_≡_, refl, sym, ap, _∙_, subst}
 use Prim.Native.Nat.{ℕ, zero, suc, _+_, _-_, _*_, _/_, _%_, _^_, _≤_, _<_}
 use native.Mathlib.Nat.{lt-irrefl, mul-assoc, zero-mul, mul-pos, mul-div-cancel, eq-zero-or-pos}
 use native.Mathlib.Omega.{arith}
-use mathlib.Core.Logic.{_⊎_, inl, inr}
-use mathlib.Core.Bool.{Bool, true, false, true≢false}
+use mathlib.Core.Logic.{inl, inr}
+use mathlib.Core.Bool.{true, false, true≢false}
 use lib.IntN.{ℤ}
 use lib.Dec.{T}
 use lib.Pow.{pow-add, pow-pos}
-use lib.Ieee.{Float, nan, inf, fin, binary64, up, down, lt, eq, div, ofBits, toBits, fits}
+use lib.Ieee.{Float, nan, inf, fin, binary64, up, down, lt, eq, div, toBits, fits}
 use lib.Ieee.Fits.{down-pos}
 use Rattle.doubles.specs.F64.{+0}
-use Rattle.doubles.specs.Value.{val, unitsOf}
-use Rattle.doubles.proofs.Patterns.{val-field}
-use Rattle.doubles.proofs.Magnitude.{finite-bits}
+use Rattle.doubles.specs.Value.{val}
+use Rattle.doubles.proofs.Patterns.{val-subnormal, val-field}
+use Rattle.doubles.proofs.Magnitude.{finite-bits, inf-bits}
 use Rattle.doubles.proofs.Unique.{pattern-value}
-use Rattle.doubles.proofs.Compare.{positive-size, is-zero, is-above, Below, is-below, zero-over-zero}
+use Rattle.doubles.proofs.Compare.{positive-size, zero-cases, is-above, below-cases, zero-over-zero}
 use Rattle.sqrt.specs.Sqrt.{sqrt, nearest-root}
 
 pub when-zero : (x : Float) → eq x +0 ≡ true → x ≡ sqrt x
 unfolding sqrt
-when-zero nan h = absurd (is-zero nan h)
-when-zero (inf s) h = absurd (is-zero (inf s) h)
-when-zero (fin s zero e) h = refl
-when-zero (fin s (suc m) e) h = absurd (is-zero (fin s (suc m) e) h)
+when-zero = zero-cases (λ x. x ≡ sqrt x) (λ s e. refl)
 
 pub when-infinite : (x : Float) → T (fits binary64 x) → lt +0 x ≡ true → 9218868437227405312 ≤ toBits binary64 x → x ≡ sqrt x
 unfolding sqrt
@@ -39,10 +36,6 @@ when-infinite (fin false m e) f h l = absurd (clash (toBits binary64 (fin false 
   where
     clash : (b : ℕ) → 9218868437227405312 ≤ b → b < 9218868437227405312 → ⊥
     clash b p q = omega arith
-
-inf-bits : toBits binary64 (inf false) ≡ 9218868437227405312
-unfolding toBits
-inf-bits = refl
 
 -- the definition, by the pattern's number
 pub when-finite : (x : Float) → T (fits binary64 x) → lt +0 x ≡ true → toBits binary64 x < 9218868437227405312 → (sqrt x ≡ nearest-root (val (toBits binary64 x) * 2 ^ 1074)) × (0 < val (toBits binary64 x))
@@ -62,14 +55,8 @@ when-finite (fin false (suc m) e) f h l =
       ],
     )
 
-field-zero : (b : ℕ) → b / 4503599627370496 ≡ 0 → b % 4503599627370496 ≡ b
-field-zero b h = omega arith
-
-pub subnormal : (b : ℕ) → b / 4503599627370496 ≡ 0 → val b ≡ b
-subnormal b h = ap (λ (x : ℕ). unitsOf x (b % 4503599627370496)) h ∙ field-zero b h
-
 pub subnormal-root : (b : ℕ) → b / 4503599627370496 ≡ 0 → nearest-root (b * 2 ^ 1020 * 18014398509481984) ≡ nearest-root (val b * 2 ^ 1074)
-subnormal-root b h = ap nearest-root (mul-assoc b (2 ^ 1020) 18014398509481984 ∙ ap (λ (z : ℕ). z * 2 ^ 1074) (sym (subnormal b h)))
+subnormal-root b h = ap nearest-root (mul-assoc b (2 ^ 1020) 18014398509481984 ∙ ap (λ (z : ℕ). z * 2 ^ 1074) (sym (val-subnormal b h)))
 
 pub normal-root : (b : ℕ) → (b / 4503599627370496 ≡ 0 → ⊥) → nearest-root ((b % 4503599627370496 + 4503599627370496) * 2 ^ (1019 + b / 4503599627370496) * 18014398509481984) ≡ nearest-root (val b * 2 ^ 1074)
 normal-root b h =
@@ -93,12 +80,5 @@ normal-root b h =
 
 -- ---- the rest
 pub when-not : (x : Float) → eq x +0 ≡ false → lt +0 x ≡ false → div binary64 +0 +0 ≡ sqrt x
-when-not x h k = zero-over-zero ∙ go x (is-below x h k)
-  where
-    go : (x : Float) → Below x → nan ≡ sqrt x
-    go nan b = unfold sqrt in refl
-    go (inf true) b = unfold sqrt in refl
-    go (inf false) b = absurd (true≢false (sym b))
-    go (fin s zero e) b = absurd b
-    go (fin true (suc m) e) b = unfold sqrt in refl
-    go (fin false (suc m) e) b = absurd (true≢false (sym b))
+unfolding sqrt
+when-not = below-cases (λ x. div binary64 +0 +0 ≡ sqrt x) zero-over-zero zero-over-zero (λ m e. zero-over-zero)

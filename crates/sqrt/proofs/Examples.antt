@@ -1,6 +1,6 @@
 -- Closed examples, computed. Assumes nothing.
 use mathlib.Core.Path.{_≡_, refl}
-use lib.Ieee.{Float, binary64, ofBits}
+use lib.Ieee.{binary64, ofBits}
 use Rattle.sqrt.specs.Sqrt.{sqrt, open-Sqrt}
 
 four : sqrt (ofBits binary64 0x4010_0000_0000_0000) ≡ ofBits binary64 0x4000_0000_0000_0000

@@ -6,6 +6,7 @@ use native.Mathlib.Nat.{le-trans, le-of-eq, lt-of-lt-of-le, lt-of-le-of-lt, lt-o
 use native.Mathlib.Omega.{arith}
 use lib.Pow.{pow-add, pow-pos, pow-mono}
 use lib.Ieee.{binary64, ofBits}
+use Rattle.lists.proofs.Bounds.{pow-pred}
 use Rattle.sqrt.specs.Sqrt.{nearest-root}
 use Rattle.sqrt.proofs.Squares.{square-lt, square-next}
 use Rattle.sqrt.proofs.Near.{near-root, pattern-under}
@@ -92,11 +93,11 @@ module _ (m z r : ℕ) (ml : 4503599627370496 ≤ m) (mh : m < 18014398509481984
       most : (m : ℕ) → m < 18014398509481984 → m * 18014398509481984 < 324518553658426726783156020576256
       most m h = omega arith
 
-  pub rounded : ofBits binary64 ((z + 1) * 4503599627370496 + half-up r) ≡ nearest-root N
-  rounded = near-root N (half-up r) z low high (scale (2 * half-up r - 1) below-half) (scale' (2 * half-up r + 1) above-half) (omega (arith, r-low, r-high)) (omega (arith, r-low, r-high)) zh
+  pub half-up-root : ofBits binary64 ((z + 1) * 4503599627370496 + half-up r) ≡ nearest-root N
+  half-up-root = near-root N (half-up r) z low high (scale (2 * half-up r - 1) below-half) (scale' (2 * half-up r + 1) above-half) (omega (arith, r-low, r-high)) (omega (arith, r-low, r-high)) zh
 
-  pub under : (z + 1) * 4503599627370496 + half-up r < 9218868437227405312
-  under = pattern-under N (half-up r) z low high (scale (2 * half-up r - 1) below-half) (scale' (2 * half-up r + 1) above-half) (omega (arith, r-low, r-high)) (omega (arith, r-low, r-high)) zh
+  pub half-up-under : (z + 1) * 4503599627370496 + half-up r < 9218868437227405312
+  half-up-under = pattern-under N (half-up r) z low high (scale (2 * half-up r - 1) below-half) (scale' (2 * half-up r + 1) above-half) (omega (arith, r-low, r-high)) (omega (arith, r-low, r-high)) zh
 
 -- ---- bringing the significand to 2 ^ 52 or more: m * 2 ^ f stays
 pub record Scaled (m0 f0 m f : ℕ) : Type 0 where
@@ -118,10 +119,7 @@ pub scaled-step : (m0 f0 m f : ℕ) → 0 < f → m < 4503599627370496 → Scale
 scaled-step m0 f0 m f p l s =
     let q = s .pos in
     let t = s .less in
-    record { same = mul-assoc m 2 (2 ^ (f - 1)) ∙ ap (λ (k : ℕ). m * k) (sym (pow-succ' 2 (f - 1)) ∙ ap (λ (k : ℕ). 2 ^ k) (back f p)) ∙ s .same; pos = omega arith; high = omega arith; less = omega arith }
-  where
-    back : (f : ℕ) → 0 < f → suc (f - 1) ≡ f
-    back f h = omega arith
+    record { same = mul-assoc m 2 (2 ^ (f - 1)) ∙ ap (λ (k : ℕ). m * k) (sym (pow-pred f p)) ∙ s .same; pos = omega arith; high = omega arith; less = omega arith }
 
 -- m0 * 2 ^ f0 * 2 ^ 54 by the scaled significand and half the exponent
 pub even-is : (m0 f0 m f : ℕ) → Scaled m0 f0 m f → f % 2 ≡ 0 → m * 18014398509481984 * (2 ^ (f / 2) * 2 ^ (f / 2)) ≡ m0 * 2 ^ f0 * 18014398509481984

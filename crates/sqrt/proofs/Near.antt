@@ -2,7 +2,7 @@
 use mathlib.Core.Path.{_≡_, refl, sym, ap, _∙_, subst}
 use mathlib.Core.Logic.{_⊎_, inl, inr}
 use Prim.Native.Nat.{ℕ, suc, _+_, _-_, _*_, _/_, _^_, _≤_, _<_}
-use native.Mathlib.Nat.{le-of-eq, le-of-lt, lt-of-lt-of-le, lt-of-le-of-lt, lt-irrefl, eq-or-lt-of-le, mul-le-mul, mul-comm, mul-assoc, mul-left-comm, mul-pos, mul-lt-mul-of-pos-right, mul-div-mul-right, pow-succ'}
+use native.Mathlib.Nat.{le-of-eq, le-of-lt, lt-of-lt-of-le, lt-of-le-of-lt, lt-irrefl, eq-or-lt-of-le, mul-le-mul, mul-comm, mul-assoc, mul-left-comm, mul-pos, mul-lt-mul-of-pos-left, mul-lt-mul-of-pos-right, mul-div-mul-right, pow-succ'}
 use native.Mathlib.Omega.{arith}
 use native.Mathlib.Numerals.{add-one}
 use mathlib.Core.Bool.{Bool, true, false, cond}
@@ -15,6 +15,7 @@ use lib.Ieee.Nearest.{closest}
 use lib.Ieee.Order.{drop}
 use lib.Ieee.Scale.{grid, round-val}
 use lib.Ieee.Exact.{HasValue}
+use Rattle.lists.proofs.Bounds.{le-of-lt-next}
 use Rattle.doubles.proofs.Patterns.{bits-value, val-carry}
 use Rattle.doubles.specs.Value.{val}
 use Rattle.doubles.proofs.Unique.{value-unique}
@@ -48,11 +49,8 @@ sticky-high n c h = go (isqrt n) (cond (eqb (isqrt n * isqrt n) n) 0 1) c (last-
 
 sticky-low : (n b : ℕ) → b * b < n → 2 * b < sticky n
 unfolding sticky
-sticky-low n b h = go (eq-or-lt-of-le (below b (isqrt n) (square-lt b (isqrt n + 1) (lt-of-le-of-lt (le-of-lt h) (isqrt-is n .1)))))
+sticky-low n b h = go (eq-or-lt-of-le (le-of-lt-next b (isqrt n) (square-lt b (isqrt n + 1) (lt-of-le-of-lt (le-of-lt h) (isqrt-is n .1)))))
   where
-    below : (b s : ℕ) → b < s + 1 → b ≤ s
-    below b s h = omega arith
-
     more : (b s t : ℕ) → b < s → 2 * b < 2 * s + t
     more b s t h = omega arith
 
@@ -80,10 +78,7 @@ module _ (n q z : ℕ)
   units-is = mul-div-mul-right {m = 2 ^ 1074} (sticky n) 2 (pow-pos 1074) ∙ sticky-half n
 
   size-is : size (isqrt n) ≡ suc (53 + z)
-  size-is = size-exact (53 + z) (isqrt n) (below (2 ^ (53 + z)) (isqrt n) (square-lt (2 ^ (53 + z)) (isqrt n + 1) (lt-of-le-of-lt lo (isqrt-is n .1)))) (square-lt (isqrt n) (2 ^ suc (53 + z)) (lt-of-le-of-lt (isqrt-is n .0) hi))
-    where
-      below : (b s : ℕ) → b < s + 1 → b ≤ s
-      below b s h = omega arith
+  size-is = size-exact (53 + z) (isqrt n) (le-of-lt-next (2 ^ (53 + z)) (isqrt n) (square-lt (2 ^ (53 + z)) (isqrt n + 1) (lt-of-le-of-lt lo (isqrt-is n .1)))) (square-lt (isqrt n) (2 ^ suc (53 + z)) (lt-of-le-of-lt (isqrt-is n .0) hi))
 
   drop-is : drop 53 (sticky n * 2 ^ 1074) (2 ^ 1075) ≡ z + 1
   drop-is = ap (λ (k : ℕ). size k - 53) units-is ∙ ap (λ (k : ℕ). k - 53) size-is ∙ rest z
@@ -106,10 +101,7 @@ module _ (n q z : ℕ)
       regroup k X = simp (mul-assoc, mul-comm, mul-left-comm)
 
   double-lt : (c d : ℕ) → c < d → 2 * (c * 2 ^ 1074) < 2 * (d * 2 ^ 1074)
-  double-lt c d h = twice-lt (c * 2 ^ 1074) (d * 2 ^ 1074) (mul-lt-mul-of-pos-right h (pow-pos 1074))
-    where
-      twice-lt : (x y : ℕ) → x < y → 2 * x < 2 * y
-      twice-lt x y h = omega arith
+  double-lt c d h = mul-lt-mul-of-pos-left (mul-lt-mul-of-pos-right h (pow-pos 1074)) (lit< tt)
 
   kept-is : closest (sticky n * 2 ^ 1074) (2 ^ 1075 * 2 ^ (z + 1)) ≡ q
   kept-is =

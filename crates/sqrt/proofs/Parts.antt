@@ -1,8 +1,9 @@
 -- The whole square root of m * 2 ^ 54 in two halves of 27 digits: the upper is that of m, the lower comes by one division. Assumes nothing.
 use mathlib.Core.Path.{_≡_, ap, _∙_}
 use Prim.Native.Nat.{ℕ, zero, suc, _+_, _-_, _*_, _/_, _≤_, _<_}
-use native.Mathlib.Nat.{lt-of-le-of-lt, mul-comm, mul-right-comm, mul-mul-mul-comm, mul-add, add-mul, div-le-of-le-mul}
+use native.Mathlib.Nat.{lt-of-le-of-lt, mul-comm, mul-right-comm, mul-mul-mul-comm, mul-add, add-mul, div-le-of-le-mul, not-suc-le-zero}
 use native.Mathlib.Omega.{arith}
+use Rattle.lists.proofs.Bounds.{le-of-lt-next}
 use Rattle.sqrt.proofs.Squares.{square-mono, square-lt, square-next}
 
 -- ---- the upper half
@@ -13,10 +14,7 @@ pub root-small : (m r : ℕ) → m < 18014398509481984 → r * r ≤ m → r < 1
 root-small m r h l = square-lt r 134217728 (lt-of-le-of-lt l h)
 
 pub square-pos : (m r : ℕ) → m < r * r → 0 < r
-square-pos m zero h = absurd (none m h)
-  where
-    none : (m : ℕ) → m < 0 → ⊥
-    none m h = omega arith
+square-pos m zero h = absurd (not-suc-le-zero h)
 square-pos m (suc r) h = omega arith
 
 -- ---- the lower half
@@ -33,10 +31,7 @@ module _ (m s : ℕ) (ml : 4503599627370496 ≤ m) (mh : m < 18014398509481984) 
   s-high = root-small m s mh lo
 
   pub s-low : 67108864 ≤ s
-  s-low = below s (square-lt 67108864 (s + 1) (lt-of-le-of-lt ml hi))
-    where
-      below : (s : ℕ) → 67108864 < s + 1 → 67108864 ≤ s
-      below s h = omega arith
+  s-low = le-of-lt-next 67108864 s (square-lt 67108864 (s + 1) (lt-of-le-of-lt ml hi))
 
   rest-most : (m - s * s) * 67108864 ≤ s * 134217728
   rest-most = let e = square-next s in omega arith
@@ -54,14 +49,14 @@ module _ (m s : ℕ) (ml : 4503599627370496 ≤ m) (mh : m < 18014398509481984) 
         let c : s * 134217728 * q ≡ s * q * 134217728 = mul-right-comm s 134217728 q in
         omega arith
 
-    pub kept : q * q ≤ v * 268435456 → ((s * 134217728 + q) * (s * 134217728 + q) ≤ m * 18014398509481984) × (m * 18014398509481984 < (s * 134217728 + q + 1) * (s * 134217728 + q + 1))
-    kept h =
+    pub root-kept : q * q ≤ v * 268435456 → ((s * 134217728 + q) * (s * 134217728 + q) ≤ m * 18014398509481984) × (m * 18014398509481984 < (s * 134217728 + q + 1) * (s * 134217728 + q + 1))
+    root-kept h =
         let e = expand in
         let n = square-next (s * 134217728 + q) in
         (omega arith, omega arith)
 
-    pub lowered : v * 268435456 < q * q → ((s * 134217728 + q - 1) * (s * 134217728 + q - 1) ≤ m * 18014398509481984) × (m * 18014398509481984 < (s * 134217728 + q - 1 + 1) * (s * 134217728 + q - 1 + 1))
-    lowered h = go (s * 134217728 + q - 1) (omega (arith, s-low))
+    pub root-lowered : v * 268435456 < q * q → ((s * 134217728 + q - 1) * (s * 134217728 + q - 1) ≤ m * 18014398509481984) × (m * 18014398509481984 < (s * 134217728 + q - 1 + 1) * (s * 134217728 + q - 1 + 1))
+    root-lowered h = go (s * 134217728 + q - 1) (omega (arith, s-low))
       where
         go : (r : ℕ) → s * 134217728 + q ≡ r + 1 → (r * r ≤ m * 18014398509481984) × (m * 18014398509481984 < (r + 1) * (r + 1))
         go r i =

@@ -2,25 +2,26 @@
 -- `round` is the rounding of fractions and grows with them, so no other double could stand for the rounded root. Assumes nothing.
 use mathlib.Core.Path.{_≡_, refl, sym, ap, _∙_, subst}
 use mathlib.Core.Logic.{_⊎_, inl, inr}
-use Prim.Native.Nat.{ℕ, zero, suc, _+_, _-_, _*_, _/_, _%_, _^_, _≤_, _<_}
-use native.Mathlib.Nat.{le-refl, le-trans, le-of-eq, le-of-lt, lt-of-lt-of-le, lt-of-le-of-lt, lt-of-not-le, not-le-of-lt, lt-irrefl, one-mul, mul-comm, mul-assoc, mul-left-comm, mul-right-comm, mul-mul-mul-comm, mul-pos, mul-le-mul, mul-le-mul-right, mul-lt-mul-of-pos-right, div-add-mod', mod-lt, div-eq-of-lt-le, pow-succ', mul-div-cancel, zero-mul, add-mul, zero-lt-suc, le-of-mul-le-mul-right}
+use Prim.Native.Nat.{ℕ, zero, suc, _+_, _-_, _*_, _/_, _%_, _^_, _≤_, _<_, zero-le}
+use native.Mathlib.Nat.{le-refl, le-trans, le-of-eq, le-of-lt, lt-of-lt-of-le, lt-of-le-of-lt, lt-of-not-le, not-le-of-lt, lt-irrefl, one-mul, mul-comm, mul-assoc, mul-left-comm, mul-right-comm, mul-mul-mul-comm, mul-pos, mul-le-mul, mul-le-mul-right, mul-lt-mul-of-pos-left, mul-lt-mul-of-pos-right, le-antisymm, div-add-mod', mod-lt, div-eq-of-lt-le, mul-div-cancel, zero-mul, add-mul, zero-lt-suc, le-of-mul-le-mul-right, add-zero}
 use native.Mathlib.Omega.{arith}
 use mathlib.Core.Bool.{Bool, true, false, cond}
 use lib.IntN.{ℤ}
-use lib.Dec.{T, eqb, eqb→eq, eqb-refl, lit≤}
+use lib.Dec.{T, eqb, eqb→eq, eqb-refl, lit≤, lit<}
 use lib.Pow.{pow-pos, pow-mono}
-use lib.Ieee.{Float, inf, fin, binary64, up, down, size, round, units, le, fits, toBits}
+use lib.Ieee.{Float, fin, binary64, up, down, size, round, units, le, fits, toBits}
 use lib.Ieee.Fits.{round-is, down-pos, up-pos}
 use lib.Ieee.Digits.{size-lt, size-reaches}
 use lib.Ieee.Nearest.{closest}
 use lib.Ieee.Order.{round-mono}
+use Rattle.doubles.proofs.Monotone.{round-number}
+use Rattle.doubles.proofs.Total.{⩽-refl}
 use Rattle.doubles.specs.Value.{val}
-use Rattle.doubles.proofs.Order.{View, endless, number, view, nonneg-round, le-inf, cross→le}
-use Rattle.lists.proofs.Bounds.{lt-or-le}
+use Rattle.lists.proofs.Bounds.{lt-or-le, pow-pred, le-of-lt-next, lt-of-le-of-ne}
 use Rattle.doubles.proofs.Unique.{pattern-value}
 use Rattle.sqrt.specs.Sqrt.{isqrt, nearest-root, sqrt}
 use Rattle.sqrt.proofs.Whole.{isqrt-is}
-use Rattle.doubles.proofs.Nearest.{closest-is}
+use Rattle.doubles.proofs.Nearest.{below-half, closest-is}
 use Rattle.sqrt.proofs.Squares.{square-lt}
 use Rattle.sqrt.proofs.Near.{sticky, nearest-root-is}
 
@@ -38,10 +39,7 @@ module _ (s k : ℕ) (kp : 0 < k) (big : 2 ^ (k - 1) ≤ s) where
 
   twice : u ≡ 2 * h
   unfolding h u
-  twice = ap (λ (z : ℕ). 2 ^ z) (back k kp) ∙ pow-succ' 2 (k - 1)
-    where
-      back : (k : ℕ) → 0 < k → k ≡ suc (k - 1)
-      back k p = omega arith
+  twice = pow-pred k kp
 
   split : mid s k * u + (s + h) % u ≡ s + h
   unfolding h u
@@ -58,10 +56,7 @@ module _ (s k : ℕ) (kp : 0 < k) (big : 2 ^ (k - 1) ≤ s) where
       big' = unfold h in big
 
       zero-product : (m u : ℕ) → m ≤ 0 → m * u ≡ 0
-      zero-product m u g = ap (λ (z : ℕ). z * u) (none m g) ∙ zero-mul u
-        where
-          none : (m : ℕ) → m ≤ 0 → m ≡ 0
-          none m g = omega arith
+      zero-product m u g = ap (λ (z : ℕ). z * u) (le-antisymm g zero-le) ∙ zero-mul u
 
       clash : (x u h s r : ℕ) → x ≡ 0 → x + r ≡ s + h → r < u → u ≡ 2 * h → h ≤ s → ⊥
       clash x u h s r e f l t b = omega arith
@@ -73,26 +68,17 @@ module _ (s k : ℕ) (kp : 0 < k) (big : 2 ^ (k - 1) ≤ s) where
   closest-gap : (a b : ℕ) → 0 < b → s * b < a → a < (s + 1) * b → closest a (b * 2 ^ k) ≡ mid s k
   closest-gap a b B lo hi =
       closest-is a (b * 2 ^ k) (mid s k) (mul-pos B (pow-pos k)) mid-pos
-      (lt-of-le-of-lt (le-trans (le-of-eq (order (2 * mid s k - 1) b (2 ^ k))) (le-trans (mul-le-mul-right b below) (le-of-eq (mul-assoc 2 s b)))) (double (s * b) a lo))
-      (lt-of-lt-of-le (double a ((s + 1) * b) hi) (le-trans (le-of-eq (sym (mul-assoc 2 (s + 1) b))) (le-trans (mul-le-mul-right b above) (le-of-eq (sym (order (2 * mid s k + 1) b (2 ^ k)))))))
+      (lt-of-le-of-lt (le-trans (le-of-eq (order (2 * mid s k - 1) b (2 ^ k))) (le-trans (mul-le-mul-right b below) (le-of-eq (mul-assoc 2 s b)))) (mul-lt-mul-of-pos-left lo (lit< tt)))
+      (lt-of-lt-of-le (mul-lt-mul-of-pos-left hi (lit< tt)) (le-trans (le-of-eq (sym (mul-assoc 2 (s + 1) b))) (le-trans (mul-le-mul-right b above) (le-of-eq (sym (order (2 * mid s k + 1) b (2 ^ k)))))))
     where
       order : (x b p : ℕ) → x * (b * p) ≡ x * p * b
       order x b p = simp (mul-assoc, mul-comm, mul-left-comm)
 
-      double : (x y : ℕ) → x < y → 2 * x < 2 * y
-      double x y l = omega arith
-
       below : (2 * mid s k - 1) * 2 ^ k ≤ 2 * s
-      below = unfold u in go (mid s k * 2 ^ k) ((2 * mid s k - 1) * 2 ^ k) (2 ^ k) h ((s + h) % u) s split twice (less (mid s k) (2 ^ k) mid-pos)
+      below = unfold u in go (mid s k * 2 ^ k) ((2 * mid s k - 1) * 2 ^ k) (2 ^ k) h ((s + h) % u) s split twice (below-half (mid s k) (2 ^ k) mid-pos)
         where
           go : (x y p h r s : ℕ) → x + r ≡ s + h → p ≡ 2 * h → y + p ≡ 2 * x → y ≤ 2 * s
           go x y p h r s e t f = omega arith
-
-          less : (m p : ℕ) → 0 < m → (2 * m - 1) * p + p ≡ 2 * (m * p)
-          less m p g = ap (λ (z : ℕ). (2 * m - 1) * p + z) (sym (one-mul p)) ∙ sym (add-mul (2 * m - 1) 1 p) ∙ ap (λ (z : ℕ). z * p) (back m g) ∙ mul-assoc 2 m p
-            where
-              back : (m : ℕ) → 0 < m → 2 * m - 1 + 1 ≡ 2 * m
-              back m g = omega arith
 
       above : 2 * (s + 1) ≤ (2 * mid s k + 1) * 2 ^ k
       above = unfold u in go (mid s k * 2 ^ k) ((2 * mid s k + 1) * 2 ^ k) (2 ^ k) h ((s + h) % u) s split twice rest (add-mul (2 * mid s k) 1 (2 ^ k) ∙ ap (λ (z : ℕ). 2 * mid s k * 2 ^ k + z) (one-mul (2 ^ k)) ∙ ap (λ (z : ℕ). z + 2 ^ k) (mul-assoc 2 (mid s k) (2 ^ k)))
@@ -120,31 +106,18 @@ either : (n : ℕ) → ((isqrt n * isqrt n ≡ n) × (sticky n ≡ 2 * isqrt n))
 unfolding sticky
 either n = go (eqb (isqrt n * isqrt n) n) (eqb→eq (isqrt n * isqrt n) n) (λ e. subst (λ (z : ℕ). T (eqb (isqrt n * isqrt n) z)) e (eqb-refl (isqrt n * isqrt n)))
   where
-    plus-zero : (a : ℕ) → a + 0 ≡ a
-    plus-zero a = omega arith
-
-    strict : (a n : ℕ) → a ≤ n → (a ≡ n → ⊥) → a < n
-    strict a n l h = omega arith
-
     go : (b : Bool) → (T b → isqrt n * isqrt n ≡ n) → (isqrt n * isqrt n ≡ n → T b) → ((isqrt n * isqrt n ≡ n) × (2 * isqrt n + cond b 0 1 ≡ 2 * isqrt n)) ⊎ ((isqrt n * isqrt n < n) × (2 * isqrt n + cond b 0 1 ≡ 2 * isqrt n + 1))
-    go true f g = inl (f tt, plus-zero (2 * isqrt n))
-    go false f g = inr (strict (isqrt n * isqrt n) n (isqrt-is n .0) g, refl)
-
-self-le : (x : Float) → View x → T (le x x)
-self-le x endless = le-inf (inf false) tt
-self-le x (number m e) = cross→le m e m e (le-refl (m * up e * down e))
+    go true f g = inl (f tt, add-zero (2 * isqrt n))
+    go false f g = inr (lt-of-le-of-ne (isqrt n * isqrt n) n (isqrt-is n .0) g, refl)
 
 same-le : (a c b d : ℕ) → round binary64 false a c ≡ round binary64 false b d → T (le (round binary64 false a c) (round binary64 false b d))
-same-le a c b d e = subst (λ (x : Float). T (le (round binary64 false a c) x)) e (self-le (round binary64 false a c) (view (round binary64 false a c) (nonneg-round binary64 a c)))
+same-le a c b d e = subst (λ (x : Float). T (le (round binary64 false a c) x)) e (⩽-refl (round binary64 false a c) (round-number binary64 false a c))
 
 square-le : (a b : ℕ) → a * a ≤ b * b → a ≤ b
 square-le a b h = elim (lt-or-le b a) [ inl l ↦ absurd (not-le-of-lt (mul-lt l) h) | inr g ↦ g ]
   where
     mul-lt : b < a → b * b < a * a
-    mul-lt l = lt-of-le-of-lt (mul-le-mul (le-refl b) (le-of-lt l)) (mul-lt-mul-of-pos-right l (positive b a l))
-      where
-        positive : (b a : ℕ) → b < a → 0 < a
-        positive b a l = omega arith
+    mul-lt l = lt-of-le-of-lt (mul-le-mul (le-refl b) (le-of-lt l)) (mul-lt-mul-of-pos-right l (lt-of-le-of-lt zero-le l))
 
 square-scaled : (a q : ℕ) → a * a * (q * q) ≡ a * q * (a * q)
 square-scaled a q = mul-mul-mul-comm a a q q
@@ -252,25 +225,19 @@ units-is m e f =
 -- a root of 2 ^ 1074 or more has 54 digits at least
 root-big : (n : ℕ) → 0 < n → 2 ^ 53 ≤ isqrt (n * 2 ^ 1074)
 root-big n h =
-    below (2 ^ 53) (isqrt (n * 2 ^ 1074))
+    le-of-lt-next (2 ^ 53) (isqrt (n * 2 ^ 1074))
     (square-lt (2 ^ 53) (isqrt (n * 2 ^ 1074) + 1) (lt-of-le-of-lt (le-trans (lit≤ tt) (le-trans (le-of-eq (sym (one-mul (2 ^ 1074)))) (mul-le-mul-right (2 ^ 1074) h))) (isqrt-is (n * 2 ^ 1074) .1)))
-  where
-    below : (b s : ℕ) → b < s + 1 → b ≤ s
-    below b s l = omega arith
+
+square-product : (p X : ℕ) → p * X * (p * X) ≡ p * p * X * X
+square-product p X = simp (mul-assoc, mul-comm, mul-left-comm)
 
 scale-up : (p q a d n X : ℕ) → 0 < d → a * X ≡ n * d → p * p * d ≤ a * (q * q) → p * X * (p * X) ≤ n * X * (q * q)
 scale-up p q a d n X D e h =
-    le-trans (le-of-eq (one p X)) (le-trans (mul-le-mul-right X (le-of-mul-le-mul-right (le-trans (le-of-eq (mul-right-comm (p * p) X d)) (le-trans (mul-le-mul-right X h) (le-of-eq (mul-right-comm a (q * q) X ∙ ap (λ (z : ℕ). z * (q * q)) e ∙ mul-right-comm n d (q * q))))) D)) (le-of-eq (mul-right-comm n (q * q) X)))
-  where
-    one : (p X : ℕ) → p * X * (p * X) ≡ p * p * X * X
-    one p X = simp (mul-assoc, mul-comm, mul-left-comm)
+    le-trans (le-of-eq (square-product p X)) (le-trans (mul-le-mul-right X (le-of-mul-le-mul-right (le-trans (le-of-eq (mul-right-comm (p * p) X d)) (le-trans (mul-le-mul-right X h) (le-of-eq (mul-right-comm a (q * q) X ∙ ap (λ (z : ℕ). z * (q * q)) e ∙ mul-right-comm n d (q * q))))) D)) (le-of-eq (mul-right-comm n (q * q) X)))
 
 scale-down : (p q a d n X : ℕ) → 0 < d → a * X ≡ n * d → a * (q * q) ≤ p * p * d → n * X * (q * q) ≤ p * X * (p * X)
 scale-down p q a d n X D e h =
-    le-trans (le-of-eq (sym (mul-right-comm n (q * q) X))) (le-trans (mul-le-mul-right X (le-of-mul-le-mul-right (le-trans (le-of-eq (sym (mul-right-comm a (q * q) X ∙ ap (λ (z : ℕ). z * (q * q)) e ∙ mul-right-comm n d (q * q)))) (le-trans (mul-le-mul-right X h) (le-of-eq (sym (mul-right-comm (p * p) X d))))) D)) (le-of-eq (sym (one p X))))
-  where
-    one : (p X : ℕ) → p * X * (p * X) ≡ p * p * X * X
-    one p X = simp (mul-assoc, mul-comm, mul-left-comm)
+    le-trans (le-of-eq (sym (mul-right-comm n (q * q) X))) (le-trans (mul-le-mul-right X (le-of-mul-le-mul-right (le-trans (le-of-eq (sym (mul-right-comm a (q * q) X ∙ ap (λ (z : ℕ). z * (q * q)) e ∙ mul-right-comm n d (q * q)))) (le-trans (mul-le-mul-right X h) (le-of-eq (sym (mul-right-comm (p * p) X d))))) D)) (le-of-eq (sym (square-product p X))))
 
 pub sqrt-above : (m : ℕ) (e : ℤ) → T (fits binary64 (fin false (suc m) e)) → (p q : ℕ) → 0 < q → p * p * down e ≤ suc m * up e * (q * q) → T (le (round binary64 false p q) (sqrt (fin false (suc m) e)))
 sqrt-above m e f p q Q h =

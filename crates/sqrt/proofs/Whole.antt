@@ -2,6 +2,7 @@
 use mathlib.Core.Path.{sym}
 use Prim.Native.Nat.{ℕ, _+_, _*_, _^_, _≤_, _<_, zero-le}
 use native.Mathlib.Nat.{le-refl, le-trans, lt-of-le-of-lt, lt-of-not-le, mul-le-mul, mul-one, le-of-eq}
+use native.Mathlib.Numerals.{lt-add-one}
 use native.Mathlib.Omega.{arith}
 use mathlib.Core.Bool.{Bool}
 use lib.Dec.{leb, leb→le, le→leb}
@@ -20,20 +21,14 @@ unfolding isqrt
 isqrt-is n =
     let p : ℕ → Bool = λ (s : ℕ). leb (s * s) n in
     let g = greatest p (size n) 0 in
-    let r : Greatest p 0 (0 + 2 ^ size n) g =
-    greatest-is p (λ a b h t. le→leb (a * a) n (le-trans (square-mono a b h) (leb→le (b * b) n t))) (size n) 0 (le→leb 0 n zero-le) in (
+    let r : Greatest p 0 (2 ^ size n) g =
+    greatest-is p (λ a b h t. le→leb (a * a) n (le-trans (square-mono a b h) (leb→le (b * b) n t))) (size n) (le→leb 0 n zero-le) in (
       leb→le (g * g) n (r .passes),
-      lt-of-not-le (λ (h : (g + 1) * (g + 1) ≤ n). r .last (g + 1) (next g) (small g n h) (le→leb ((g + 1) * (g + 1)) n h)),
+      lt-of-not-le (λ (h : (g + 1) * (g + 1) ≤ n). r .last (g + 1) (lt-add-one g) (small g n h) (le→leb ((g + 1) * (g + 1)) n h)),
     )
   where
-    next : (g : ℕ) → g < g + 1
-    next g = omega arith
-
     pos : (g : ℕ) → 0 < g + 1
     pos g = omega arith
 
-    zero-plus : (a b : ℕ) → a < b → a < 0 + b
-    zero-plus a b h = omega arith
-
-    small : (g n : ℕ) → (g + 1) * (g + 1) ≤ n → g + 1 < 0 + 2 ^ size n
-    small g n h = zero-plus (g + 1) (2 ^ size n) (lt-of-le-of-lt (le-trans (self-le (g + 1) (pos g)) h) (size-lt n))
+    small : (g n : ℕ) → (g + 1) * (g + 1) ≤ n → g + 1 < 2 ^ size n
+    small g n h = lt-of-le-of-lt (le-trans (self-le (g + 1) (pos g)) h) (size-lt n)

@@ -1,6 +1,6 @@
 -- The square root of a double: the nearest double to the exact root, ties to even. Definitions only.
 use Prim.Native.Nat.{ℕ, zero, suc, _+_, _*_, _/_, _^_}
-use mathlib.Core.Bool.{Bool, true, false, cond}
+use mathlib.Core.Bool.{true, false, cond}
 use lib.Dec.{leb, eqb}
 use lib.Ieee.{Float, nan, inf, fin, binary64, up, down, size, round}
 use Rattle.lists.specs.Greatest.{greatest}

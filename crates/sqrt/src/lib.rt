@@ -2,7 +2,10 @@
 ghost use mathlib.Core.Path.{_≡_};
 ghost use Prim.Native.Nat.{_+_, _*_, _^_, _<_, _≤_};
 ghost use lib.Ieee.{binary64, ofBits};
+ghost use Rattle.doubles.specs.F64.{INF-BITS};
 ghost use Rattle.sqrt.specs.Sqrt.{sqrt, nearest-root};
+use doubles::INF_BITS;
+use doubles::ONE_BITS;
 
 // A number near the square root of m, from 2^52 up at most one off: a = m / 2^54 as the digits of a double from 1 up,
 // √a by a polynomial and two steps of Heron's method, √m as the last digits of a double from 2^52 up. Any number would
@@ -11,7 +14,7 @@ fn near_root(m: u64) -> u64
     requires { ⌜ m < 2 ^ 54 ⌝ }
     ensures { λ r. ⌜ r < 2 ^ 27 ⌝ }
 {
-    let a = f64::from_bits(0x3ff0_0000_0000_0000 + m / 4) - 1.0;
+    let a = f64::from_bits(ONE_BITS + m / 4) - 1.0;
     let y = 0.2593 + a * (1.052 - 0.3163 * a);
     let z = (y + a / y) * 0.5;
     let shifted = (z + a / z) * 67108864.0 + 4503599627370495.5;
@@ -67,7 +70,7 @@ fn root54(m: u64) -> u64
 // The pattern of the double nearest to the square root of (m * 2^f * 2^54), over 2^1074.
 fn root_bits(significand: u64, exponent: u64) -> u64
     requires { ⌜ (0 < significand) × (significand < 2 ^ 53) × (1020 ≤ exponent) × (exponent < 3066) ⌝ }
-    ensures { λ r. ⌜ (r < 0x7ff0_0000_0000_0000) × (ofBits binary64 r ≡ nearest-root (significand * 2 ^ exponent * 2 ^ 54)) ⌝ }
+    ensures { λ r. ⌜ (r < INF-BITS) × (ofBits binary64 r ≡ nearest-root (significand * 2 ^ exponent * 2 ^ 54)) ⌝ }
 {
     let mut m = significand;
     let mut f = exponent;
@@ -89,7 +92,7 @@ pub fn sqrt(x: f64) -> f64
     }
     if x > 0.0 {
         let b = f64::to_bits(x);
-        if b < 0x7ff0_0000_0000_0000 {
+        if b < INF_BITS {
             let field = b / 0x10_0000_0000_0000;
             if field == 0 {
                 return f64::from_bits(root_bits(b, 1020));

@@ -13,6 +13,7 @@ use Rattle.round2.specs.Rounded.{round2, open-Rounded}
 use Rattle.vectors.specs.Vectors.{dot, open-Vectors}
 use Rattle.general_operator.specs.Csr.{Csr, csr, row-sum-norm, apply-generator}
 use Rattle.generator_action.specs.Mass.{Mass, quotients, open-Mass}
+use Rattle.generator_action.specs.Generator.{forward}
 use Rattle.csr_shift.specs.Shift.{negated-csr-shift}
 use Rattle.csr_shift.specs.declared.Shift.{Shift}
 use Rattle.csr_shift.specs.declared.Shift.the-variants.{Unshifted, By}
@@ -84,7 +85,7 @@ answer (Product a mass x) = apply-generator (quotients a mass) x
 answer (Shifts q) = shift-and-norm (negated-csr-shift q (row-sum-norm q))
 answer (Arguments tau q) = argument tau (row-sum-norm q) ∷ shifted-argument tau (negated-csr-shift q (row-sum-norm q))
 answer (Krylov a tau count w o) =
-    let c = phi-combination-krylov a none tau count w o (replicate (a .n) (nat 7)) (replicate 100 (nat 9)) in
+    let c = phi-combination-krylov (forward a none) tau count w o (replicate (a .n) (nat 7)) (replicate 100 (nat 9)) in
     told (c .answer) ++ c .output
 
 record Case : Type 0 where

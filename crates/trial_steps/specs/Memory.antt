@@ -9,8 +9,7 @@ use Rattle.lists.specs.Window.{window}
 use Rattle.arnoldi.specs.declared.Krylov.{Krylov}
 use Rattle.arnoldi.specs.declared.BasisAnswer.{BasisAnswer}
 use Rattle.arnoldi.specs.declared.BasisAnswer.the-variants.{Breakdown, Full}
-use Rattle.trial_steps.specs.Trials.{Trying, Tried, accepted, stuck}
-use Rattle.trial_steps.specs.declared.Step.{Step}
+use Rattle.trial_steps.specs.Trials.{MAX-REJECT, Trying, Tried, accepted, stuck}
 use Rattle.trial_steps.specs.declared.Trial.{Trial}
 use Rattle.trial_steps.specs.declared.Outcome.{Outcome}
 use Rattle.trial_steps.specs.declared.Outcome.the-variants.{Next, Accepted, NoPlan}
@@ -24,10 +23,10 @@ outcome-at f (NoPlan arg) = out (stuck arg)
 abbrev pub trial-at : Trial → Turn Trying Tried
 trial-at o = outcome-at (o .f) (o .outcome)
 
--- a length to be tried has at most i rejections before it, an accepted one at most ten, and one coefficient for each column
+-- a length to be tried has at most i rejections before it, an accepted one at most MAX-REJECT, and one coefficient for each column
 abbrev pub Within : ℕ → ℕ → Outcome → Type 0
 Within i columns (Next rejections t) = rejections ≤ i
-Within i columns (Accepted s) = (s .rejections ≤ 10) × (s .count ≡ columns)
+Within i columns (Accepted s) = (s .rejections ≤ MAX-REJECT) × (s .count ≡ columns)
 Within i columns (NoPlan arg) = Unit {0}
 
 pub record Modest (i columns : ℕ) (o : Trial) : Type 0 where

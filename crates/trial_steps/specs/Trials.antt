@@ -9,8 +9,12 @@ use Rattle.lists.specs.Window.{window, open-Window}
 use Rattle.doubles.specs.F64.{if_then_else_, _⊖_, _⊗_, _⊘_, _⋖_, bits, at, abs, minNum}
 use Rattle.retry.specs.Retry.{accepts, retry, open-Retry}
 use Rattle.hess_exp.specs.HessExp.{Small, unplanned, column, hess-exp-e1, open-HessExp}
-use Rattle.arnoldi.specs.Basis.{Setting, dim, Columns, Breakdown, Basis, breakdown, full, open-Basis}
+use Rattle.arnoldi.specs.Basis.{Setting, dim, Basis, breakdown, full, open-Basis}
 use Rattle.trial_steps.specs.declared.Estimate.{Estimate}
+
+-- `MAX_REJECT`: how many lengths may be rejected on one basis
+abbrev pub MAX-REJECT : ℕ
+MAX-REJECT = 10
 
 abbrev pub 10f : Float
 10f = bits 0x4024_0000_0000_0000
@@ -58,7 +62,7 @@ exact-step beta hn remaining (column f) = out (accepted 0 remaining f (beta ⊗ 
 -- at most eleven lengths, the first the shorter of the proposed and the remaining
 unfoldable pub trials : Setting → Float → Float → Float → Basis → Turn Trying Tried
 trials p beta next remaining (breakdown b) = exact-step beta (b .hn) remaining (hess-exp-e1 (b .columns .h) (dim p) (b .mb) remaining)
-trials p beta next remaining (full b avnorm) = walk (try-step p beta (b .h) avnorm) 11 0 (on (record { rejections = 0; t = minNum next remaining }))
+trials p beta next remaining (full b avnorm) = walk (try-step p beta (b .h) avnorm) (MAX-REJECT + 1) 0 (on (record { rejections = 0; t = minNum next remaining }))
 
 -- to compute: a line `unfolding open-Trials` opens every definition of this file and of those below it
 unfoldable pub open-Trials : Unit {0}

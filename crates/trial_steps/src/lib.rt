@@ -12,10 +12,13 @@ ghost use Rattle.general_operator.specs.Csr.{Csr};
 ghost use Rattle.phi_action_helpers.specs.declared.Coupling.{Coupling};
 ghost use Rattle.phi_action_helpers.specs.declared.Layout.{Layout};
 ghost use Rattle.arnoldi.specs.Memory.{setting-at, basis-at, Counted};
-ghost use Rattle.trial_steps.specs.Trials.{local-error, try-step, exact-step, trials};
+ghost use Rattle.trial_steps.specs.Trials.{MAX-REJECT, local-error, try-step, exact-step, trials};
 ghost use Rattle.trial_steps.specs.Memory.{trial-at, Modest, columns-in};
 use arnoldi::BasisAnswer;
 use arnoldi::Krylov;
+
+// How many lengths may be rejected on one basis.
+const MAX_REJECT: usize = 10;
 
 // The error of a length, and the order of the root that shortens it.
 pub struct Estimate {
@@ -77,7 +80,7 @@ fn local_error(m: usize, beta: f64, avnorm: f64, f: &[f64]) -> Estimate
 
 // One length tried: accepted, or rejected and shortened.
 fn try_step(h: &[f64], k: Krylov, beta: f64, avnorm: f64, rejections: usize, t: f64) -> Trial
-    requires { ⌜ (k .m ≤ 128) × (rejections ≤ 10) ⌝ }
+    requires { ⌜ (k .m ≤ 128) × (rejections ≤ MAX-REJECT) ⌝ }
     requires { ⌜ length (now h) ≡ (k .m + 2) * (k .m + 2) ⌝ }
     ensures { λ r. ⌜ ((l : Layout) (b : Coupling) (q : Csr) (vectors : List Float) (i : ℕ) → trial-at r ≡ try-step (setting-at l b k q vectors) beta (now (h .entry)) avnorm i (record { rejections = rejections; t = t })) ⌝ }
     ensures { λ r. ⌜ Modest (rejections + 1) (k .m + 1) r ⌝ }
@@ -112,18 +115,18 @@ fn try_step(h: &[f64], k: Krylov, beta: f64, avnorm: f64, rejections: usize, t: 
     }
 }
 
-// At most eleven lengths, the first t.
+// At most MAX_REJECT + 1 lengths, the first t.
 fn try_lengths(h: &[f64], k: Krylov, beta: f64, avnorm: f64, t: f64) -> Trial
     requires { ⌜ k .m ≤ 128 ⌝ }
     requires { ⌜ length (now h) ≡ (k .m + 2) * (k .m + 2) ⌝ }
-    ensures { λ r. ⌜ ((l : Layout) (b : Coupling) (q : Csr) (vectors : List Float) → trial-at r ≡ walk (try-step (setting-at l b k q vectors) beta (now (h .entry)) avnorm) 11 0 (on (record { rejections = 0; t = t }))) ⌝ }
-    ensures { λ r. ⌜ Modest 11 (k .m + 1) r ⌝ }
+    ensures { λ r. ⌜ ((l : Layout) (b : Coupling) (q : Csr) (vectors : List Float) → trial-at r ≡ walk (try-step (setting-at l b k q vectors) beta (now (h .entry)) avnorm) (MAX-REJECT + 1) 0 (on (record { rejections = 0; t = t }))) ⌝ }
+    ensures { λ r. ⌜ Modest (MAX-REJECT + 1) (k .m + 1) r ⌝ }
 {
     let mut o = Trial {
         outcome: Outcome::Next(0, t),
         f: [0.0; 130],
     };
-    for i in 0..11usize {
+    for i in 0..MAX_REJECT + 1 {
         let s = o.outcome;
         let Outcome::Next(rejections, length) = s else {
             return o;
@@ -138,7 +141,7 @@ fn exact_step(h: &[f64], dim: usize, mb: usize, beta: f64, hn: f64, remaining: f
     requires { ⌜ (1 ≤ mb) × (mb ≤ 130) ⌝ }
     requires { ⌜ Leading (now h) dim mb ⌝ }
     ensures { λ r. ⌜ trial-at r ≡ exact-step beta hn remaining (hess-exp-e1 (now (h .entry)) dim mb remaining) ⌝ }
-    ensures { λ r. ⌜ Modest 11 mb r ⌝ }
+    ensures { λ r. ⌜ Modest (MAX-REJECT + 1) mb r ⌝ }
 {
     let small = hess_exp::hess_exp_e1(h, dim, mb, remaining);
     let f = small.column;
@@ -172,7 +175,7 @@ pub fn trial_steps(
     requires { ⌜ (k .m ≤ 128) × Counted (k .m) basis ⌝ }
     requires { ⌜ length (now h) ≡ (k .m + 2) * (k .m + 2) ⌝ }
     ensures { λ r. ⌜ ((l : Layout) (b : Coupling) (q : Csr) (vectors work : List Float) → window (k .h) ((k .m + 2) * (k .m + 2)) work ≡ now (h .entry) → trial-at r ≡ trials (setting-at l b k q vectors) beta next remaining (basis-at l k basis work)) ⌝ }
-    ensures { λ r. ⌜ Modest 11 (columns-in k basis) r ⌝ }
+    ensures { λ r. ⌜ Modest (MAX-REJECT + 1) (columns-in k basis) r ⌝ }
 {
     match basis {
         BasisAnswer::Breakdown(applied, mb, hn) => {

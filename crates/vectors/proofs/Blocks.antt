@@ -1,7 +1,7 @@
 -- y + a x written block by block, and the partial sums of its inner product with v: three windows of one list. Assumes nothing.
-use mathlib.Core.Path.{_≡_, sym, ap, _∙_, subst}
+use mathlib.Core.Path.{_≡_, sym, ap, _∙_}
 use mathlib.Core.List.{List, []}
-use Prim.Native.Nat.{ℕ, _+_, _-_, _*_, _/_, _%_, _≤_, _<_}
+use Prim.Native.Nat.{ℕ, _+_, _-_, _*_, _≤_, _<_}
 use native.Mathlib.Omega.{arith}
 use native.Mathlib.Nat.{add-assoc}
 use lib.ListN.{length, take, drop}
@@ -9,8 +9,8 @@ use lib.Ieee.{Float, nan}
 use Rattle.lists.specs.Bounds.{Apart}
 use Rattle.lists.specs.Loop.{tabulate}
 use Rattle.lists.specs.Window.{window, splice}
-use Rattle.lists.proofs.Loop.{Filled, started, filled-more, finished, read-after, read-apart, read-written, window-apart, tabulate-ext, length-tabulate, zipWith-windows}
-use Rattle.lists.proofs.Window.{part-window, getD-window, length-window, length-splice, window-splice-same}
+use Rattle.lists.proofs.Loop.{Filled, filled-more, finished, read-after, read-apart, read-written, window-apart, tabulate-ext, length-tabulate, zipWith-windows}
+use Rattle.lists.proofs.Window.{part-window, getD-window, window-splice-same}
 use Rattle.doubles.specs.F64.{_⊕_, _⊗_, at}
 use Rattle.doubles.proofs.Sum.{sum-ext}
 use Rattle.vectors.specs.declared.Lanes.{Lanes}

@@ -158,7 +158,7 @@ impl Job {
 
     /// Whether the functions on bytes refuse it by 255.
     pub fn is_large(&self) -> bool {
-        self.n > ROWS || self.cols.len() > ENTRIES || self.vals.len() > ENTRIES || self.work > WORK
+        self.n > ROWS || self.vals.len() > ENTRIES || self.work > WORK
     }
 
     /// What a function on bytes answers to a job that is too large for it: nothing is changed, the numbers included.

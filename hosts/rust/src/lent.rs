@@ -1,10 +1,10 @@
-//! The four calls on memory that the caller lends: nothing is allocated.
+//! The calls on memory that the caller lends: nothing is allocated.
 //!
 //! A refusal from 1 to 26 leaves `out` and `work` unchanged. After 27 to 29 `out` holds the state after the last accepted
 //! substep. After an accepted job, and after 27 to 29, the needed length of `work` holds +0. [`crate::sizes`] says how long
 //! `work` has to be.
 
-use crate::{sys, KrylovOptions, Matrix, Plan, Refusal, Report};
+use crate::{sys, Cost, KrylovOptions, Largest, Matrix, Plan, Refusal, Report, Solver};
 
 /// 0 is no refusal.
 fn unless_refused<T>(number: u32, value: f64, told: T) -> Result<T, Refusal> {
@@ -15,7 +15,7 @@ fn unless_refused<T>(number: u32, value: f64, told: T) -> Result<T, Refusal> {
 }
 
 macro_rules! call {
-    ($name:ident, $a:expr, $tau:expr, $index:expr, $w:expr, [$($option:expr),*], $out:expr, $work:expr, $($told:expr),+) => {{
+    ($name:ident, $a:expr, $($argument:expr),+ $(,)?) => {{
         let mass = $a.mass.unwrap_or(&[]);
         // SAFETY: every pointer comes from a slice, with that slice's length, or from a local, so that it is aligned, not null and valid
         // for its length; what is written is borrowed exclusively. The functions are proved to stay within the lengths handed in.
@@ -31,19 +31,17 @@ macro_rules! call {
                 $a.mass.is_some(),
                 mass.as_ptr(),
                 mass.len(),
-                $tau,
-                $index,
-                $w.as_ptr(),
-                $w.len(),
-                $($option,)*
-                $out.as_mut_ptr(),
-                $out.len(),
-                $work.as_mut_ptr(),
-                $work.len(),
-                $($told),+
+                $($argument),+
             )
         }
     }};
+}
+
+/// The checks of the matrix alone, 1 to 11; then its norm and a row that has it.
+pub fn check(a: &Matrix) -> Result<Largest, Refusal> {
+    let mut largest = Largest { norm: 0.0, row: 0 };
+    let number = call!(hazhendu_check_generator, a, &mut largest.norm, &mut largest.row);
+    unless_refused(number, largest.norm, largest)
 }
 
 macro_rules! taylor {
@@ -51,8 +49,22 @@ macro_rules! taylor {
         $(#[$doc])*
         pub fn $name(a: &Matrix, tau: f64, $index: usize, $w: &[f64], out: &mut [f64], work: &mut [f64]) -> Result<Plan, Refusal> {
             let mut plan = Plan { s: 0, m: 0, mu: 0.0, applications: 0 };
-            let number =
-                call!($exported, a, tau, $index, $w, [], out, work, &mut plan.mu, &mut plan.s, &mut plan.m, &mut plan.applications);
+            let number = call!(
+                $exported,
+                a,
+                tau,
+                $index,
+                $w.as_ptr(),
+                $w.len(),
+                out.as_mut_ptr(),
+                out.len(),
+                work.as_mut_ptr(),
+                work.len(),
+                &mut plan.mu,
+                &mut plan.s,
+                &mut plan.m,
+                &mut plan.applications,
+            );
             unless_refused(number, plan.mu, plan)
         }
     };
@@ -88,14 +100,56 @@ pub fn phi_combination_krylov(
         a,
         tau,
         count,
-        w,
-        [tol, m, max_substeps],
-        out,
-        work,
+        w.as_ptr(),
+        w.len(),
+        tol,
+        m,
+        max_substeps,
+        out.as_mut_ptr(),
+        out.len(),
+        work.as_mut_ptr(),
+        work.len(),
         &mut report.estimated_error,
         &mut report.substeps,
         &mut report.matvecs,
-        &mut report.rejected
+        &mut report.rejected,
     );
     unless_refused(number, report.estimated_error, report)
+}
+
+/// The sum over k of tau^k phi_k(tau G) w_k for `count` vectors, one after the other in `w`, by either solver.
+pub fn combine(solver: Solver, a: &Matrix, tau: f64, count: usize, w: &[f64], out: &mut [f64], work: &mut [f64]) -> Result<Cost, Refusal> {
+    let (krylov, KrylovOptions { tol, m, max_substeps }) = match solver {
+        Solver::Taylor => (false, KrylovOptions::default()),
+        Solver::Krylov(options) => (true, options),
+    };
+    let (mut value, mut first, mut second, mut third) = (0.0, 0, 0, 0);
+    let number = call!(
+        hazhendu_combine,
+        a,
+        tau,
+        count,
+        w.as_ptr(),
+        w.len(),
+        krylov,
+        tol,
+        m,
+        max_substeps,
+        out.as_mut_ptr(),
+        out.len(),
+        work.as_mut_ptr(),
+        work.len(),
+        &mut value,
+        &mut first,
+        &mut second,
+        &mut third,
+    );
+    // The casts lose nothing: the counts are those of a plan or of a report, whose types they had.
+    let cost = match solver {
+        Solver::Taylor => Cost::Taylor(Plan { s: first as u32, m: second as u32, mu: value, applications: third }),
+        Solver::Krylov(_) => {
+            Cost::Krylov(Report { substeps: first as usize, matvecs: second as usize, rejected: third as usize, estimated_error: value })
+        }
+    };
+    unless_refused(number, value, cost)
 }

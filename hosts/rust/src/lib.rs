@@ -106,6 +106,14 @@ pub enum Cost {
     Krylov(Report),
 }
 
+/// The norm of an accepted matrix, or of its rows divided by their masses: the largest sum of the sizes in a row.
+#[derive(Clone, Copy, Debug, PartialEq)]
+pub struct Largest {
+    pub norm: f64,
+    /// A row whose sum is the norm, from 0.
+    pub row: usize,
+}
+
 /// An accepted job: the field, and what it cost.
 #[derive(Clone, Debug, PartialEq)]
 pub struct Soaked<C> {
@@ -139,16 +147,17 @@ pub fn phi_combination_krylov(a: &Matrix, tau: f64, count: usize, w: &[f64], opt
 
 /// The sum over k of tau^k phi_k(tau G) w_k, by either solver.
 pub fn combine(solver: Solver, a: &Matrix, tau: f64, count: usize, w: &[f64]) -> Result<Soaked<Cost>, Error> {
-    match solver {
-        Solver::Taylor => phi_combination(a, tau, count, w).map(|soaked| soaked.told_as(Cost::Taylor)),
-        Solver::Krylov(options) => phi_combination_krylov(a, tau, count, w, options).map(|soaked| soaked.told_as(Cost::Krylov)),
-    }
+    let (n, entries, with_mass) = (a.n, a.entries.len(), a.mass.is_some());
+    let work = match solver {
+        Solver::Taylor => sizes::taylor_work(n, entries, with_mass, count),
+        Solver::Krylov(options) => sizes::krylov_work(n, entries, with_mass, count, options.m),
+    };
+    with_memory(sizes::output(n, 0), work, |out, work| lent::combine(solver, a, tau, count, w, out, work))
 }
 
-impl<C> Soaked<C> {
-    fn told_as(self, told: fn(C) -> Cost) -> Soaked<Cost> {
-        Soaked { field: self.field, cost: told(self.cost) }
-    }
+/// The checks of the matrix alone, 1 to 11; then its norm and a row that has it.
+pub fn check(a: &Matrix) -> Result<Largest, Error> {
+    lent::check(a).map_err(|refusal| Error::Refused { refusal, state: None })
 }
 
 fn with_memory<C>(out: usize, work: usize, call: impl FnOnce(&mut [f64], &mut [f64]) -> Result<C, Refusal>) -> Result<Soaked<C>, Error> {

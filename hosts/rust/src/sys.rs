@@ -15,7 +15,6 @@ macro_rules! exported {
                 with_mass: bool,
                 mass: *const f64,
                 mass_len: usize,
-                tau: f64,
                 $($parameter: $type,)+
             ) -> u32;
         }
@@ -24,14 +23,18 @@ macro_rules! exported {
 
 macro_rules! exported_taylor {
     ($name:ident, $index:ident, $w:ident, $w_len:ident) => {
-        exported!($name, $index: usize, $w: *const f64, $w_len: usize, out: *mut f64, out_len: usize, work: *mut f64,
+        exported!($name, tau: f64, $index: usize, $w: *const f64, $w_len: usize, out: *mut f64, out_len: usize, work: *mut f64,
             work_len: usize, value: *mut f64, s: *mut u32, plan_m: *mut u32, applications: *mut u64);
     };
 }
 
+exported!(hazhendu_check_generator, value: *mut f64, row: *mut usize);
 exported_taylor!(hazhendu_phi_combination, count, w, w_len);
 exported_taylor!(hazhendu_phi_action, k, v, v_len);
 exported_taylor!(hazhendu_phi_action_batched, p, v, v_len);
-exported!(hazhendu_phi_combination_krylov, count: usize, w: *const f64, w_len: usize, tol: f64, m: usize, max_substeps: usize,
-    out: *mut f64, out_len: usize, work: *mut f64, work_len: usize, value: *mut f64, substeps: *mut usize,
+exported!(hazhendu_phi_combination_krylov, tau: f64, count: usize, w: *const f64, w_len: usize, tol: f64, m: usize,
+    max_substeps: usize, out: *mut f64, out_len: usize, work: *mut f64, work_len: usize, value: *mut f64, substeps: *mut usize,
     matvecs: *mut usize, rejected: *mut usize);
+exported!(hazhendu_combine, tau: f64, count: usize, w: *const f64, w_len: usize, krylov: bool, tol: f64, m: usize,
+    max_substeps: usize, out: *mut f64, out_len: usize, work: *mut f64, work_len: usize, value: *mut f64, first: *mut u64,
+    second: *mut u64, third: *mut u64);

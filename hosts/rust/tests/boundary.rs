@@ -1,7 +1,7 @@
-//! The boundary jobs of document 01 that the four calls can show.
+//! The boundary jobs of document 01 that the calls can show.
 
-use hazhendu::{combine, lent, phi_action, phi_action_batched, phi_combination, phi_combination_krylov, sizes};
-use hazhendu::{Cost, Error, KrylovOptions, Matrix, Report, Soaked, Solver};
+use hazhendu::{check, combine, lent, phi_action, phi_action_batched, phi_combination, phi_combination_krylov, sizes};
+use hazhendu::{Cost, Error, KrylovOptions, Largest, Matrix, Report, Soaked, Solver};
 
 const EMPTY_2: Matrix = Matrix { n: 2, starts: &[0, 0, 0], columns: &[], entries: &[], mass: None };
 const ONE: Matrix = Matrix { n: 1, starts: &[0, 1], columns: &[0], entries: &[2.0], mass: None };
@@ -110,6 +110,28 @@ fn a_mass_divides_the_rows() {
     // Entry 2, mass 4: exp(-0.5).
     let field = phi_combination(&ONE.with_mass(&[4.0]), 1.0, 1, &[1.0]).unwrap().field;
     assert!((field[0] - (-0.5f64).exp()).abs() < 1e-15);
+}
+
+#[test]
+fn a_matrix_has_the_norm_of_its_largest_row() {
+    let a = Matrix::new(3, &[0, 2, 4, 5], &[0, 1, 0, 1, 2], &[1.0, -1.0, 2.5, -0.5, -2.0]);
+    assert_eq!(check(&a).unwrap(), Largest { norm: 3.0, row: 1 });
+    assert_eq!(check(&a.with_mass(&[1.0, 8.0, 0.5])).unwrap(), Largest { norm: 4.0, row: 2 });
+    assert_eq!(check(&EMPTY_2).unwrap().norm, 0.0);
+    assert!(check(&EMPTY_2).unwrap().row < 2);
+}
+
+#[test]
+fn combine_is_the_call_of_its_solver() {
+    let (tau, w) = (0.75, [1.0, 2.0, 3.0, 4.0]);
+    let taylor = phi_combination(&PAIR, tau, 2, &w).unwrap();
+    let soaked = combine(Solver::Taylor, &PAIR, tau, 2, &w).unwrap();
+    assert_eq!((soaked.field, soaked.cost), (taylor.field, Cost::Taylor(taylor.cost)));
+    let krylov = phi_combination_krylov(&PAIR, tau, 2, &w, options(2)).unwrap();
+    let soaked = combine(Solver::Krylov(options(2)), &PAIR, tau, 2, &w).unwrap();
+    assert_eq!((soaked.field, soaked.cost), (krylov.field, Cost::Krylov(krylov.cost)));
+    assert_eq!(number(combine(Solver::Krylov(KrylovOptions { tol: 1.0, ..options(2) }), &PAIR, tau, 2, &w)), 18);
+    assert_eq!(number(combine(Solver::Taylor, &PAIR, -1.0, 2, &w)), 14);
 }
 
 #[test]

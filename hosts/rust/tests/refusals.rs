@@ -1,4 +1,4 @@
-//! Each refusal that a job can reach, its double, and what it leaves. 23 is reached by none: 10 and 11 come before it.
+//! Each refusal, its double, and what it leaves.
 
 use hazhendu::{lent, phi_action, phi_combination, phi_combination_krylov, sizes, KrylovOptions, Matrix, Refusal};
 
@@ -57,6 +57,9 @@ fn matrix() {
         expect(taylor(Matrix::new(1, &[0, 1], &[0], &[entry]), 1.0, 1, &[1.0]), 6, entry);
     }
     expect(taylor(Matrix::new(1, &[0, 2], &[0, 0], &[1e308, -1e308]), 1.0, 1, &[1.0]), 11, f64::INFINITY);
+    expect(lent::check(&Matrix::new(2, &[0, 1, 2], &[0, 7], &[1.0; 2])), 5, 7.0);
+    expect(lent::check(&Matrix::new(1, &[0, 2], &[0, 0], &[1e308, -1e308])), 11, f64::INFINITY);
+    expect(lent::check(&ONE.with_mass(&[-1.0])), 8, -1.0);
 }
 
 #[test]

@@ -1,6 +1,7 @@
 //! The command line.
 
 use crate::failure::Failure;
+use crate::model::Files;
 use hazhendu::{KrylovOptions, Solver};
 use std::ffi::OsString;
 use std::path::PathBuf;
@@ -12,6 +13,7 @@ soak: temperatures of a thermal model after a time, by the proved library hazhen
   soak MATRIX --tau T --vector FILE [--vector FILE ...] [--mass FILE]
        [--solver taylor|krylov] [--tol X] [--m N] [--limit N]
        [--output FILE] [--plot FILE.svg]
+  soak check MATRIX [--mass FILE]
 
 computes the sum over k of T^k phi_k(T G) w_k, where G = -A, or -A with each row
 divided by its mass. For C dT/dt = -A T + q the mass is C (J/K), w_0 the
@@ -31,13 +33,17 @@ temperatures at the start (K), w_1 = q / C (K/s), and A the conductances (W/K).
   --plot FILE.svg  a plot of the field over its rows
   --help, --version
 
+soak check makes the checks of the matrix and its mass alone, and prints the
+norm of G, which is the largest sum of the sizes in a row, a row that has it,
+from 1, and that row's sum.
+
 The field is one number a line, the shortest decimal that reads back as the same
 double, so that it can be a --vector again. One line about the work done goes to
 the standard error. A call of the library cannot be interrupted and tells nothing
 on the way: on a terminal the size of the job is told before it and the time it
 took after it, and there is no progress between.
 
-Status: 0; 1 to 29, the number of the library's refusal, with what is wrong and
+Status: 0; 1 to 22 or 24 to 29, the number of the library's refusal, with what is wrong and
 what to change; 64 wrong usage; 65 a file with wrong contents, as FILE:LINE;
 66 a file that cannot be read; 71 no memory; 74 the field or plot cannot be
 written (without a word if a pipe was closed).
@@ -47,14 +53,14 @@ written (without a word if a pipe was closed).
 pub enum Command {
     Help,
     Version,
+    Check(Files),
     Soak(Request),
 }
 
 #[derive(Debug)]
 pub struct Request {
-    pub matrix: PathBuf,
+    pub files: Files,
     pub vectors: Vec<PathBuf>,
-    pub mass: Option<PathBuf>,
     pub tau: f64,
     pub solver: Solver,
     pub output: Option<PathBuf>,
@@ -62,7 +68,7 @@ pub struct Request {
 }
 
 /// What has been given so far.
-#[derive(Default)]
+#[derive(Default, PartialEq)]
 struct Given {
     matrix: Option<PathBuf>,
     vectors: Vec<PathBuf>,
@@ -77,7 +83,8 @@ struct Given {
 }
 
 pub fn parse(words: impl Iterator<Item = OsString>) -> Result<Command, Failure> {
-    let mut words = words.skip(1);
+    let mut words = words.skip(1).peekable();
+    let check = words.next_if(|word| word == "check").is_some();
     let mut given = Given::default();
     while let Some(word) = words.next() {
         let text = word.to_str().unwrap_or_default();
@@ -95,6 +102,9 @@ pub fn parse(words: impl Iterator<Item = OsString>) -> Result<Command, Failure> 
             None => (text, None),
         };
         given.option(name, || value.or_else(|| words.next()).ok_or_else(|| Failure::Usage(format!("{name} wants a value"))))?;
+    }
+    if check {
+        return given.files_alone().map(Command::Check);
     }
     given.request().map(Command::Soak)
 }
@@ -133,16 +143,28 @@ impl Given {
         }
     }
 
-    fn request(self) -> Result<Request, Failure> {
+    fn files(&mut self) -> Result<Files, Failure> {
+        let matrix = self.matrix.take().ok_or_else(|| Failure::Usage("MATRIX is missing".into()))?;
+        Ok(Files { matrix, mass: self.mass.take() })
+    }
+
+    fn files_alone(mut self) -> Result<Files, Failure> {
+        let files = self.files()?;
+        match self == Given::default() {
+            true => Ok(files),
+            false => Err(Failure::Usage("check takes a matrix and --mass alone".into())),
+        }
+    }
+
+    fn request(mut self) -> Result<Request, Failure> {
         let solver = self.solver()?;
         if self.output.is_some() && self.output == self.plot {
             return Err(Failure::Usage("--output and --plot name the same file".into()));
         }
         Ok(Request {
-            matrix: self.matrix.ok_or_else(|| Failure::Usage("MATRIX is missing".into()))?,
+            files: self.files()?,
             tau: self.tau.ok_or_else(|| Failure::Usage("--tau is missing".into()))?,
             vectors: self.vectors,
-            mass: self.mass,
             solver,
             output: self.output,
             plot: self.plot,

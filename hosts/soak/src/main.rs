@@ -8,6 +8,7 @@ mod job;
 mod lines;
 mod matrix_market;
 mod memory;
+mod model;
 mod plot;
 mod sink;
 mod vector;
@@ -16,6 +17,7 @@ use arguments::{Command, Request};
 use failure::Failure;
 use hazhendu::{shortest, Solver};
 use job::Job;
+use model::{Files, Model};
 use sink::Sink;
 use std::io::{self, IsTerminal, Write};
 use std::process::ExitCode;
@@ -37,8 +39,18 @@ fn run() -> Result<(), Failure> {
     match arguments::parse(std::env::args_os())? {
         Command::Help => sink::to_stdout(|to| to.write_all(arguments::HELP.as_bytes())),
         Command::Version => sink::to_stdout(|to| writeln!(to, "soak {}", env!("CARGO_PKG_VERSION"))),
+        Command::Check(files) => check(&files),
         Command::Soak(request) => soak(&request),
     }
+}
+
+fn check(files: &Files) -> Result<(), Failure> {
+    let model = Model::read(files)?;
+    let largest = model.check()?;
+    sink::to_stdout(|to| {
+        writeln!(to, "norm {}", shortest(largest.norm))?;
+        writeln!(to, "row {}, sum {}", largest.row + 1, shortest(model.row_sum(largest.row)))
+    })
 }
 
 fn soak(request: &Request) -> Result<(), Failure> {
@@ -69,7 +81,7 @@ fn solver_name(request: &Request) -> &'static str {
 }
 
 fn title(request: &Request) -> String {
-    format!("{}, tau {}, {}", request.matrix.display(), shortest(request.tau), solver_name(request))
+    format!("{}, tau {}, {}", request.files.matrix.display(), shortest(request.tau), solver_name(request))
 }
 
 /// Where even this cannot be written, there is nobody to tell.

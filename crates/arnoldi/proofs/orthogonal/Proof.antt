@@ -1,7 +1,6 @@
 -- `arnoldi::orthogonal` meets its contract. Assumes nothing.
-use borrow.Author.Needs.{needs}
 use native.Mathlib.Omega.{arith}
-use mathlib.Core.Path.{_≡_, refl, ap, _∙_}
+use mathlib.Core.Path.{_≡_, refl, _∙_}
 use mathlib.Core.List.{List}
 use native.Mathlib.Nat.{zero-add, zero-mul}
 use Prim.Native.Nat.{ℕ, _+_, _-_, _*_, _≤_, _<_}

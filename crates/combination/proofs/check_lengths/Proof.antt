@@ -2,7 +2,6 @@
 use borrow.Author.Needs.{needs}
 use Rattle.checks.proofs.First.{chain}
 use Rattle.combination.specs.Checks.{length-checks}
-use borrow.Author.Needs.{needs}
 use Rattle.combination.proofs.check_lengths.Statement.{statement}
 use Rattle.combination.proofs.check_lengths.Tie as tie
 

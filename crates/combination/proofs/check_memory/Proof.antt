@@ -2,7 +2,6 @@
 use borrow.Author.Needs.{needs}
 use Rattle.checks.proofs.First.{chain}
 use Rattle.combination.specs.Checks.{memory-checks}
-use borrow.Author.Needs.{needs}
 use Rattle.combination.proofs.check_memory.Statement.{statement}
 use Rattle.combination.proofs.check_memory.Tie as tie
 

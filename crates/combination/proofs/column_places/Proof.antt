@@ -2,7 +2,6 @@
 use native.Mathlib.Omega.{arith}
 use Prim.Native.Nat.{ℕ, _-_, _*_, _≤_}
 use mathlib.Core.Path.{refl, _∙_}
-use lib.ListN.{replicate}
 use Rattle.lists.proofs.Loop.{Filled, started, turned₀, finished, front-filled}
 use Rattle.lists.proofs.Bounds.{product-within}
 use Rattle.combination.specs.Combination.{column-places}

@@ -2,7 +2,6 @@
 use native.Mathlib.Omega.{arith}
 use Prim.Native.Nat.{_-_, _≤_}
 use mathlib.Core.Path.{sym, ap, _∙_}
-use lib.ListN.{length}
 use mathlib.Core.Bool.{not}
 use Rattle.lists.proofs.Find.{Passed, passed-start, passed-next, found-at, found-none}
 use Rattle.combination.specs.Checks.{not-finite-at}

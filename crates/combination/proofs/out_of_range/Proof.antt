@@ -1,7 +1,6 @@
 -- `combination::out_of_range` meets its contract. Assumes nothing.
 use borrow.Author.Needs.{needs}
 use Rattle.combination.specs.Checks.{out-of-range}
-use borrow.Author.Needs.{needs}
 use Rattle.combination.proofs.out_of_range.Statement.{statement}
 use Rattle.combination.proofs.out_of_range.Tie as tie
 

@@ -1,6 +1,5 @@
 -- `combination::wrong_count` meets its contract. Assumes nothing.
-use borrow.Author.Needs.{needs}
-use borrow.Author.Tests.{eq-eqb, ne-eqb, lt-ltb, le-ltb}
+use borrow.Author.Tests.{eq-eqb, ne-eqb}
 use Rattle.combination.proofs.wrong_count.Statement.{statement}
 use Rattle.combination.proofs.wrong_count.Tie as tie
 

@@ -1,7 +1,5 @@
 -- `csr_matvec::apply_generator` meets its contract: each way is the loop for where the values lie. Assumes nothing.
 use borrow.Author.Needs.{needs}
-use native.Mathlib.Omega.{arith}
-use mathlib.Core.Path.{_≡_, refl, sym, ap, _∙_, subst}
 use Rattle.csr_matvec.proofs.Values.{values-stored, values-given, stored-where}
 use Rattle.csr_matvec.proofs.apply_generator.Statement.{statement}
 use Rattle.csr_matvec.proofs.apply_generator.Tie as tie

@@ -1,7 +1,7 @@
 -- `csr_matvec::row_product` meets its contract. Assumes nothing.
 use native.Mathlib.Omega.{arith}
 use mathlib.Core.Path.{_≡_, refl, sym}
-use Prim.Native.Nat.{_+_, _-_, _*_, _≤_}
+use Prim.Native.Nat.{_+_, _-_, _≤_}
 use lib.ListN.{getD}
 use Rattle.doubles.specs.F64.{_⊗_, at}
 use Rattle.doubles.specs.Sum.{sum}

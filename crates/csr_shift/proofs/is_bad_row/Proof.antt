@@ -2,7 +2,7 @@
 use borrow.Author.Needs.{needs}
 use mathlib.Core.Path.{refl}
 use Rattle.csr_shift.specs.Shift.{bad-row}
-use Rattle.csr_shift.proofs.Nan.{nan-told}
+use Rattle.doubles.proofs.Magnitude.{nan-told}
 use Rattle.csr_shift.proofs.is_bad_row.Statement.{statement}
 use Rattle.csr_shift.proofs.is_bad_row.Tie as tie
 

@@ -1,6 +1,6 @@
 -- `exports_bytes::hazhendu_phi_combination_bytes` meets its contract. Assumes nothing.
 use borrow.Author.Needs.{needs}
-use Rattle.exports_bytes.specs.Replies.{told, called}
+use Rattle.exports_bytes.specs.Inner.{told, called}
 use Rattle.exports_bytes.proofs.Reply.{kept}
 use Rattle.exports_bytes.proofs.hazhendu_phi_combination_bytes.Statement.{statement}
 use Rattle.exports_bytes.proofs.hazhendu_phi_combination_bytes.Tie as tie

@@ -1,7 +1,7 @@
 -- `exports_bytes::hazhendu_phi_combination_krylov_bytes` meets its contract. Assumes nothing.
 use borrow.Author.Needs.{needs}
 use mathlib.Core.Path.{refl}
-use Rattle.exports_bytes.specs.Replies.{told, called}
+use Rattle.exports_bytes.specs.Inner.{told, called}
 use Rattle.exports_bytes.proofs.Reply.{kept}
 use Rattle.exports_bytes.proofs.hazhendu_phi_combination_krylov_bytes.Statement.{statement}
 use Rattle.exports_bytes.proofs.hazhendu_phi_combination_krylov_bytes.Tie as tie

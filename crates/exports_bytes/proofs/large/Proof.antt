@@ -16,11 +16,7 @@ returns-2 c = (rw (le-ltb _ _ (c .before .if1 .left), lt-ltb _ _ (c .if2 .taken)
 
 returns-3 : tie.Need-returns-3
 unfolding large
-returns-3 c = (rw (le-ltb _ _ (c .before .before .if1 .left), le-ltb _ _ (c .before .if2 .left), lt-ltb _ _ (c .if3 .taken)), λ e. absurd (true≢false e))
-
-returns-4 : tie.Need-returns-4
-unfolding large
-returns-4 c = (rw (le-ltb _ _ (c .before .before .if1 .left), le-ltb _ _ (c .before .if2 .left), le-ltb _ _ (c .if3 .left)), λ e. (omega arith, omega arith, omega arith, ltb-false _ _ e))
+returns-3 c = (rw (le-ltb _ _ (c .before .if1 .left), le-ltb _ _ (c .if2 .left)), λ e. (omega arith, omega arith, ltb-false _ _ e))
 
 pub large-spec : {M : Type 1} → statement M
 large-spec =
@@ -28,5 +24,4 @@ large-spec =
     (tie.spec
     returns
     returns-2
-    returns-3
-    returns-4)
+    returns-3)

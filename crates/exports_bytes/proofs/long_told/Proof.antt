@@ -1,8 +1,7 @@
 -- `exports_bytes::long_told` meets its contract. Assumes nothing.
 use borrow.Author.Needs.{needs}
-use mathlib.Core.Path.{refl}
 use borrow.Author.Tests.{lt-ltb, le-ltb, eq-eqb, ne-eqb}
-use Rattle.exports_bytes.specs.Replies.{long-told}
+use Rattle.exports_bytes.specs.Inner.{long-told}
 use Rattle.exports_bytes.proofs.long_told.Statement.{statement}
 use Rattle.exports_bytes.proofs.long_told.Tie as tie
 

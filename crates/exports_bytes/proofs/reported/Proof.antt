@@ -1,7 +1,7 @@
 -- `exports_bytes::reported` meets its contract. Assumes nothing.
 use borrow.Author.Needs.{needs}
 use mathlib.Core.Path.{ap, _∙_}
-use Rattle.exports_bytes.specs.Replies.{revalued, long-told}
+use Rattle.exports_bytes.specs.Inner.{revalued, long-told}
 use Rattle.exports_bytes.proofs.reported.Statement.{statement}
 use Rattle.exports_bytes.proofs.reported.Tie as tie
 

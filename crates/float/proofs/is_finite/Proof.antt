@@ -1,5 +1,5 @@
 -- `float::is_finite` meets its contract. Assumes nothing.
-use mathlib.Core.Path.{sym, subst, ap, _∙_}
+use mathlib.Core.Path.{sym, subst, ap}
 use lib.Dec.{T}
 use lib.Ieee.{binary64, fits}
 use Rattle.doubles.specs.F64.{is-finite}

@@ -1,6 +1,6 @@
 -- `float::max` meets its contract. Assumes nothing.
 use Rattle.doubles.specs.F64.{maxNum}
-use Rattle.float.proofs.Extremes.{where-nan, where-told, where-not}
+use Rattle.doubles.proofs.Extremes.{where-nan, where-told, where-not}
 use Rattle.float.proofs.max.Statement.{statement}
 use Rattle.float.proofs.max.Tie as tie
 

@@ -1,6 +1,6 @@
 -- `float::min` meets its contract. Assumes nothing.
 use Rattle.doubles.specs.F64.{minNum}
-use Rattle.float.proofs.Extremes.{where-nan, where-told, where-not}
+use Rattle.doubles.proofs.Extremes.{where-nan, where-told, where-not}
 use Rattle.float.proofs.min.Statement.{statement}
 use Rattle.float.proofs.min.Tie as tie
 

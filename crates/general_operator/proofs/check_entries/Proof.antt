@@ -1,6 +1,5 @@
 -- `general_operator::check_entries` meets its contract. Assumes nothing.
-use borrow.Author.Tests.{eq-eqb, ne-eqb, lt-ltb, le-ltb, le-leb, lt-leb}
-use mathlib.Core.Path.{_≡_, refl, sym, _∙_, ap}
+use borrow.Author.Tests.{lt-ltb, le-ltb, le-leb, lt-leb}
 use native.Mathlib.Omega.{arith}
 use Rattle.checks.proofs.First.{first-cons, first-none}
 use Rattle.general_operator.specs.Checks.{entry-checks, bad-column}

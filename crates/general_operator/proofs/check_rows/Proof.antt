@@ -1,9 +1,5 @@
 -- `general_operator::check_rows` meets its contract. Assumes nothing.
-use borrow.Author.Tests.{eq-eqb, ne-eqb, lt-ltb, le-ltb, le-leb, lt-leb}
-use mathlib.Core.Path.{_≡_, refl, sym, _∙_, ap}
-use native.Mathlib.Omega.{arith}
 use Rattle.checks.proofs.First.{chain}
-use Rattle.lists.specs.Find.{exists}
 use Rattle.general_operator.specs.Checks.{row-checks}
 use borrow.Author.Needs.{needs}
 use Rattle.general_operator.proofs.check_rows.Statement.{statement}

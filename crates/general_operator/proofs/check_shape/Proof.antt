@@ -1,5 +1,4 @@
 -- `general_operator::check_shape` meets its contract. Assumes nothing.
-use borrow.Author.Needs.{needs}
 use native.Mathlib.Omega.{arith}
 use mathlib.Core.Path.{sym, _∙_}
 use Rattle.checks.proofs.First.{chain}

@@ -1,6 +1,6 @@
 -- `general_operator::first_bad_entry` meets its contract. Assumes nothing.
 use native.Mathlib.Omega.{arith}
-use mathlib.Core.Path.{_≡_, sym, _∙_}
+use mathlib.Core.Path.{sym, _∙_}
 use Prim.Native.Nat.{_-_, _≤_}
 use Rattle.lists.proofs.Find.{Passed, passed-start, passed-next, found-at, found-none}
 use Rattle.general_operator.specs.Checks.{bad-entry}

@@ -1,6 +1,5 @@
 -- `general_operator::first_fall` meets its contract. Assumes nothing.
 use native.Mathlib.Omega.{arith}
-use mathlib.Core.Path.{_≡_}
 use Prim.Native.Nat.{_-_, _≤_}
 use borrow.Author.Tests.{lt-ltb, le-ltb}
 use Rattle.lists.proofs.Find.{Passed, passed-start, passed-next, found-at, found-none}

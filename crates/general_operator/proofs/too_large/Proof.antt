@@ -1,7 +1,5 @@
 -- `general_operator::too_large` meets its contract. Assumes nothing.
-use borrow.Author.Tests.{eq-eqb, ne-eqb, lt-ltb, le-ltb, le-leb, lt-leb}
-use mathlib.Core.Path.{_≡_, refl, sym, _∙_, ap}
-use native.Mathlib.Omega.{arith}
+use borrow.Author.Tests.{lt-ltb, le-ltb}
 use Rattle.general_operator.specs.Checks.{too-large}
 use Rattle.general_operator.proofs.too_large.Statement.{statement}
 use Rattle.general_operator.proofs.too_large.Tie as tie

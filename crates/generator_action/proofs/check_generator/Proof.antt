@@ -2,6 +2,7 @@
 use borrow.Author.Needs.{needs}
 use native.Mathlib.Omega.{arith}
 use mathlib.Core.Path.{sym, _∙_}
+use Rattle.checks.proofs.First.{passed-up}
 use Rattle.general_operator.proofs.Sound.{sound-valid, sound-finite}
 use Rattle.generator_action.specs.Mass.{quotients, bound-checks, generator-checks}
 use Rattle.generator_action.proofs.Ways.{answered-up, answered-on, answer-is, mass-sound}
@@ -10,7 +11,7 @@ use Rattle.generator_action.proofs.check_generator.Tie as tie
 
 returns : tie.Need-returns
 unfolding generator-checks
-returns c = answer-is _ _ (answered-up _ _ (c .before .matrix .given .1) (c .before .before .before .validate-csr .ensures))
+returns c = answer-is _ _ (answered-up _ _ (passed-up (c .before .before .enum-told2 .given .1) (c .before .number .ensures) (c .reported .ensures)) (c .before .before .before .before .validate-csr .ensures))
 
 check-mass-requires : tie.Need-check-mass-requires
 check-mass-requires c κs =
@@ -20,17 +21,17 @@ check-mass-requires c κs =
 returns-2 : tie.Need-returns-2
 unfolding generator-checks bound-checks quotients
 returns-2 c =
-    let m = c .before .before .before in
+    let m = c .before .before .before .before in
     let v = m .before .before in
     rw (m .before .if1 .taken)
-    (answer-is _ _ (answered-on _ (v .enum-told .given .1) (v .before .before .validate-csr .ensures) (answered-up _ _ (c .before .masses .given .1) (m .check-mass .ensures _ _))))
+    (answer-is _ _ (answered-on _ (v .enum-told .given .1) (v .before .before .validate-csr .ensures) (answered-up _ _ (passed-up (c .before .before .enum-told4 .given .1) (c .before .number2 .ensures) (c .reported2 .ensures)) (m .check-mass .ensures _ _))))
 
 quotient-norm-requires : tie.Need-quotient-norm-requires
 quotient-norm-requires c κs =
     let m = c .before .before in
     let v = m .before .before in
     let e = sym (v .enum-told .given .1) ∙ v .before .before .validate-csr .ensures in
-    (sound-valid _ e, (sound-finite _ e, mass-sound _ _ (sym (c .enum-told2 .given .1) ∙ m .check-mass .ensures _ _)))
+    (sound-valid _ e, (sound-finite _ e, mass-sound _ _ (sym (c .enum-told3 .given .1) ∙ m .check-mass .ensures _ _)))
 
 returns-3 : tie.Need-returns-3
 unfolding generator-checks bound-checks quotients
@@ -38,7 +39,7 @@ returns-3 c =
     let m = c .before .before .before in
     let v = m .before .before in
     rw (m .before .if1 .taken)
-    (answer-is _ _ (answered-on _ (v .enum-told .given .1) (v .before .before .validate-csr .ensures) (answered-on _ (c .before .enum-told2 .given .1) (m .check-mass .ensures _ _) (c .quotient-norm .ensures))))
+    (answer-is _ _ (answered-on _ (v .enum-told .given .1) (v .before .before .validate-csr .ensures) (answered-on _ (c .before .enum-told3 .given .1) (m .check-mass .ensures _ _) (c .quotient-norm .ensures))))
 
 entry-norm-requires : tie.Need-entry-norm-requires
 entry-norm-requires c κs =
@@ -59,12 +60,16 @@ check-generator-spec =
     (tie.spec
     (λ c κs. tt)
     (λ c. search needs)
-    returns
     (λ c. search needs)
+    (λ c κs. search needs)
+    (λ c κs. search needs)
+    returns
     check-mass-requires
     (λ c. search needs)
-    returns-2
     (λ c. search needs)
+    (λ c κs. search needs)
+    (λ c κs. search needs)
+    returns-2
     quotient-norm-requires
     returns-3
     entry-norm-requires

@@ -2,10 +2,11 @@
 use borrow.Author.Needs.{needs}
 use native.Mathlib.Omega.{arith}
 use Prim.Native.Nat.{_-_, _≤_}
-use mathlib.Core.Path.{_≡_, sym, ap}
+use mathlib.Core.Path.{_≡_, sym, ap, _∙_}
 use lib.ListN.{length}
 use Rattle.lists.specs.Loop.{iter}
 use Rattle.lists.proofs.Loop.{iter-none, iter-turn}
+use Rattle.lists.proofs.Window.{copy-whole}
 use Rattle.hess_exp.specs.HessExp.{Terms, term-step, hess-sweep}
 use Rattle.hess_exp.specs.Parts.{terms}
 use Rattle.hess_exp.proofs.hess_sweep.Statement.{statement}
@@ -26,7 +27,10 @@ loop-again c = (omega arith, iter-turn _ _ _ _ _ (c .before .before .before .bef
 returns : tie.Need-returns Inv-loop μ-loop
 unfolding hess-sweep
 returns c = let e : c .before .loop .k ≡ c .before .before .before .before .before .before .before .before .before .before .before .args .deg = omega arith in
-    ap (λ (t : Terms). t .y) (rw (e, c .before .before .before .before .copied-in .ensures) at (c .before .loop .inv .1))
+    let s = c .before .before .before .before in
+    let p = s .before .before .before .before .before .before .before .pre .1 in
+    let copied = s .copy-from .ensures ∙ copy-whole _ _ _ (p .0) (p .1) in
+    ap (λ (t : Terms). t .y) (rw (e, copied) at (c .before .loop .inv .1))
 
 pub hess-sweep-spec : {M : Type 1} → statement M
 hess-sweep-spec =

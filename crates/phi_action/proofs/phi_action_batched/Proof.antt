@@ -3,7 +3,7 @@ use borrow.Author.Needs.{needs}
 use mathlib.Core.Path.{refl}
 use Rattle.general_operator.specs.Csr.{csr}
 use Rattle.generator_action.specs.Mass.{given, generator-checks}
-use Rattle.generator_action.proofs.Answered.{refusal-told, norm-told}
+use Rattle.generator_action.proofs.Answered.{passed-up, refusal-told, norm-told, passed}
 use Rattle.checks.proofs.First.{refused-up}
 use Rattle.combination.proofs.Ends.{refused-by}
 use Rattle.phi_action.specs.declared.TaylorAnswer.the-variants.{Refusal}
@@ -13,16 +13,30 @@ use Rattle.phi_action.proofs.phi_action_batched.Tie as tie
 
 acted-batched-requires : tie.Need-acted-batched-requires
 acted-batched-requires c κs =
-    let a = c .before .before .before .before .before .before .before .before .before .before .before .before .before .args in
-    norm-told (csr (a .n) (a .starts .now) (a .cols .now) (a .vals .now)) (given (a .with-mass) (a .mass .now)) (c .before .before .before .before .before .check-generator .ensures .0) (c .before .before .before .matrix2 .given .1)
+    let g = c .before .before in
+    let m = g .before .before .before .before in
+    let a = m .before .before .before .before .before .before .before .before .args in
+    let told = norm-told (csr (a .n) (a .starts .now) (a .cols .now) (a .vals .now)) (given (a .with-mass) (a .mass .now)) (m .check-generator .ensures .0) (g .before .before .matrix .given .1) in
+    rw (g .generator-shape .ensures (a .starts .now) (a .cols .now) (a .vals .now) (a .mass .now) refl) (passed _ (a .with-mass) (a .mass .now) told)
 
 returns : tie.Need-returns
 unfolding phi-action-batched action-checks
 returns c =
-    let a = c .before .before .before .before .before .before .before .before .before .before .before .args in
-    let matrix = (csr (a .n) (a .starts .now) (a .cols .now) (a .vals .now)) in
-    let mass = (given (a .with-mass) (a .mass .now)) in
-    refused-by Refusal _ (a .out .now) (a .work .now) _ refl (refused-up (generator-checks matrix mass) _ refl (refusal-told matrix mass (c .before .before .before .check-generator .ensures .0) (c .before .matrix .given .1)))
+    let m = c .before .before .before .before in
+    let a = m .before .before .before .before .before .before .before .before .args in
+    let matrix = csr (a .n) (a .starts .now) (a .cols .now) (a .vals .now) in
+    let mass = given (a .with-mass) (a .mass .now) in
+    let refusal = passed-up (c .before .before .enum-told .given .1) (c .before .number .ensures) (c .value .ensures) in
+    refused-by Refusal _ (a .out .now) (a .work .now) _ refl (refused-up (generator-checks matrix mass) _ refl (refusal-told matrix mass (m .check-generator .ensures .0) refusal))
+
+returns-2 : tie.Need-returns-2
+returns-2 c =
+    let r = c .before .before .before .before in
+    let g = r .before .before .before in
+    let m = g .before .before .before .before in
+    let a = m .before .before .before .before .before .before .before .before .args in
+    let told = norm-told (csr (a .n) (a .starts .now) (a .cols .now) (a .vals .now)) (given (a .with-mass) (a .mass .now)) (m .check-generator .ensures .0) (g .before .before .matrix .given .1) in
+    rw (g .generator-shape .ensures (a .starts .now) (a .cols .now) (a .vals .now) (a .mass .now) refl) at (r .acted-batched .ensures (generator-checks (csr (a .n) (a .starts .now) (a .cols .now) (a .vals .now)) (given (a .with-mass) (a .mass .now))) (told .sound))
 
 pub phi-action-batched-spec : {M : Type 1} → statement M
 phi-action-batched-spec =
@@ -31,8 +45,11 @@ phi-action-batched-spec =
     (λ c κs. search needs)
     (λ c. search needs)
     (λ c. search needs)
-    acted-batched-requires
+    (λ c κs. search needs)
+    (λ c κs. search needs)
     returns
+    (λ c κs. search needs)
+    acted-batched-requires
     (λ c. search needs)
     (λ c. search needs)
-    (λ c. search needs))
+    returns-2)

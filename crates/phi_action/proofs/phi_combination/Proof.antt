@@ -1,10 +1,9 @@
 -- `phi_action::phi_combination` meets its contract. Assumes nothing.
 use borrow.Author.Needs.{needs}
-use Rattle.general_operator.specs.Csr.{csr}
-use Rattle.generator_action.specs.Mass.{given}
-use Rattle.generator_action.proofs.Answered.{refusal-told, norm-told}
 use mathlib.Core.Path.{refl}
-use Rattle.generator_action.specs.Mass.{generator-checks}
+use Rattle.general_operator.specs.Csr.{csr}
+use Rattle.generator_action.specs.Mass.{given, generator-checks}
+use Rattle.generator_action.proofs.Answered.{passed-up, refusal-told, norm-told, passed}
 use Rattle.checks.proofs.First.{refused-up}
 use Rattle.combination.proofs.Ends.{refused-by}
 use Rattle.phi_action.specs.declared.TaylorAnswer.the-variants.{Refusal}
@@ -14,21 +13,30 @@ use Rattle.phi_action.proofs.phi_combination.Tie as tie
 
 combined-requires : tie.Need-combined-requires
 combined-requires c κs =
-    let g = c .before .before .before .before .before in
-    let a = g .before .before .before .before .before .before .before .before .args in
-    norm-told (csr (a .n) (a .starts .now) (a .cols .now) (a .vals .now)) (given (a .with-mass) (a .mass .now)) (g .check-generator .ensures .0) (c .before .before .before .matrix2 .given .1)
+    let g = c .before .before in
+    let m = g .before .before .before .before in
+    let a = m .before .before .before .before .before .before .before .before .args in
+    let told = norm-told (csr (a .n) (a .starts .now) (a .cols .now) (a .vals .now)) (given (a .with-mass) (a .mass .now)) (m .check-generator .ensures .0) (g .before .before .matrix .given .1) in
+    rw (g .generator-shape .ensures (a .starts .now) (a .cols .now) (a .vals .now) (a .mass .now) refl) (passed _ (a .with-mass) (a .mass .now) told)
 
 returns : tie.Need-returns
 unfolding phi-combination combination-checks
 returns c =
-    let g = c .before .before .before in
-    let a = g .before .before .before .before .before .before .before .before .args in
+    let m = c .before .before .before .before in
+    let a = m .before .before .before .before .before .before .before .before .args in
     let matrix = csr (a .n) (a .starts .now) (a .cols .now) (a .vals .now) in
     let mass = given (a .with-mass) (a .mass .now) in
-    refused-by Refusal _ (a .out .now) (a .work .now) _ refl (refused-up (generator-checks matrix mass) _ refl (refusal-told matrix mass (g .check-generator .ensures .0) (c .before .matrix .given .1)))
+    let refusal = passed-up (c .before .before .enum-told .given .1) (c .before .number .ensures) (c .value .ensures) in
+    refused-by Refusal _ (a .out .now) (a .work .now) _ refl (refused-up (generator-checks matrix mass) _ refl (refusal-told matrix mass (m .check-generator .ensures .0) refusal))
 
 returns-2 : tie.Need-returns-2
-returns-2 c = c .before .before .before .before .combined .ensures
+returns-2 c =
+    let r = c .before .before .before .before in
+    let g = r .before .before .before in
+    let m = g .before .before .before .before in
+    let a = m .before .before .before .before .before .before .before .before .args in
+    let told = norm-told (csr (a .n) (a .starts .now) (a .cols .now) (a .vals .now)) (given (a .with-mass) (a .mass .now)) (m .check-generator .ensures .0) (g .before .before .matrix .given .1) in
+    rw (g .generator-shape .ensures (a .starts .now) (a .cols .now) (a .vals .now) (a .mass .now) refl) at (r .combined .ensures (generator-checks (csr (a .n) (a .starts .now) (a .cols .now) (a .vals .now)) (given (a .with-mass) (a .mass .now))) (told .sound))
 
 pub phi-combination-spec : {M : Type 1} → statement M
 phi-combination-spec =
@@ -37,8 +45,11 @@ phi-combination-spec =
     (λ c κs. search needs)
     (λ c. search needs)
     (λ c. search needs)
-    combined-requires
+    (λ c κs. search needs)
+    (λ c κs. search needs)
     returns
+    (λ c κs. search needs)
+    combined-requires
     (λ c. search needs)
     (λ c. search needs)
     returns-2)

@@ -29,8 +29,8 @@ returns c =
     let s = k .before .before .before .before .before .before .before .before in
     let a = s .args in
     let e = k .run-sweeps .ensures in
-    let n = a .l .n in
-    let field = sym (window-window 0 (n + a .l .d) 0 n _ (omega arith)) ∙ ap (λ (r : Swept). window 0 n (r .y)) (e .0) in
+    let n = a .x .l .n in
+    let field = sym (window-window 0 (n + a .x .l .d) 0 n _ (omega arith)) ∙ ap (λ (r : Swept). window 0 n (r .y)) (e .0) in
     (ap (λ (r : Swept). r .applied) (e .0), (f .copy-from .ensures ∙ ap (λ (vs : List Float). splice (a .place) vs (a .out .now)) field, e .1))
 
 pub swept-out-spec : {M : Type 1} → statement M

@@ -1,5 +1,4 @@
 -- `phi_action_helpers::generator_term` meets its contract. Assumes nothing.
-use borrow.Author.Needs.{needs}
 use Rattle.phi_action_helpers.specs.Augmented.{generator-term}
 use Rattle.phi_action_helpers.proofs.generator_term.Statement.{statement}
 use Rattle.phi_action_helpers.proofs.generator_term.Tie as tie

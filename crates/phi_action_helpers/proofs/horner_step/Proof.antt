@@ -6,9 +6,10 @@ use Rattle.phi_action_helpers.proofs.horner_step.Tie as tie
 
 returns : tie.Need-returns
 returns c =
-    let start = c .before .before .before .before .before .before .before .before .before .before .before .before .before .before .before in
+    let m = c .before .before .before .before .before .before .before in
+    let start = m .before .before .before .before .before .before .before .before .before .before .before in
     let a = start .args in
-    term-made (a .l) (a .b) _ _ _ _ (a .tau) (a .p) (a .k) (a .applied) _ (a .work .now) _ _ (start .pre .1 .0) (start .pre .0 .av-in) (c .before .before .before .before .before .before .before .before .before .scales-of .ensures) (c .before .before .before .before .before .before .before .aug-matvec .ensures) (c .before .before .add-in .ensures)
+    term-made (a .x .l) (a .x .b) _ _ _ _ (a .x .tau) (a .x .p) (a .k) (a .applied) _ (a .work .now) _ _ (start .pre .1 .0) (start .pre .0 .av-in) (m .before .before .scales-of .ensures) (m .aug-matvec .ensures) (c .before .before .add-in .ensures)
 
 pub horner-step-spec : {M : Type 1} → statement M
 horner-step-spec =

@@ -10,16 +10,16 @@ use Rattle.phi_action_helpers.proofs.run_sweeps.Statement.{statement}
 use Rattle.phi_action_helpers.proofs.run_sweeps.Tie as tie
 
 abbrev Inv-loop : tie.InvT-loop
-Inv-loop starts cols vals vectors work₀ l b tau p s f applied₀ i₀ work applied i = (i ≤ s) × Running l b starts cols vals vectors tau p i applied work₀ work
+Inv-loop starts cols vals vectors work₀ x s f applied₀ i₀ work applied i = (i ≤ s) × Running (x .l) (x .b) starts cols vals vectors (x .tau) (x .p) i applied work₀ work
 
 abbrev μ-loop : tie.MeasureT-loop
-μ-loop starts cols vals vectors work₀ l b tau p s f applied₀ i₀ work applied i = s - i
+μ-loop starts cols vals vectors work₀ x s f applied₀ i₀ work applied i = s - i
 
 loop-holds : tie.Need-loop-holds Inv-loop μ-loop
 loop-holds c = (omega arith, run-began _)
 
 -- all products so far, and those of one more sweep, fit
-fit : (c : tie.In-loop Inv-loop μ-loop) → c .before .loop .applied + c .before .before .before .before .before .before .before .before .before .before .args .p .m ≤ 18446744073709551615
+fit : (c : tie.In-loop Inv-loop μ-loop) → c .before .loop .applied + c .before .before .before .before .before .before .before .before .before .before .args .x .p .m ≤ 18446744073709551615
 fit c =
     let t = c .before in
     let start = c .before .before .before .before .before .before .before .before .before .before in
@@ -42,7 +42,7 @@ returns : tie.Need-returns Inv-loop μ-loop
 unfolding run-sweeps
 returns c =
     let t = c .before in
-    let e : t .loop .i ≡ t .before .before .before .before .before .before .before .before .before .args .p .s = omega arith in
+    let e : t .loop .i ≡ t .before .before .before .before .before .before .before .before .before .args .x .p .s = omega arith in
     (rw e at (t .loop .inv .1 .view), t .loop .inv .1 .kept)
 
 pub run-sweeps-spec : {M : Type 1} → statement M

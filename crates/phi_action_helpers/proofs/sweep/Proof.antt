@@ -7,14 +7,16 @@ use Rattle.phi_action_helpers.proofs.sweep.Tie as tie
 
 add-result : tie.Need-add-result
 add-result c =
-    let start = c .before .before .before .before .before .before .before .before .before .before .before .before .before .before in
-    omega (arith, made-is (start .args .l) _ _ _ _ _ _ (c .before .before .before .before .before .before .before .aug-horner-outer .ensures .0), start .pre)
+    let h = c .before .before .before .before .before .before .before .before in
+    let start = h .before .before .before .before .before .before .before in
+    omega (arith, made-is (start .args .x .l) _ _ _ _ _ _ (h .aug-horner-outer .ensures .0), start .pre)
 
 returns : tie.Need-returns
 returns c =
-    let start = c .before .before .before .before .before .before .before .before .before .before .before .before .before .before in
+    let h = c .before .before .before .before .before .before .before .before in
+    let start = h .before .before .before .before .before .before .before in
     let pre = start .pre in
-    let made = c .before .before .before .before .before .before .before .aug-horner-outer in
+    let made = h .aug-horner-outer in
     rescaled _ _ _ _ _ (made .result) _ (start .args .work .now) _ _ (pre .1 .0) (pre .0 .av-in) (pre .1 .1) (made .ensures .0) (made .ensures .1) (c .before .before .rescale-in .ensures)
 
 pub sweep-spec : {M : Type 1} → statement M

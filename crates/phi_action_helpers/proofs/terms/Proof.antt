@@ -7,10 +7,10 @@ use Rattle.phi_action_helpers.proofs.terms.Statement.{statement}
 use Rattle.phi_action_helpers.proofs.terms.Tie as tie
 
 abbrev Inv-loop : tie.InvT-loop
-Inv-loop starts cols vals vectors work₀ l b tau p m applied₀ k₀ work applied k = (k ≤ m) × State l b starts cols vals vectors tau p k applied work₀ work
+Inv-loop starts cols vals vectors work₀ x m applied₀ k₀ work applied k = (k ≤ m) × State (x .l) (x .b) starts cols vals vectors (x .tau) (x .p) k applied work₀ work
 
 abbrev μ-loop : tie.MeasureT-loop
-μ-loop starts cols vals vectors work₀ l b tau p m applied₀ k₀ work applied k = m - k
+μ-loop starts cols vals vectors work₀ x m applied₀ k₀ work applied k = m - k
 
 loop-holds : tie.Need-loop-holds Inv-loop μ-loop
 loop-holds c = (omega arith, began _)
@@ -29,7 +29,7 @@ loop-again c =
 returns : tie.Need-returns Inv-loop μ-loop
 returns c =
     let s = c .before in
-    let e : s .loop .k ≡ s .before .before .before .before .before .before .args .p .m = omega arith in
+    let e : s .loop .k ≡ s .before .before .before .before .before .before .args .x .p .m = omega arith in
     (rw e at (s .loop .inv .1 .view), s .loop .inv .1 .kept)
 
 pub terms-spec : {M : Type 1} → statement M
@@ -40,7 +40,7 @@ terms-spec =
     μ-loop
     loop-holds
     horner-step-requires
-    (λ c. omega (arith, c .before .before .before .before .before .before .before .before .before .before .before .good .1 .1 .1 .1 .1 .1 .1 .1 .0))
+    (λ c. omega (arith, c .before .before .before .before .before .before .before .before .before .before .before .good .1 .1 .1 .1 .1 .0))
     (λ c. omega arith)
     loop-again
     (λ c. omega arith)

@@ -6,13 +6,13 @@ use Rattle.phi_krylov.proofs.krylov.Statement.{statement}
 use Rattle.phi_krylov.proofs.krylov.Tie as tie
 
 mul-h : tie.Need-mul-h
-mul-h c = omega (arith, within (c .args .n) (c .args .d) (c .args .m) (c .pre .0) (c .pre .1) (c .pre .2))
+mul-h c = omega (arith, within (c .pre .0) (c .pre .1) (c .pre .2))
 
 mul-t10 : tie.Need-mul-t10
-mul-t10 c = omega (arith, within (c .args .n) (c .args .d) (c .args .m) (c .pre .0) (c .pre .1) (c .pre .2))
+mul-t10 c = omega (arith, within (c .pre .0) (c .pre .1) (c .pre .2))
 
 add-t11 : tie.Need-add-t11
-add-t11 c = omega (arith, within (c .args .n) (c .args .d) (c .args .m) (c .pre .0) (c .pre .1) (c .pre .2))
+add-t11 c = omega (arith, within (c .pre .0) (c .pre .1) (c .pre .2))
 
 pub krylov-spec : {M : Type 1} → statement M
 krylov-spec =

@@ -6,19 +6,19 @@ use Rattle.phi_krylov.proofs.layout.Statement.{statement}
 use Rattle.phi_krylov.proofs.layout.Tie as tie
 
 mul-av : tie.Need-mul-av
-mul-av c = omega (arith, within (c .args .n) (c .args .d) (c .args .m) (c .pre .0) (c .pre .1) (c .pre .2))
+mul-av c = omega (arith, within (c .pre .0) (c .pre .1) (c .pre .2))
 
 mul-av-2 : tie.Need-mul-av-2
-mul-av-2 c = omega (arith, within (c .args .n) (c .args .d) (c .args .m) (c .pre .0) (c .pre .1) (c .pre .2))
+mul-av-2 c = omega (arith, within (c .pre .0) (c .pre .1) (c .pre .2))
 
 add-av-5 : tie.Need-add-av-5
-add-av-5 c = omega (arith, within (c .args .n) (c .args .d) (c .args .m) (c .pre .0) (c .pre .1) (c .pre .2))
+add-av-5 c = omega (arith, within (c .pre .0) (c .pre .1) (c .pre .2))
 
 mul-t10 : tie.Need-mul-t10
-mul-t10 c = omega (arith, within (c .args .n) (c .args .d) (c .args .m) (c .pre .0) (c .pre .1) (c .pre .2))
+mul-t10 c = omega (arith, within (c .pre .0) (c .pre .1) (c .pre .2))
 
 add-t9 : tie.Need-add-t9
-add-t9 c = omega (arith, within (c .args .n) (c .args .d) (c .args .m) (c .pre .0) (c .pre .1) (c .pre .2))
+add-t9 c = omega (arith, within (c .pre .0) (c .pre .1) (c .pre .2))
 
 pub layout-spec : {M : Type 1} → statement M
 layout-spec =

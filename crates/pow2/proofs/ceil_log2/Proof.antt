@@ -41,6 +41,7 @@ ceil-log2-spec =
     returns
     (λ c. no-nan (c .before .args .x) (c .if1 .left))
     (λ c κs. search needs)
+    (λ c. search needs)
     (λ c. zero-way (c .before .before .before .args .x) _ (c .before .field .ensures) (c .if2 .taken))
     (λ c. exp-fits _ _ (c .before .field .ensures))
     (λ c. exact-way (c .before .before .before .before .args .x) _ (c .before .before .field .ensures) (c .before .if2 .left) (c .if3 .taken))

@@ -49,6 +49,7 @@ eta-scaling-spec =
     (tie.spec
     (λ c κs. search needs)
     (λ c κs. search needs)
+    (λ c. search needs)
     (λ c κs. search needs)
     (λ c. negated-fits (c .clamp .result) (omega (arith, within c)))
     (λ c κs. rw (negated (c .clamp .result) (omega (arith, within c))) (omega (arith, within c, mag-neg (c .clamp .result))))

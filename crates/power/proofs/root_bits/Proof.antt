@@ -7,7 +7,7 @@ use mathlib.Core.Bool.{Bool, true, false}
 use lib.Ieee.{Float, le}
 use Rattle.doubles.proofs.Patterns.{finite-no-nan}
 use Rattle.power.specs.Power.{within}
-use Rattle.power.proofs.Bracket.{Bracket, test-is, begin, end}
+use Rattle.power.proofs.Bracket.{Bracket, test-is, bracket-begin, bracket-end}
 use Rattle.power.proofs.root_bits.Statement.{statement}
 use Rattle.power.proofs.root_bits.Tie as tie
 
@@ -27,7 +27,7 @@ tested : (c : tie.After-power Inv-loop μ-loop) (b : Bool) → le (c .power .res
 tested c b e = test-is _ _ _ b (below (c .before .before)) (subst (λ (x : Float). le x (c .before .before .before .before .before .args .t) ≡ b) (c .power .ensures) e)
 
 loop-holds : tie.Need-loop-holds Inv-loop μ-loop
-loop-holds c = begin _ _ _ (c .before .pre) (c .first-guess .ensures .0) (c .first-guess .ensures .1)
+loop-holds c = bracket-begin _ _ _ (c .before .pre) (c .first-guess .ensures .0) (c .first-guess .ensures .1)
 
 add-loop : tie.Need-add-loop Inv-loop μ-loop
 add-loop c = omega (arith, c .loop .inv .order, c .loop .inv .top)
@@ -58,7 +58,7 @@ loop-again-2 c =
     record { within-low = s .within-low; past-high = tested (c .before .before) false (c .before .if1 .left); order = between (c .before .before .before .before) .0; top = omega (arith, below (c .before .before .before .before)); between = c .next-trial2 .ensures }
 
 returns : tie.Need-returns Inv-loop μ-loop
-returns c = end _ _ _ _ _ (c .before .before .before .pre) (c .before .loop .inv) (omega (arith, c .loop-test .left))
+returns c = bracket-end _ _ _ _ _ (c .before .before .before .pre) (c .before .loop .inv) (omega (arith, c .loop-test .left))
 
 pub root-bits-spec : {M : Type 1} → statement M
 root-bits-spec =

@@ -1,7 +1,7 @@
 -- `replay::word_at` meets its contract. Assumes nothing.
 use borrow.Author.Needs.{needs}
 use native.Mathlib.Omega.{arith}
-use Rattle.exports_bytes.specs.Bytes.{word}
+use Rattle.le_bytes.specs.Bytes.{word}
 use Rattle.replay.proofs.word_at.Statement.{statement}
 use Rattle.replay.proofs.word_at.Tie as tie
 

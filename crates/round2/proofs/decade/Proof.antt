@@ -1,13 +1,13 @@
 -- `round2::decade` meets its contract. Assumes nothing.
-use mathlib.Core.Path.{_≡_, refl, sym, ap, _∙_, subst}
+use mathlib.Core.Path.{_≡_, sym, subst}
 use mathlib.Core.Bool.{true, false}
-use Prim.Native.Nat.{ℕ, _<_, _≤_}
+use Prim.Native.Nat.{ℕ, _≤_}
 use native.Mathlib.Omega.{arith}
 use lib.Dec.{lit≤, lit<}
 use lib.Ieee.{Float, le}
-use Rattle.lists.proofs.Descent.{Seek, begin, next-fits, taken, left, end}
+use Rattle.lists.proofs.Descent.{Seek, seek-begin, next-fits, seek-taken, seek-left, seek-end}
 use Rattle.round2.specs.Rounded.{reaches, decade}
-use Rattle.round2.proofs.Powers.{decade-from, decade-under, reach-yes, reach-no, reach-past}
+use Rattle.round2.proofs.Powers.{decade-from, reach-yes, reach-no, reach-past}
 use Rattle.round2.proofs.decade.Statement.{statement}
 use Rattle.round2.proofs.decade.Tie as tie
 
@@ -18,7 +18,7 @@ abbrev μ-loop : tie.MeasureT-loop
 μ-loop x lo₀ k₀ lo k = k
 
 loop-holds : tie.Need-loop-holds Inv-loop μ-loop
-loop-holds c = begin (reaches (c .args .x)) 10 632 (lit< tt)
+loop-holds c = seek-begin (reaches (c .args .x)) 10 632 (lit< tt)
 
 sub-k : tie.Need-sub-k Inv-loop μ-loop
 sub-k c = omega arith
@@ -38,7 +38,7 @@ loop-less c = omega arith
 loop-again : tie.Need-loop-again Inv-loop μ-loop
 loop-again c =
     let d = c .before .before in
-    taken _ 10 632 _ _ (d .before .before .loop .inv) (lit≤ tt) (d .before .loop-test .taken) (d .if1 .taken)
+    seek-taken _ 10 632 _ _ (d .before .before .loop .inv) (lit≤ tt) (d .before .loop-test .taken) (d .if1 .taken)
     (reach-yes _ _ (d .if1 .taken) (subst (λ (y : Float). le y (d .before .before .before .args .x) ≡ true) (c .before .ten .ensures) (c .if2 .taken)))
 
 loop-less-2 : tie.Need-loop-less-2 Inv-loop μ-loop
@@ -47,20 +47,20 @@ loop-less-2 c = omega arith
 loop-again-2 : tie.Need-loop-again-2 Inv-loop μ-loop
 loop-again-2 c =
     let d = c .before .before in
-    left _ 10 632 _ _ (d .before .before .loop .inv) (lit≤ tt) (d .before .loop-test .taken)
+    seek-left _ 10 632 _ _ (d .before .before .loop .inv) (lit≤ tt) (d .before .loop-test .taken)
     (reach-no _ _ (d .if1 .taken) (subst (λ (y : Float). le y (d .before .before .before .args .x) ≡ false) (c .before .ten .ensures) (c .if2 .left)))
 
 loop-less-3 : tie.Need-loop-less-3 Inv-loop μ-loop
 loop-less-3 c = omega arith
 
 loop-again-3 : tie.Need-loop-again-3 Inv-loop μ-loop
-loop-again-3 c = left _ 10 632 _ _ (c .before .before .loop .inv) (lit≤ tt) (c .before .loop-test .taken) (reach-past _ _ (c .if1 .left))
+loop-again-3 c = seek-left _ 10 632 _ _ (c .before .before .loop .inv) (lit≤ tt) (c .before .loop-test .taken) (reach-past _ _ (c .if1 .left))
 
 returns : tie.Need-returns Inv-loop μ-loop
 unfolding decade
 returns c =
     let x = c .before .before .args .x in
-    let e : c .before .loop .lo ≡ decade x = end (reaches x) 10 632 _ _ (c .before .loop .inv) (c .loop-test .left) in
+    let e : c .before .loop .lo ≡ decade x = seek-end (reaches x) 10 632 _ _ (c .before .loop .inv) (c .loop-test .left) in
     (e, subst (λ (n : ℕ). 1 ≤ n) (sym e) (decade-from x (c .before .before .pre)), c .before .loop .inv .low)
 
 pub decade-spec : {M : Type 1} → statement M

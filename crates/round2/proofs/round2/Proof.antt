@@ -4,12 +4,12 @@ use mathlib.Core.Path.{_≡_, refl, sym, ap, _∙_, subst}
 use mathlib.Core.Bool.{Bool, true, false, _&&_, cond}
 use Prim.Native.Nat.{ℕ, _-_}
 use lib.Dec.{T}
-use lib.Ieee.{Float, nan, binary64, le, lt, mul, div, ofBits, nanBits}
+use lib.Ieee.{Float, nan, binary64, le, lt, mul, div, nanBits}
 use Rattle.doubles.specs.F64.{+∞}
 use Rattle.doubles.specs.Whole.{ceil}
 use Rattle.doubles.proofs.Compare.{zero-over-zero}
 use Rattle.round2.specs.Ten.{ten}
-use Rattle.round2.specs.Rounded.{usable, decade, up-to, round2}
+use Rattle.round2.specs.Rounded.{decade, up-to, round2}
 use Rattle.round2.proofs.round2.Statement.{statement}
 use Rattle.round2.proofs.round2.Tie as tie
 

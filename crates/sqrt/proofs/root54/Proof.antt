@@ -3,7 +3,7 @@ use borrow.Author.Needs.{needs}
 use Prim.Native.Nat.{ℕ, _-_, _*_, _/_, _%_, _≤_, _<_}
 use native.Mathlib.Nat.{div-add-mod, mod-lt}
 use native.Mathlib.Omega.{arith}
-use Rattle.sqrt.proofs.Parts.{square-small, s-high, s-low, low-most, kept, lowered}
+use Rattle.sqrt.proofs.Parts.{square-small, s-high, s-low, low-most, root-kept, root-lowered}
 use Rattle.sqrt.proofs.root54.Statement.{statement}
 use Rattle.sqrt.proofs.root54.Tie as tie
 
@@ -49,12 +49,12 @@ sub-result c = omega (arith, low (c .before))
 returns : tie.Need-returns
 returns c =
     let a = c .before in
-    lowered (a .before .args .m) (a .root27 .result) (a .before .pre .0) (a .before .pre .1) (a .root27 .ensures .0) (a .root27 .ensures .1) _ _ (div-add-mod _ _) (left a) (quotient a) (c .if1 .taken)
+    root-lowered (a .before .args .m) (a .root27 .result) (a .before .pre .0) (a .before .pre .1) (a .root27 .ensures .0) (a .root27 .ensures .1) _ _ (div-add-mod _ _) (left a) (quotient a) (c .if1 .taken)
 
 returns-2 : tie.Need-returns-2
 returns-2 c =
     let a = c .before in
-    kept (a .before .args .m) (a .root27 .result) (a .before .pre .0) (a .before .pre .1) (a .root27 .ensures .0) (a .root27 .ensures .1) _ _ (div-add-mod _ _) (left a) (quotient a) (c .if1 .left)
+    root-kept (a .before .args .m) (a .root27 .result) (a .before .pre .0) (a .before .pre .1) (a .root27 .ensures .0) (a .root27 .ensures .1) _ _ (div-add-mod _ _) (left a) (quotient a) (c .if1 .left)
 
 pub root54-spec : {M : Type 1} → statement M
 root54-spec =

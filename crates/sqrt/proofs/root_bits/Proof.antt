@@ -1,10 +1,10 @@
 -- `sqrt::root_bits` meets its contract. Assumes nothing.
-use mathlib.Core.Path.{_≡_, refl, sym, ap, _∙_, subst}
-use Prim.Native.Nat.{ℕ, _-_, _<_, _≤_, _/_, _%_, _*_, _+_, _^_}
+use mathlib.Core.Path.{_≡_, refl, ap, _∙_}
+use Prim.Native.Nat.{ℕ, _-_, _<_, _≤_, _/_, _%_, _*_}
 use native.Mathlib.Omega.{arith}
 use native.Mathlib.Nat.{le-refl}
 use Rattle.sqrt.specs.Sqrt.{nearest-root}
-use Rattle.sqrt.proofs.Halves.{Scaled, scaled-low, scaled-step, even-is, odd-is, rounded, under, r-high}
+use Rattle.sqrt.proofs.Halves.{Scaled, scaled-low, scaled-step, even-is, odd-is, half-up-root, half-up-under, r-high}
 use Rattle.sqrt.proofs.root_bits.Statement.{statement}
 use Rattle.sqrt.proofs.root_bits.Tie as tie
 
@@ -63,14 +63,14 @@ add-result-3 c =
     let d = c .before .before .before in
     let t : 4503599627370496 ≤ d .loop .m = c .before .before .loop-test .left in
     let h : d .loop .m < 9007199254740992 = d .loop .inv .high in
-    omega (arith, under (d .loop .m * 2) (d .loop .f / 2) (c .root54 .result) (omega arith) (omega arith) (half-most d) (c .root54 .ensures .0) (c .root54 .ensures .1))
+    omega (arith, half-up-under (d .loop .m * 2) (d .loop .f / 2) (c .root54 .result) (omega arith) (omega arith) (half-most d) (c .root54 .ensures .0) (c .root54 .ensures .1))
 
 returns : tie.Need-returns Inv-loop μ-loop
 returns c =
     let d = c .before .before .before in
     let t : 4503599627370496 ≤ d .loop .m = c .before .before .loop-test .left in
     let h : d .loop .m < 9007199254740992 = d .loop .inv .high in
-    (under (d .loop .m * 2) (d .loop .f / 2) (c .root54 .result) (omega arith) (omega arith) (half-most d) (c .root54 .ensures .0) (c .root54 .ensures .1), rounded (d .loop .m * 2) (d .loop .f / 2) (c .root54 .result) (omega arith) (omega arith) (half-most d) (c .root54 .ensures .0) (c .root54 .ensures .1) ∙ ap nearest-root (odd-is _ _ _ _ (d .loop .inv) (c .before .if1 .taken)))
+    (half-up-under (d .loop .m * 2) (d .loop .f / 2) (c .root54 .result) (omega arith) (omega arith) (half-most d) (c .root54 .ensures .0) (c .root54 .ensures .1), half-up-root (d .loop .m * 2) (d .loop .f / 2) (c .root54 .result) (omega arith) (omega arith) (half-most d) (c .root54 .ensures .0) (c .root54 .ensures .1) ∙ ap nearest-root (odd-is _ _ _ _ (d .loop .inv) (c .before .if1 .taken)))
 
 add-result-4 : tie.Need-add-result-4 Inv-loop μ-loop
 add-result-4 c = omega (arith, half-most (c .before .before))
@@ -93,14 +93,14 @@ add-result-6 c =
     let d = c .before .before .before in
     let t : 4503599627370496 ≤ d .loop .m = c .before .before .loop-test .left in
     let h : d .loop .m < 9007199254740992 = d .loop .inv .high in
-    omega (arith, under (d .loop .m) (d .loop .f / 2) (c .root542 .result) t (omega arith) (half-most d) (c .root542 .ensures .0) (c .root542 .ensures .1))
+    omega (arith, half-up-under (d .loop .m) (d .loop .f / 2) (c .root542 .result) t (omega arith) (half-most d) (c .root542 .ensures .0) (c .root542 .ensures .1))
 
 returns-2 : tie.Need-returns-2 Inv-loop μ-loop
 returns-2 c =
     let d = c .before .before .before in
     let t : 4503599627370496 ≤ d .loop .m = c .before .before .loop-test .left in
     let h : d .loop .m < 9007199254740992 = d .loop .inv .high in
-    (under (d .loop .m) (d .loop .f / 2) (c .root542 .result) t (omega arith) (half-most d) (c .root542 .ensures .0) (c .root542 .ensures .1), rounded (d .loop .m) (d .loop .f / 2) (c .root542 .result) t (omega arith) (half-most d) (c .root542 .ensures .0) (c .root542 .ensures .1) ∙ ap nearest-root (even-is _ _ _ _ (d .loop .inv) (even (d .loop .f) (c .before .if1 .left))))
+    (half-up-under (d .loop .m) (d .loop .f / 2) (c .root542 .result) t (omega arith) (half-most d) (c .root542 .ensures .0) (c .root542 .ensures .1), half-up-root (d .loop .m) (d .loop .f / 2) (c .root542 .result) t (omega arith) (half-most d) (c .root542 .ensures .0) (c .root542 .ensures .1) ∙ ap nearest-root (even-is _ _ _ _ (d .loop .inv) (even (d .loop .f) (c .before .if1 .left))))
 
 pub root-bits-spec : {M : Type 1} → statement M
 root-bits-spec =

@@ -1,13 +1,12 @@
 -- `sqrt::sqrt` meets its contract. Assumes nothing.
 use borrow.Author.Needs.{needs}
-use mathlib.Core.Path.{_≡_, sym, subst, ap, _∙_}
-use Prim.Native.Nat.{ℕ, _<_}
+use mathlib.Core.Path.{sym, subst, _∙_}
 use native.Mathlib.Omega.{arith}
 use lib.Dec.{T}
 use lib.Ieee.{binary64, fits}
-use Rattle.doubles.proofs.Patterns.{finite-no-nan}
+use Rattle.doubles.proofs.Patterns.{finite-no-nan, val-subnormal}
 use Rattle.doubles.proofs.Compare.{above-no-nan}
-use Rattle.sqrt.proofs.Cases.{when-zero, when-infinite, when-finite, subnormal, subnormal-root, normal-root, when-not}
+use Rattle.sqrt.proofs.Cases.{when-zero, when-infinite, when-finite, subnormal-root, normal-root, when-not}
 use Rattle.sqrt.proofs.sqrt.Statement.{statement}
 use Rattle.sqrt.proofs.sqrt.Tie as tie
 
@@ -24,7 +23,7 @@ root-bits-requires : tie.Need-root-bits-requires
 root-bits-requires c κs =
     let s = c .before .before .before .before in
     let p = when-finite (s .args .x) (held s) (c .before .before .if2 .taken) (c .before .if3 .taken) .1 in
-    let e = subnormal _ (c .if4 .taken) in
+    let e = val-subnormal _ (c .if4 .taken) in
     (omega arith, omega arith, omega arith, omega arith)
 
 float-from-bits-result : tie.Need-float-from-bits-result

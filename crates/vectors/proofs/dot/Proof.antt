@@ -1,7 +1,7 @@
 -- `vectors::dot` meets its contract. Assumes nothing.
 use borrow.Author.Needs.{needs}
 use native.Mathlib.Omega.{arith}
-use mathlib.Core.Path.{_≡_, _∙_}
+use mathlib.Core.Path.{_∙_}
 use native.Mathlib.Nat.{zero-add}
 use Rattle.vectors.proofs.Blocks.{lanes-none}
 use Rattle.vectors.proofs.dot.Statement.{statement}

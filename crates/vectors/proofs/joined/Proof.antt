@@ -1,6 +1,5 @@
 -- `vectors::joined` meets its contract. Assumes nothing.
 use native.Mathlib.Omega.{arith}
-use mathlib.Core.Path.{_≡_}
 use Rattle.vectors.specs.Vectors.{dot}
 use Rattle.vectors.proofs.joined.Statement.{statement}
 use Rattle.vectors.proofs.joined.Tie as tie

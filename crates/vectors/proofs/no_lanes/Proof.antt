@@ -1,5 +1,4 @@
 -- `vectors::no_lanes` meets its contract. Assumes nothing.
-use mathlib.Core.List.{[]}
 use mathlib.Core.Path.{refl}
 use lib.Ieee.{ofBits}
 use Rattle.vectors.specs.Vectors.{open-Vectors}

@@ -1,0 +1,11 @@
+pub mod Built
+pub mod Counts
+pub mod Limit
+pub mod Lengths
+pub mod Attempts
+pub mod Krylov
+pub mod Products
+pub mod Taylor
+pub mod Start
+pub mod Never23
+pub mod Demand3

@@ -1,0 +1,322 @@
+-- The Taylor half of demand 3: what an accepted job costs, and when 25 refuses (document 01, 'What demand 3 counts'). Assumes nothing.
+use mathlib.Core.Path.{_≡_, refl, sym, ap, _∙_, subst}
+use mathlib.Core.Bool.{Bool, true, false, not, true≢false}
+use mathlib.Core.List.{List, [], _∷_, _++_}
+use mathlib.Core.Logic.{⊎-elim}
+use Prim.Native.Nat.{ℕ, zero, suc, _-_, _*_, _<_}
+use native.Mathlib.Omega.{arith}
+use lib.Dec.{T, ltb}
+use lib.ListN.{length}
+use lib.Ieee.{Float, nan, le, ofBits}
+use lib.Ieee.Bits.{is-true}
+use borrow.Author.Tests.{not-false, le-leb}
+use Rattle.doubles.specs.F64.{_⊕_, _⊗_, _⋖_, _⩽_, +0, 2f, is-finite}
+use Rattle.doubles.proofs.Total.{le-number-left, ⋖-not, ⩽-or-⋖}
+use Rattle.doubles.proofs.Monotone.{finite-number, mul-number, add-nonneg, mul-nonneg}
+use Rattle.checks.specs.First.{Check, refuse, first, before}
+use Rattle.checks.proofs.First.{unless, first-cons, sound-cons, sound-append, sound-on, stops, passes}
+use Rattle.checks.proofs.Numbers.{before-append, not-by, refused-past, refused-here}
+use Rattle.checks.specs.declared.Checked.{Checked}
+use Rattle.checks.specs.declared.Checked.the-variants.{Sound, Refused}
+use Rattle.general_operator.specs.Csr.{Csr, row-sum-norm}
+use Rattle.general_operator.proofs.Sound.{or-false}
+use Rattle.generator_action.specs.Generator.{Generator}
+use Rattle.expmv.specs.Select.{select-s-m, admissible, degree, quotient, M-MAX}
+use Rattle.expmv.proofs.Rows.{degree-bounds}
+use Rattle.expmv.specs.declared.Selected.{Selected}
+use Rattle.expmv.specs.declared.Selected.the-variants.{NoRow, Row}
+use Rattle.expmv.proofs.Least as Least
+use Rattle.expmv.proofs.Least.{none-only, none-if}
+use Rattle.pow2.specs.Pow2.{sup, eta-scaling}
+use Rattle.phi_action_helpers.specs.Augmented.{Augmented}
+use Rattle.phi_action_helpers.specs.declared.SweepPlan.{SweepPlan}
+use Rattle.phi_shift.specs.Plan.{argument, sweep-plan, plan-of}
+use Rattle.phi_shift.specs.declared.PlanAnswer.{PlanAnswer}
+use Rattle.phi_shift.specs.declared.PlanAnswer.the-variants.{NoPlan, Plan}
+use Rattle.phi_shift.proofs.Chosen.{plan-chosen, chosen-least}
+use Rattle.combination.specs.Call.{Call, unless-refused}
+use Rattle.combination.specs.Combination.{combination-operator, action-operator}
+use Rattle.combination.specs.Checks.{no-row, out-of-range, count-checks, index-checks, time-checks, length-checks, finite-checks, magnitude-checks, schedule-checks, memory-checks, vector-checks, sweep-checks, job-checks, taylor-need}
+use Rattle.phi_action.specs.declared.TaylorReport.{TaylorReport}
+use Rattle.phi_action.specs.declared.TaylorAnswer.{TaylorAnswer}
+use Rattle.phi_action.specs.declared.TaylorAnswer.the-variants.{Refusal, Soaked}
+use Rattle.phi_action.specs.Calls.{Fields, after-plan, combination-checks, phi-combination, action-checks, phi-action, phi-action-batched}
+use Rattle.demand_3.specs.Taylor.{norm-of, row-fits, TaylorCost, NoRowFits, Exactly25, TaylorClaim}
+use Rattle.demand_3.specs.Demand3.{start-of, operator-of, action-start, action-of}
+use Rattle.demand_3.proofs.Products.{Made, one-made, batch-made}
+
+reported : {a b : TaylorReport} → Soaked a ≡ Soaked b → a ≡ b
+reported e = cc
+
+-- an accepted answer, and its output, are those of a job whose checks all passed
+accepted : (x : Checked) (output memory : List Float) (end : Call TaylorAnswer) {r : TaylorReport} → unless-refused Refusal x output memory end .answer ≡ Soaked r
+    → (end .answer ≡ Soaked r) × (end .output ≡ unless-refused Refusal x output memory end .output)
+unfolding unless-refused
+accepted Sound output memory end e = (e, refl)
+accepted (Refused k x) output memory end e = let z : zero ≡ 1 = cc in absurd (omega (arith, z))
+
+-- the highest degree leaves no row out
+pub fits-is : (arg : Float) (j : ℕ) → j < 22 → admissible M-MAX arg j ≡ row-fits arg j
+unfolding admissible quotient
+fits-is arg j h = rw (le-leb (degree j) 30 (degree-bounds j h .1)) refl
+
+module _ (tau : Float) (b : Augmented) (runs : ℕ) (start : ℕ → List Float) (run : SweepPlan → Fields) (made : (p : SweepPlan) → Made b tau runs start p (run p)) where
+  of-plan : (need : ℕ) (output memory : List Float) (x : PlanAnswer) {r : TaylorReport} → sweep-plan M-MAX tau (b .matrix) (norm-of b) ≡ x → after-plan need tau (norm-of b) output memory x run .answer ≡ Soaked r
+      → TaylorCost tau b runs start (after-plan need tau (norm-of b) output memory x run .output) r
+  unfolding after-plan argument
+  of-plan need output memory NoPlan e f = let z : zero ≡ 1 = cc in absurd (omega (arith, z))
+  of-plan need output memory (Plan p) e f =
+      let c = plan-chosen M-MAX tau (b .matrix) (norm-of b) e in
+      subst (TaylorCost tau b runs start (run p .fields)) (reported f)
+      (record { planned = e; chosen = c; least = λ j l e. chosen-least c j l (fits-is _ j l ∙ e); applications = made p .applications; counted = made p .counted; fields = made p .fields })
+
+  pub of-call : (x : Checked) (need : ℕ) (output memory : List Float) {r : TaylorReport}
+      → unless-refused Refusal x output memory (after-plan need tau (norm-of b) output memory (sweep-plan M-MAX tau (b .matrix) (norm-of b)) run) .answer ≡ Soaked r
+      → TaylorCost tau b runs start (unless-refused Refusal x output memory (after-plan need tau (norm-of b) output memory (sweep-plan M-MAX tau (b .matrix) (norm-of b)) run) .output) r
+  of-call x need output memory {r} e =
+      let h = accepted x output memory _ e in
+      subst (λ (out : List Float). TaylorCost tau b runs start out r) (h .1) (of-plan need output memory _ refl (h .0))
+
+-- ---- 25
+-- tau and the argument are numbers from 0 on where 14 and 24 pass, and so is the norm where the generator's checks do
+two-nonneg : T (+0 ⩽ 2f)
+unfolding le ofBits
+two-nonneg = tt
+
+holds : {b : Bool} → b ≡ true → T b
+holds e = rw e tt
+
+in-range : (x : Float) → out-of-range x ≡ false → T (is-finite x) × T (+0 ⩽ x)
+unfolding out-of-range
+in-range x e =
+    let r = or-false (not (is-finite x)) (x ⋖ +0) e in
+    let f = holds (not-false (is-finite x) (r .0)) in
+    (f, ⊎-elim (λ h. h) (λ h. absurd (true≢false (sym (is-true (x ⋖ +0) h) ∙ r .1))) (⩽-or-⋖ +0 x (le-number-left +0 2f two-nonneg) (finite-number x f)))
+
+argument-nonneg : (tau norm : Float) → out-of-range tau ≡ false → out-of-range norm ≡ false → T (is-finite (argument tau norm)) → T (+0 ⩽ argument tau norm)
+unfolding argument
+argument-nonneg tau norm e f g =
+    let t = in-range tau e in
+    let n = in-range norm f in
+    mul-nonneg (tau ⊗ norm ⊕ 2f) 2f (add-nonneg (tau ⊗ norm) 2f (mul-nonneg tau norm (t .1) (n .1) (mul-number tau norm (t .0) (n .0))) two-nonneg) two-nonneg (finite-number _ g)
+
+row-none : (s : Selected) → no-row s ≡ true → s ≡ NoRow
+row-none NoRow e = refl
+row-none (Row s m) e = absurd (true≢false (sym e))
+
+none-fits : (arg : Float) → T (is-finite arg) → T (+0 ⩽ arg) → Least.Refused M-MAX arg → (j : ℕ) → j < 22 → admissible M-MAX arg j ≡ false
+none-fits arg f g (Least.not-finite e) = absurd (true≢false (sym (is-true (is-finite arg) f) ∙ e))
+none-fits arg f g (Least.below-zero e) = absurd (⋖-not arg +0 (holds e) g)
+none-fits arg f g (Least.no-row h) = h
+
+has-plan : (tau : Float) (q : Csr) (norm : Float) → no-row (select-s-m M-MAX (argument tau norm)) ≡ false → sweep-plan M-MAX tau q norm ≡ NoPlan → zero ≡ 1
+unfolding sweep-plan plan-of
+has-plan tau q norm h e = go (select-s-m M-MAX (argument tau norm)) h e
+  where
+    go : (r : Selected) → no-row r ≡ false → plan-of M-MAX tau q norm r ≡ NoPlan → zero ≡ 1
+    go NoRow h e = cc
+    go (Row s m) h e = cc
+
+-- the checks of a job: before tau's, between tau's and those of the schedule
+module _ (gs xs ys : List Check) (tau norm : Float) (memory need : ℕ) where
+  abbrev pub in-order : List Check
+  in-order = gs ++ (xs ++ (time-checks tau ++ (ys ++ (schedule-checks M-MAX norm tau ++ memory-checks memory need))))
+
+  abbrev just-before : List Check
+  just-before = refuse 24 (not (is-finite (argument tau norm))) (argument tau norm) ∷ []
+
+  module _ (rg : Sound ≡ first gs → out-of-range norm ≡ false) (lg : before 25 gs ≡ gs) (lx : before 25 xs ≡ xs) (ly : before 25 ys ≡ ys) where
+    lt : before 25 (time-checks tau) ≡ time-checks tau
+    unfolding before time-checks
+    lt = refl
+
+    ls : before 25 just-before ≡ just-before
+    unfolding before
+    ls = refl
+
+    last : before 25 (schedule-checks M-MAX norm tau ++ memory-checks memory need) ≡ just-before
+    unfolding before schedule-checks memory-checks
+    last = refl
+
+    before-is : before 25 in-order ≡ gs ++ (xs ++ (time-checks tau ++ (ys ++ just-before)))
+    before-is =
+        before-append 25 gs _ lg
+        ∙ ap (λ (r : List Check). gs ++ r) (before-append 25 xs _ lx ∙ ap (λ (r : List Check). xs ++ r) (before-append 25 (time-checks tau) _ lt ∙ ap (λ (r : List Check). time-checks tau ++ r) (before-append 25 ys _ ly ∙ ap (λ (r : List Check). ys ++ r) last)))
+
+    not-26 : {x : Float} → Refused 25 x ≡ first (memory-checks memory need) → ⊥
+    unfolding memory-checks first
+    not-26 {x} e = go (ltb memory need) (e ∙ first-cons 26 (ltb memory need) nan [])
+      where
+        go : (b : Bool) → Refused 25 x ≡ unless b 26 nan Sound → ⊥
+        go true e = let n : _≡_ {A = ℕ} 25 26 = cc in absurd (omega (arith, n))
+        go false e = let z : zero ≡ 1 = cc in absurd (omega (arith, z))
+
+    -- what holds where 14 and 24 pass, and the generator's checks
+    ranged : Sound ≡ first (before 25 in-order) → T (is-finite (argument tau norm)) × T (+0 ⩽ argument tau norm)
+    unfolding time-checks
+    ranged e =
+        let g = sound-append gs _ (e ∙ ap first before-is) in
+        let x = sound-append xs _ (g .1) in
+        let t = sound-append (time-checks tau) _ (x .1) in
+        let y = sound-append ys _ (t .1) in
+        let f = holds (not-false (is-finite (argument tau norm)) (sound-cons _ _ _ _ (y .1) .0)) in
+        (f, argument-nonneg tau norm (sound-cons _ _ _ _ (t .0) .0) (rg (g .0)) f)
+
+    pub only-25 : {x : Float} → Refused 25 x ≡ first in-order → NoRowFits in-order tau norm x
+    unfolding schedule-checks argument
+    only-25 {x} e =
+        let g = refused-past 25 gs _ lg e in
+        let h = refused-past 25 xs _ lx (g .1) in
+        let t = refused-past 25 (time-checks tau) _ lt (h .1) in
+        let y = refused-past 25 ys _ ly (t .1) in
+        let s = refused-past 25 just-before (refuse 25 (no-row (select-s-m M-MAX (argument tau norm))) (argument tau norm) ∷ memory-checks memory need) ls (y .1) in
+        let r = refused-here 25 _ _ (memory-checks memory need) not-26 (s .1) in
+        let b : Sound ≡ first (before 25 in-order) = sound-on gs _ refl (g .0) (sound-on xs _ refl (h .0) (sound-on (time-checks tau) _ refl (t .0) (sound-on ys _ refl (y .0) (s .0)))) ∙ ap first (sym before-is) in
+        let f = ranged b in
+        record { earlier = b; none = λ j l. sym (fits-is _ j l) ∙ none-fits _ (f .0) (f .1) (none-only M-MAX _ (row-none _ (r .0))) j l; told = r .1 }
+
+    pub if-25 : {x : Float} → NoRowFits in-order tau norm x → Refused 25 x ≡ first in-order
+    unfolding schedule-checks argument
+    if-25 {x} h =
+        let g = sound-append gs _ (h .earlier ∙ ap first before-is) in
+        let k = sound-append xs _ (g .1) in
+        let t = sound-append (time-checks tau) _ (k .1) in
+        let y = sound-append ys _ (t .1) in
+        let none : no-row (select-s-m M-MAX (argument tau norm)) ≡ true = ap no-row (none-if M-MAX (argument tau norm) (Least.no-row (λ j l. fits-is _ j l ∙ h .none j l))) in
+        sound-on gs _ refl (g .0) (sound-on xs _ refl (k .0) (sound-on (time-checks tau) _ refl (t .0) (sound-on ys _ refl (y .0) (passes 24 _ _ (sound-cons _ _ _ _ (y .1) .0) (stops _ none (h .told))))))
+
+    planned : Sound ≡ first in-order → no-row (select-s-m M-MAX (argument tau norm)) ≡ false
+    unfolding schedule-checks
+    planned e =
+        let x = sound-append xs _ (sound-append gs _ e .1) in
+        let y = sound-append ys _ (sound-append (time-checks tau) _ (x .1) .1) in
+        let s = sound-append (schedule-checks M-MAX norm tau) _ (y .1) in
+        sound-cons _ _ _ _ (sound-cons _ _ _ _ (s .0) .1) .0
+
+    -- of a call
+    module _ (q : Csr) (run : SweepPlan → Fields) (output lent : List Float) where
+      abbrev call : Checked → Call TaylorAnswer
+      call c = unless-refused Refusal c output lent (after-plan need tau norm output lent (sweep-plan M-MAX tau q norm) run)
+
+      has-run : (x : PlanAnswer) {k : ℕ} {y : Float} → (x ≡ NoPlan → zero ≡ 1) → after-plan need tau norm output lent x run .answer ≡ Refusal k y → ⊥
+      unfolding after-plan
+      has-run NoPlan h e = absurd (omega (arith, h refl))
+      has-run (Plan p) h e = let z : zero ≡ 1 = cc in absurd (omega (arith, z))
+
+      refusal-of : (c : Checked) {x : Float} → c ≡ first in-order → call c .answer ≡ Refusal 25 x → Refused 25 x ≡ first in-order
+      unfolding unless-refused
+      refusal-of Sound e f = absurd (has-run _ (has-plan tau q norm (planned e)) f)
+      refusal-of (Refused k y) {x} e f = same f ∙ e
+        where
+          same : {i j : ℕ} {x y : Float} → Refusal i x ≡ Refusal j y → Refused j y ≡ Refused i x
+          same g = cc
+
+      refuses : {x : Float} → NoRowFits in-order tau norm x → call (first in-order) .answer ≡ Refusal 25 x
+      unfolding unless-refused
+      refuses h = rw (← (if-25 h)) refl
+
+      pub exactly-25 : (cs : List Check) → cs ≡ in-order → Exactly25 (call (first cs)) cs tau norm
+      exactly-25 cs e x = rw e ((λ f. only-25 (refusal-of (first in-order) refl f)), refuses)
+
+      pub never-27 : (cs : List Check) → cs ≡ in-order → before 27 cs ≡ cs → (x : Float) → call (first cs) .answer ≡ Refusal 27 x → ⊥
+      unfolding unless-refused
+      never-27 cs e low x f = go (first cs) refl f
+        where
+          number : {i j : ℕ} {x y : Float} → Refusal i x ≡ Refusal j y → i ≡ j
+          number g = cc
+
+          go : (c : Checked) → c ≡ first cs → call c .answer ≡ Refusal 27 x → ⊥
+          go Sound d f = absurd (has-run _ (has-plan tau q norm (planned (d ∙ ap first e))) f)
+          go (Refused k y) d f = let n : k ≡ 27 = number f in not-by 27 cs low (subst (λ (i : ℕ). Refused i y ≡ first cs) n d)
+
+-- ---- the three calls
+module _
+    (g : Generator)
+    (ranged-norm : Sound ≡ first (g .checks) → out-of-range (row-sum-norm (g .matrix)) ≡ false)
+    (none-25 : before 25 (g .checks) ≡ g .checks)
+    (none-27 : before 27 (g .checks) ≡ g .checks)
+    (tau : Float) where
+  abbrev norm : Float
+  norm = row-sum-norm (g .matrix)
+
+  module _ (count : ℕ) (w output memory : List Float) where
+    combination-cost : {r : TaylorReport} → phi-combination g tau count w output memory .answer ≡ Soaked r
+        → TaylorCost tau (operator-of g tau count w) 1 (λ _. start-of g tau count w) (phi-combination g tau count w output memory .output) r
+    unfolding phi-combination combination-operator
+    combination-cost e = of-call tau (operator-of g tau count w) 1 _ _ (λ p. one-made (operator-of g tau count w) tau p (start-of g tau count w)) _ _ output memory e
+
+    low-count : before 25 (count-checks count) ≡ count-checks count
+    unfolding before count-checks
+    low-count = refl
+
+    abbrev between : List Check
+    between = length-checks (length output) (g .matrix .n) (length w) (count * g .matrix .n) ++ (finite-checks w ++ magnitude-checks (g .matrix .n) w tau (count - 1))
+
+    low-between : before 25 between ≡ between
+    unfolding before length-checks finite-checks magnitude-checks
+    low-between = refl
+
+    combination-in-order : combination-checks g tau count w (length output) (length memory) ≡ in-order (g .checks) (count-checks count) between tau norm (length memory) (taylor-need (g .matrix .n) (count - 1) (g .stored))
+    unfolding combination-checks vector-checks sweep-checks count-checks time-checks length-checks finite-checks magnitude-checks
+    combination-in-order = refl
+
+    combination-25 : Exactly25 (phi-combination g tau count w output memory) (combination-checks g tau count w (length output) (length memory)) tau norm
+    unfolding phi-combination
+    combination-25 = exactly-25 _ _ between tau norm _ _ ranged-norm none-25 low-count low-between _ _ output memory _ combination-in-order
+
+    low-combination : before 27 (combination-checks g tau count w (length output) (length memory)) ≡ combination-checks g tau count w (length output) (length memory)
+    unfolding before combination-checks vector-checks count-checks time-checks length-checks finite-checks sweep-checks magnitude-checks schedule-checks memory-checks
+    low-combination = before-append 27 (g .checks) _ none-27
+
+    combination-no-27 : (x : Float) → phi-combination g tau count w output memory .answer ≡ Refusal 27 x → ⊥
+    unfolding phi-combination
+    combination-no-27 = never-27 _ _ between tau norm _ _ ranged-norm none-25 low-count low-between _ _ output memory _ combination-in-order low-combination
+
+    pub combination-claim : TaylorClaim (phi-combination g tau count w output memory) (combination-checks g tau count w (length output) (length memory)) tau (operator-of g tau count w) 1 (λ _. start-of g tau count w)
+    unfolding combination-operator
+    combination-claim = record { accepted = combination-cost; no-plan = combination-25; no-limit = combination-no-27 }
+
+  module _ (k : ℕ) (v output memory : List Float) where
+    low-index : before 25 (index-checks k) ≡ index-checks k
+    unfolding before index-checks
+    low-index = refl
+
+    low-lengths : (wanted : ℕ) → before 25 (length-checks (length output) wanted (length v) (g .matrix .n)) ≡ length-checks (length output) wanted (length v) (g .matrix .n)
+    unfolding before length-checks
+    low-lengths wanted = refl
+
+    action-cost : {r : TaylorReport} → phi-action g tau k v output memory .answer ≡ Soaked r
+        → TaylorCost tau (action-of g v) 1 (λ _. action-start g v k) (phi-action g tau k v output memory .output) r
+    unfolding phi-action action-operator
+    action-cost e = of-call tau (action-of g v) 1 _ _ (λ p. one-made (action-of g v) tau p (action-start g v k)) _ _ output memory e
+
+    batch-cost : {r : TaylorReport} → phi-action-batched g tau k v output memory .answer ≡ Soaked r
+        → TaylorCost tau (action-of g v) (suc k) (action-start g v) (phi-action-batched g tau k v output memory .output) r
+    unfolding phi-action-batched action-operator
+    batch-cost e = of-call tau (action-of g v) (suc k) _ _ (λ p. batch-made (action-of g v) tau p v (eta-scaling (sup v) .inv) (suc k)) _ _ output memory e
+
+    -- of an output of `wanted` values, whatever is run
+    action-exactly : (wanted : ℕ) (run : SweepPlan → Fields)
+        → Exactly25 (unless-refused Refusal (first (action-checks g tau k v (length output) wanted (length memory))) output memory (after-plan (taylor-need (g .matrix .n) 3 (g .stored)) tau norm output memory (sweep-plan M-MAX tau (g .matrix) norm) run))
+        (action-checks g tau k v (length output) wanted (length memory))
+        tau
+        norm
+    unfolding action-checks job-checks
+    action-exactly wanted run = exactly-25 (g .checks) (index-checks k) _ tau norm _ _ ranged-norm none-25 low-index (low-lengths wanted) _ run output memory _ refl
+
+    low-action : (wanted : ℕ) → before 27 (action-checks g tau k v (length output) wanted (length memory)) ≡ action-checks g tau k v (length output) wanted (length memory)
+    unfolding before action-checks job-checks index-checks time-checks length-checks schedule-checks memory-checks
+    low-action wanted = before-append 27 (g .checks) _ none-27
+
+    action-no-27 : (wanted : ℕ) (run : SweepPlan → Fields) (x : Float)
+        → unless-refused Refusal (first (action-checks g tau k v (length output) wanted (length memory))) output memory (after-plan (taylor-need (g .matrix .n) 3 (g .stored)) tau norm output memory (sweep-plan M-MAX tau (g .matrix) norm) run) .answer ≡ Refusal 27 x → ⊥
+    unfolding action-checks job-checks
+    action-no-27 wanted run = never-27 (g .checks) (index-checks k) _ tau norm _ _ ranged-norm none-25 low-index (low-lengths wanted) _ run output memory _ refl (low-action wanted)
+
+    pub action-claim : TaylorClaim (phi-action g tau k v output memory) (action-checks g tau k v (length output) (g .matrix .n) (length memory)) tau (action-of g v) 1 (λ _. action-start g v k)
+    unfolding phi-action action-operator
+    action-claim = record { accepted = action-cost; no-plan = action-exactly (g .matrix .n) _; no-limit = action-no-27 (g .matrix .n) _ }
+
+    pub batch-claim : TaylorClaim (phi-action-batched g tau k v output memory) (action-checks g tau k v (length output) (suc k * g .matrix .n) (length memory)) tau (action-of g v) (suc k) (action-start g v)
+    unfolding phi-action-batched action-operator
+    batch-claim = record { accepted = batch-cost; no-plan = action-exactly (suc k * g .matrix .n) _; no-limit = action-no-27 (suc k * g .matrix .n) _ }

@@ -1,0 +1,112 @@
+-- The Krylov half of demand 3: what an accepted run did, and when 27 refuses (document 01, 'What demand 3 counts'). Every line speaks of the substeps
+-- accepted, the products made, the lengths tried and the field reached. Definitions only.
+use mathlib.Core.Path.{_≡_}
+use mathlib.Core.Logic.{_⊎_}
+use mathlib.Core.Bool.{true, false}
+use mathlib.Core.List.{List, [], _∷_}
+use Prim.Native.Nat.{ℕ, suc, _+_, _-_, _*_, _≤_, _<_}
+use lib.Dec.{T}
+use lib.ListN.{length, getD}
+use lib.Ieee.{Float, nan, binary64, eq, fits}
+use Rattle.lists.specs.Window.{window}
+use Rattle.doubles.specs.F64.{_⊕_, _⊖_, _⊘_, _⩽_, _⋖_, +0, 1f, at, nonneg}
+use Rattle.checks.specs.First.{Check, first}
+use Rattle.checks.specs.declared.Checked.the-variants.{Sound}
+use Rattle.combination.specs.Call.{Call}
+use Rattle.sqrt.specs.Sqrt.{sqrt}
+use Rattle.vectors.specs.Vectors.{dot, scale}
+use Rattle.arnoldi.specs.Basis.{Setting, dim, Basis, breakdown, full, apply, orthogonal}
+use Rattle.phi_krylov_arnoldi.specs.declared.KrylovPhiReport.{KrylovPhiReport}
+use Rattle.phi_krylov.specs.declared.KrylovAnswer.{KrylovAnswer}
+use Rattle.phi_krylov.specs.declared.KrylovAnswer.the-variants.{Refusal}
+use Rattle.demand_3.specs.Trace.{Accepted, Attempt, total, Run, accepted-by, tried-by, time-of, field-of, left-by, estimate-of}
+
+-- the norm meant: the rounded Euclidean one of all values
+abbrev pub euclidean : List Float → Float
+euclidean y = sqrt (dot y y)
+
+abbrev pub Each : {A : Type 0} → (A → Type 0) → List A → Type 0
+Each P [] = Unit {0}
+Each P (a ∷ l) = P a × Each P l
+
+-- zeros of either sign
+abbrev pub Zeros : List Float → Type 0
+Zeros y = (i : ℕ) → i < length y → eq (at y i) +0 ≡ true
+
+-- a double with the sign clear that is at most x
+pub record Within (x t : Float) : Type 0 where
+  pub fit : T (fits binary64 t)
+  pub clear : T (nonneg t)
+  pub most : T (t ⩽ x)
+
+-- a double above 0 that is at most x
+pub record Step (x t : Float) : Type 0 where
+  pub fit : T (fits binary64 t)
+  pub above : T (+0 ⋖ t)
+  pub most : T (t ⩽ x)
+
+-- NaN, or at most the rounded 1 - time
+abbrev pub Short : Attempt → Type 0
+Short a = (a .t ≡ nan) ⊎ T (a .t ⩽ 1f ⊖ a .time)
+
+-- each of them was tried at this time, and the last is the step
+abbrev pub Landed : Float → Float → List Attempt → Type 0
+Landed time t [] = ⊥
+Landed time t (x ∷ []) = (x .time ≡ time) × (x .t ≡ t)
+Landed time t (x ∷ y ∷ l) = (x .time ≡ time) × Landed time t (y ∷ l)
+
+-- what is left of product j of the columns v, less its parts along columns 0 to j
+abbrev pub left-of : Setting → List (List Float) → List (List Float) → ℕ → List Float
+left-of p v w j = orthogonal (λ k. getD v k []) (dim p) j (j + 1) (record { z = getD w j []; h = [] }) .z
+
+-- w has one product for each of the columns v, and each further column is what is left of the product before it, by its norm
+pub record Built (p : Setting) (v w : List (List Float)) : Type 0 where
+  pub as-many : length w ≡ length v
+  pub each : (j : ℕ) → j < length v → getD w j [] ≡ apply p (getD v j [])
+  pub next : (j : ℕ) → suc j < length v → getD v (suc j) [] ≡ scale (1f ⊘ euclidean (left-of p v w j)) (left-of p v w j)
+
+-- a basis is built of its products, and the last of them is measured: for the size that a breakdown leaves out, or for the error estimate
+abbrev pub Based : Setting → Basis → List (List Float) → Type 0
+Based p (breakdown b) w = Built p (b .columns .v) w × (b .hn ≡ euclidean (left-of p (b .columns .v) w (length w - 1)))
+Based p (full b avnorm) w = Built p (b .v) w × (avnorm ≡ euclidean (getD w (length w - 1) []))
+
+-- where another substep follows, the norm is not 0
+abbrev pub Unended : List Float → List Accepted → Type 0
+Unended y [] = Unit {0}
+Unended y (a ∷ l) = eq (euclidean y) +0 ≡ false
+
+-- each substep starts from the field that the one before it gave, at a time from +0 to below 1; its length is no NaN, above 0 and within the rounded 1 - time
+abbrev pub Steps : Setting → Float → List Float → List Accepted → Type 0
+Steps p time y [] = Unit {0}
+Steps p time y (a ∷ l) = (a .from ≡ y) × (a .norm ≡ euclidean y) × Within 1f time × T (time ⋖ 1f) × Step (1f ⊖ time) (a .t) × Each Short (a .tried) × Landed time (a .t) (a .tried) × Based p (a .basis) (a .products) × Unended (a .to) l × Steps p (time ⊕ a .t) (a .to) l
+
+-- an accepted job of n rows and dimension M: `start` are its n + d values, `output` is what it left, u is its run, r its report
+pub record KrylovCost (n M limit : ℕ) (start output : List Float) (u : Run) (r : KrylovPhiReport) : Type 0 where
+  -- each count is the number made: substeps accepted, products, and lengths tried and not accepted
+  pub substeps : r .substeps ≡ length (accepted-by u)
+  pub applications : r .matvecs ≡ total (λ a. length (a .products)) (accepted-by u)
+  pub rejections : r .substeps + r .rejected ≡ total (λ a. length (a .tried)) (accepted-by u)
+  -- and bounded
+  pub few-substeps : r .substeps ≤ limit
+  pub few-applications : r .matvecs ≤ suc M * r .substeps
+  pub few-rejections : r .rejected ≤ 10 * r .substeps
+  -- no length tried is above the rounded 1 - time, and the steps run below 1
+  pub short : Each Short (tried-by u)
+  pub steps : Steps (u .setting) +0 (u .field) (accepted-by u)
+  -- no substep exactly where all values are zeros; else the rounded sum of the steps is 1, or the norm of the field reached is 0
+  pub idle : (accepted-by u ≡ [] → Zeros start) × (Zeros start → accepted-by u ≡ [])
+  pub reached : Zeros start ⊎ ((eq (euclidean (field-of u)) +0 ≡ true) ⊎ (time-of u ≡ 1f))
+  -- the output is the field reached
+  pub fields : output ≡ window 0 n (left-by u)
+
+-- 27 refuses with x: no check does, the limit's substeps are accepted, their rounded sum is below 1 and the norm of the field reached is not 0; x is the estimate
+pub record AtLimit (cs : List Check) (limit : ℕ) (u : Run) (x : Float) : Type 0 where
+  pub passed : Sound ≡ first cs
+  pub substeps : length (accepted-by u) ≡ limit
+  pub below-one : T (time-of u ⋖ 1f)
+  pub norm-left : eq (euclidean (field-of u)) +0 ≡ false
+  pub told : x ≡ estimate-of u
+
+-- a call is refused by 27 exactly so
+abbrev pub Exactly27 : Call KrylovAnswer → List Check → ℕ → Run → Type 0
+Exactly27 c cs limit u = (x : Float) → (c .answer ≡ Refusal 27 x → AtLimit cs limit u x) × (AtLimit cs limit u x → c .answer ≡ Refusal 27 x)

@@ -1,0 +1,140 @@
+-- What a Krylov run did: its accepted substeps one by one, and every length tried (document 01, 'What demand 3 counts'). Definitions only.
+use mathlib.Core.List.{List, [], _∷_, _++_, map}
+use Prim.Native.Nat.{ℕ, zero, suc, _+_}
+use lib.ListN.{length}
+use lib.Ieee.{Float}
+use Rattle.lists.specs.Walk.{Turn, on, out}
+use Rattle.doubles.specs.F64.{_⊕_, _⊖_, _⊗_, +0, 1f, minNum, maxNum}
+use Rattle.vectors.specs.Vectors.{scale}
+use Rattle.pow2.specs.Pow2.{pow2-scale}
+use Rattle.pow2.specs.declared.Prescale.{Prescale}
+use Rattle.pow2.specs.declared.Prescale.the-variants.{By, None}
+use Rattle.phi_action_helpers.specs.Augmented.{Augmented}
+use Rattle.arnoldi.specs.Basis.{Setting, Basis, breakdown, full, norm2, apply, arnoldi}
+use Rattle.trial_steps.specs.Trials.{Trying, Tried, accepted, stuck, try-step, trials}
+use Rattle.phi_krylov_arnoldi.specs.Run.{State, End, EPSILON, columns-of, combined, substep, started, setting, clamp-m}
+
+-- a length tried, and the time at which it was
+pub record Attempt : Type 0 where
+  pub time : Float
+  pub t : Float
+
+-- the lengths of at most k trials
+unfoldable pub lengths : (ℕ → Trying → Turn Trying Tried) → Float → ℕ → ℕ → Turn Trying Tried → List Attempt
+lengths step time zero i o = []
+lengths step time (suc k) i (on s) = record { time = time; t = s .t } ∷ lengths step time k (i + 1) (step i s)
+lengths step time (suc k) i (out e) = []
+
+-- the lengths tried in the substep from s, on the basis that it built (trial_steps/specs/Trials: trials)
+unfoldable pub tried-on : Setting → State → Basis → List Attempt
+tried-on p s (breakdown b) = record { time = s .control .time; t = 1f ⊖ s .control .time } ∷ []
+tried-on p s (full b avnorm) = lengths (try-step p (s .control .beta) (b .h) avnorm) (s .control .time) 11 0 (on (record { rejections = 0; t = minNum (s .control .next) (1f ⊖ s .control .time) }))
+
+-- an accepted substep: the field it starts from, and the norm taken for it; its basis, and the products made, one with each column; the lengths tried on it; the
+-- length accepted and its error; the field it gives
+pub record Accepted : Type 0 where
+  pub from : List Float
+  pub norm : Float
+  pub basis : Basis
+  pub products : List (List Float)
+  pub tried : List Attempt
+  pub t : Float
+  pub err : Float
+  pub to : List Float
+
+-- of the outcome of its trials: nothing where none was accepted
+unfoldable pub accepted-in : Setting → State → Basis → Turn Trying Tried → List Accepted
+accepted-in p s b (on t) = []
+accepted-in p s b (out (stuck arg)) = []
+accepted-in p s b (out (accepted r t f err)) =
+    record { from = s .y; norm = s .control .beta; basis = b; products = map (apply p) (columns-of b); tried = tried-on p s b; t = t; err = err; to = combined (s .control .beta) (columns-of b) f (length (s .y)) } ∷ []
+
+-- the substep from s, where it is accepted: the columns once, then lengths tried on them
+unfoldable pub made : Setting → State → List Accepted
+made p s =
+    let b = arnoldi p (s .y) (s .control .beta) in
+    accepted-in p s b (trials p (s .control .beta) (s .control .next) (1f ⊖ s .control .time) b)
+
+-- the accepted substeps of at most k
+unfoldable pub trace : Setting → ℕ → Turn State End → List Accepted
+trace p zero o = []
+trace p (suc k) (on s) = made p s ++ trace p k (substep p s)
+trace p (suc k) (out e) = []
+
+-- a count over all substeps
+unfoldable pub total : (Accepted → ℕ) → List Accepted → ℕ
+total f [] = 0
+total f (a ∷ l) = f a + total f l
+
+-- the time after the substeps: one rounded sum for each
+unfoldable pub time-after : Float → List Accepted → Float
+time-after time [] = time
+time-after time (a ∷ l) = time-after (time ⊕ a .t) l
+
+-- the field after them
+unfoldable pub field-after : List Float → List Accepted → List Float
+field-after y [] = y
+field-after y (a ∷ l) = field-after (a .to) l
+
+-- the estimate after them: each adds its error, or the round-off of its products where that is larger (phi_krylov_arnoldi.rs, `substeps`)
+unfoldable pub estimate-after : Float → Float → List Accepted → Float
+estimate-after anorm e [] = e
+estimate-after anorm e (a ∷ l) = estimate-after anorm (e ⊕ maxNum (a .err) (anorm ⊗ EPSILON ⊗ norm2 (a .from))) l
+
+-- every length tried in at most k substeps
+unfoldable pub attempts : Setting → ℕ → Turn State End → List Attempt
+attempts p zero o = []
+attempts p (suc k) (on s) = tried-on p s (arnoldi p (s .y) (s .control .beta)) ++ attempts p k (substep p s)
+attempts p (suc k) (out e) = []
+
+-- ---- `expv`
+-- its run: the setting, how many substeps it may take, the field from which it starts, and the power of two by which that was scaled
+pub record Run : Type 0 where
+  pub setting : Setting
+  pub limit : ℕ
+  pub field : List Float
+  pub prescale : Prescale
+
+-- the n + d values scaled by a power of two; zeros as they are
+unfoldable pub scaled : List Float → Prescale → List Float
+scaled y None = y
+scaled y (By f) = scale (f .down) y
+
+-- and back
+unfoldable pub unscaled : List Float → Prescale → List Float
+unscaled y None = y
+unscaled y (By f) = scale (f .up) y
+
+-- a start whose values are all zeros takes no substep
+unfoldable pub allowed : ℕ → Prescale → ℕ
+allowed limit None = 0
+allowed limit (By f) = limit
+
+-- by its factors (phi_krylov_arnoldi.rs, `expv`): tol times the first norm, M, the limit
+unfoldable pub run-by : Augmented → Float → Float → Float → ℕ → ℕ → List Float → Prescale → Run
+run-by b tau anorm tol m limit y f =
+    record { setting = setting b tau anorm (tol ⊗ norm2 (scaled y f)) (clamp-m m (length y)); limit = allowed limit f; field = scaled y f; prescale = f }
+
+unfoldable pub run-of : Augmented → Float → Float → Float → ℕ → ℕ → List Float → Run
+run-of b tau anorm tol m limit y = run-by b tau anorm tol m limit y (pow2-scale y)
+
+-- the substeps it accepted, and the lengths it tried
+abbrev pub accepted-by : Run → List Accepted
+accepted-by u = trace (u .setting) (u .limit) (on (started (u .setting) (u .field)))
+
+abbrev pub tried-by : Run → List Attempt
+tried-by u = attempts (u .setting) (u .limit) (on (started (u .setting) (u .field)))
+
+-- the time and the field that it reached, and the estimate of its error
+abbrev pub time-of : Run → Float
+time-of u = time-after +0 (accepted-by u)
+
+abbrev pub field-of : Run → List Float
+field-of u = field-after (u .field) (accepted-by u)
+
+-- its field scaled back
+abbrev pub left-by : Run → List Float
+left-by u = unscaled (field-of u) (u .prescale)
+
+abbrev pub estimate-of : Run → Float
+estimate-of u = estimate-after (u .setting .anorm) +0 (accepted-by u)

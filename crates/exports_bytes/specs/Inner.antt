@@ -1,0 +1,60 @@
+-- What the functions behind the exported ones know and answer: cited by their contracts, and by no contract of an exported one. Definitions only.
+use mathlib.Core.Bool.{_&&_, cond}
+use mathlib.Core.List.{List}
+use mathlib.Core.Logic.{_⊎_}
+use mathlib.Core.Path.{_≡_}
+use Prim.Native.Nat.{ℕ, _≤_, _<_}
+use lib.Dec.{ltb, eqb}
+use lib.Ieee.{Float}
+use Rattle.doubles.specs.F64.{nat}
+use Rattle.generator_action.specs.Generator.{Generator}
+use Rattle.combination.specs.Call.{Call}
+use Rattle.phi_action.specs.Calls.{phi-combination, phi-action, phi-action-batched}
+use Rattle.phi_krylov.specs.KrylovCall.{phi-combination-krylov}
+use Rattle.phi_krylov.specs.Combine.{answering}
+use Rattle.exports.specs.Told.{Numbers, numbers, taylor-numbers, krylov-numbers, options}
+use Rattle.exports_bytes.specs.declared.Told.{Told}
+use Rattle.exports_bytes.specs.declared.PhiCall.{PhiCall}
+use Rattle.exports_bytes.specs.declared.PhiCall.the-variants.{Combination, Action, Batch, Krylov}
+
+-- the numbers of a Taylor call and those of a Krylov call
+abbrev pub taylor-told : Told → Numbers
+taylor-told t = numbers (t .number) (t .value) (t .s) (t .m) (t .applications)
+
+abbrev pub krylov-told : Told → Numbers
+krylov-told t = numbers (t .number) (t .value) (t .substeps) (t .matvecs) (t .rejected)
+
+unfoldable pub told : PhiCall → Told → Numbers
+told Combination = taylor-told
+told Action = taylor-told
+told Batch = taylor-told
+told (Krylov tol m limit) = krylov-told
+
+-- the four calls, told as numbers
+unfoldable pub called : PhiCall → Generator → Float → ℕ → List Float → List Float → List Float → Call Numbers
+called Combination g tau k v output memory = answering taylor-numbers (phi-combination g tau k v output memory)
+called Action g tau k v output memory = answering taylor-numbers (phi-action g tau k v output memory)
+called Batch g tau k v output memory = answering taylor-numbers (phi-action-batched g tau k v output memory)
+called (Krylov tol m limit) g tau k v output memory = answering krylov-numbers (phi-combination-krylov g tau k v (options tol m limit) output memory)
+
+-- the same with another double
+abbrev pub revalued : Told → Float → Told
+revalued t x =
+    record {
+      number = t .number;
+      value = x;
+      s = t .s;
+      m = t .m;
+      applications = t .applications;
+      substeps = t .substeps;
+      matvecs = t .matvecs;
+      rejected = t .rejected;
+    }
+
+-- a slice of `len` bytes is cut to r: not at all, or to the `most`
+abbrev pub Cut : ℕ → ℕ → ℕ → Type 0
+Cut len most r = ((r ≡ len) × (len ≤ most)) ⊎ ((r ≡ most) × (most < len))
+
+-- the double x of a refusal where a slice of `len` elements was cut to 512: that of number k is the length handed in
+unfoldable pub long-told : ℕ → ℕ → ℕ → Float → Float
+long-told k len number x = cond (ltb 512 len && eqb number k) (nat len) x

@@ -1,0 +1,4 @@
+pub mod Patterns
+pub mod Over
+pub mod Unchanged
+pub mod Counts

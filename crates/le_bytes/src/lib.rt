@@ -1,0 +1,101 @@
+// Numbers and doubles as bytes, lowest first.
+ghost use mathlib.Core.Path.{_≡_};
+ghost use mathlib.Core.Bool.{_&&_};
+ghost use Prim.Native.Nat.{_+_, _*_, _/_, _≤_, _<_};
+ghost use lib.ListN.{length, getD};
+ghost use lib.Ieee.{binary64, isNan, ofBits, toBits};
+ghost use Rattle.lists.specs.Loop.{tabulate};
+ghost use Rattle.lists.specs.Window.{splice};
+ghost use Rattle.le_bytes.specs.Bytes.{half, double-at, numbers-of, doubles-of, byte-over, written-over};
+
+fn byte(b: &[u8], k: usize) -> u64
+    requires { ⌜ k < length (now b) ⌝ }
+    ensures { λ r. ⌜ (r ≡ getD (now (b .entry)) k 0) × (r < 256) ⌝ }
+{
+    b[k] as u64
+}
+
+pub fn half_at(b: &[u8], k: usize) -> u64
+    requires { ⌜ k + 4 ≤ length (now b) ⌝ }
+    ensures { λ r. ⌜ (r ≡ half (now (b .entry)) k) × (r < 4294967296) ⌝ }
+{
+    byte(b, k) + 256 * byte(b, k + 1) + 65536 * byte(b, k + 2) + 16777216 * byte(b, k + 3)
+}
+
+// The double of a pattern: of every NaN pattern, the one NaN.
+fn double(w: u64) -> f64
+    ensures { λ r. ⌜ r ≡ ofBits binary64 w ⌝ }
+{
+    if w % 0x8000_0000_0000_0000 > 0x7ff0_0000_0000_0000 {
+        return float::not_a_number();
+    }
+    f64::from_bits(w)
+}
+
+pub fn double_at(b: &[u8], k: usize) -> f64
+    requires { ⌜ k + 8 ≤ length (now b) ⌝ }
+    ensures { λ r. ⌜ r ≡ double-at (now (b .entry)) k ⌝ }
+{
+    double(half_at(b, k) + 4294967296 * half_at(b, k + 4))
+}
+
+pub fn pattern(x: f64) -> u64
+    ensures { λ r. ⌜ r ≡ toBits binary64 x ⌝ }
+{
+    if x != x {
+        return 0x7ff8_0000_0000_0000;
+    }
+    f64::to_bits(x)
+}
+
+// A NaN over a NaN.
+fn stays(x: f64, b: &[u8], p: usize) -> bool
+    requires { ⌜ p + 8 ≤ length (now b) ⌝ }
+    ensures { λ r. ⌜ r ≡ (isNan x && isNan (double-at (now (b .entry)) p)) ⌝ }
+{
+    if x != x {
+        let y = double_at(b, p);
+        return y != y;
+    }
+    false
+}
+
+pub fn unpack_numbers(src: &[u8], dst: &mut [u32])
+    requires { ⌜ length (now dst) ≡ length (now src) / 4 ⌝ }
+    ensures { λ _. ⌜ now (dst .exit) ≡ numbers-of (now (src .entry)) ⌝ }
+{
+    for k in 0..dst.len() {
+        dst[k] = half_at(src, 4 * k) as u32;
+    }
+}
+
+pub fn unpack_doubles(src: &[u8], dst: &mut [f64])
+    requires { ⌜ length (now dst) ≡ length (now src) / 8 ⌝ }
+    ensures { λ _. ⌜ now (dst .exit) ≡ doubles-of (now (src .entry)) ⌝ }
+{
+    for k in 0..dst.len() {
+        dst[k] = double_at(src, 8 * k);
+    }
+}
+
+fn put(x: f64, dst: &mut [u8], p: usize)
+    requires { ⌜ p + 8 ≤ length (now dst) ⌝ }
+    ensures { λ _. ⌜ now (dst .exit) ≡ splice p (tabulate 8 (byte-over x (now (dst .entry)) p)) (now (dst .entry)) ⌝ }
+{
+    if stays(x, dst, p) {
+        return;
+    }
+    let w = pattern(x);
+    for j in 0..8usize {
+        dst[p + j] = ((w >> (8 * j)) % 256) as u8;
+    }
+}
+
+pub fn pack_doubles(src: &[f64], dst: &mut [u8])
+    requires { ⌜ 8 * length (now src) ≤ length (now dst) ⌝ }
+    ensures { λ _. ⌜ now (dst .exit) ≡ written-over (now (src .entry)) (now (dst .entry)) ⌝ }
+{
+    for k in 0..src.len() {
+        put(src[k], dst, 8 * k);
+    }
+}

@@ -1,0 +1,89 @@
+//! The matrix and its mass as the files hold them, and where in the files a refusal has its cause.
+
+use crate::failure::Failure;
+use crate::matrix_market::{self, Csr};
+use crate::vector;
+use hazhendu::sizes::MAX_ROWS;
+use hazhendu::{check, Error, Largest, Matrix, Refusal};
+use std::path::{Path, PathBuf};
+
+#[derive(Debug)]
+pub struct Files {
+    pub matrix: PathBuf,
+    pub mass: Option<PathBuf>,
+}
+
+pub struct Model<'a> {
+    files: &'a Files,
+    csr: Csr,
+    mass: Option<Vec<f64>>,
+}
+
+impl<'a> Model<'a> {
+    pub fn read(files: &'a Files) -> Result<Self, Failure> {
+        let csr = matrix_market::read(&files.matrix)?;
+        let mass = files.mass.as_deref().map(vector::read).transpose()?;
+        Ok(Model { files, csr, mass })
+    }
+
+    pub fn matrix(&self) -> Matrix<'_> {
+        let Csr { n, starts, columns, entries } = &self.csr;
+        let bare = Matrix::new(*n, starts, columns, entries);
+        self.mass.as_deref().map_or(bare, |mass| bare.with_mass(mass))
+    }
+
+    pub fn check(&self) -> Result<Largest, Failure> {
+        check(&self.matrix()).map_err(|error| self.failure(error, |refusal| self.place(refusal)))
+    }
+
+    pub fn failure(&self, error: Error, place: impl FnOnce(Refusal) -> Option<String>) -> Failure {
+        match error {
+            Error::Refused { refusal, .. } => Failure::Refused { refusal, place: place(refusal) },
+            Error::OutOfMemory { doubles } => Failure::OutOfMemory { doubles },
+        }
+    }
+
+    /// The sum of the sizes in a row, each divided by the row's mass, as the library adds them up.
+    pub fn row_sum(&self, row: usize) -> f64 {
+        let Matrix { starts, entries, mass, .. } = self.matrix();
+        let divisor = mass.map_or(1.0, |mass| mass[row]);
+        let places = starts[row] as usize..starts[row + 1] as usize;
+        entries[places].iter().fold(0.0, |sum, entry| sum + (entry / divisor).abs())
+    }
+
+    /// Where a refusal of the matrix or its mass has its cause.
+    pub fn place(&self, refusal: Refusal) -> Option<String> {
+        match refusal.number {
+            1 | 3..=6 | 10 | 11 => Some(format!("{}{}", self.files.matrix.display(), self.infinite_entry())),
+            7 | 8 => self.mass_place(refusal.number),
+            _ => None,
+        }
+    }
+
+    fn infinite_entry(&self) -> String {
+        let Csr { n, starts, columns, entries } = &self.csr;
+        let Some(place) = entries.iter().position(|entry| !entry.is_finite()) else {
+            return String::new();
+        };
+        let row = (0..*n).find(|i| place < starts[i + 1] as usize).map_or(0, |i| i + 1);
+        format!(", row {row}, column {}", u64::from(columns[place]) + 1)
+    }
+
+    fn mass_place(&self, number: u32) -> Option<String> {
+        let (path, mass) = (self.files.mass.as_deref()?, self.mass.as_deref()?);
+        match number {
+            7 => Some(self.length_told(path, mass)),
+            _ => first(path, mass, |x| !(x.is_finite() && x > 0.0)),
+        }
+    }
+
+    pub fn length_told(&self, path: &Path, numbers: &[f64]) -> String {
+        let more = if numbers.len() > MAX_ROWS { " or more" } else { "" };
+        format!("{} has {}{more} numbers, {} has {} rows", path.display(), numbers.len(), self.files.matrix.display(), self.csr.n)
+    }
+}
+
+pub fn first(path: &Path, numbers: &[f64], wrong: impl Fn(f64) -> bool) -> Option<String> {
+    let place = numbers.iter().position(|x| wrong(*x))?;
+    Some(format!("{}, number {}", path.display(), place + 1))
+}
