@@ -119,6 +119,8 @@ struct Tally {
     libm_parts: BTreeMap<String, u64>,
     /// The largest difference of two outputs, relative to the largest value.
     libm_largest: f64,
+    /// Rows named as the first of the largest sum: with a mass or not, tied with a later one or not.
+    rows: BTreeMap<(bool, bool), u64>,
     numbers: BTreeMap<(u32, &'static str), u64>,
     paths: BTreeMap<&'static str, u64>,
 }
@@ -136,6 +138,9 @@ impl Tally {
         self.libm_largest = self.libm_largest.max(other.libm_largest);
         for (key, hits) in other.libm_parts {
             *self.libm_parts.entry(key).or_default() += hits;
+        }
+        for (key, hits) in other.rows {
+            *self.rows.entry(key).or_default() += hits;
         }
         for (key, hits) in other.numbers {
             *self.numbers.entry(key).or_default() += hits;
@@ -160,6 +165,10 @@ fn run(o: &Options) -> bool {
     });
     println!("jobs {}, compared {} ({} of more than 64 rows), above the cost {}", o.jobs, t.compared, t.above_64_rows, t.costly);
     println!("on bytes: compared {}, and {} large ones answered by 255", t.on_bytes, t.large_on_bytes);
+    println!("rows of largest sum:");
+    for ((mass, tied), hits) in &t.rows {
+        println!("  {} mass, {:8} {hits}", if *mass { "with a" } else { "without" }, if *tied { "tied" } else { "alone" });
+    }
     println!("answers of the Rust, by number and call:");
     for ((number, call), hits) in &t.numbers {
         println!("  {number:3} {call:12} {hits}");
@@ -190,10 +199,21 @@ fn one(o: &Options, job: &Job, index: usize, t: &mut Tally) {
     if o.libm && expected.transcribed {
         own_libm(o, job, &expected.answer, t);
     }
-    for difference in compare::library(job, &expected.answer, index) {
+    let differences = compare::library(job, &expected.answer, index).into_iter().chain(matrix(job, t));
+    for difference in differences.collect::<Vec<_>>() {
         t.different += 1;
         show(o, t.different, &difference, job);
     }
+}
+
+/// Where the answer to the matrix alone differs; counts the rows named and the ties among them.
+fn matrix(job: &Job, t: &mut Tally) -> Option<Difference> {
+    let expected = reference::matrix(job);
+    if expected.number == 0 {
+        let tied = oracle::row_sums(job).iter().filter(|s| **s == expected.value).count() > 1;
+        *t.rows.entry((job.mass.is_some(), tied)).or_default() += 1;
+    }
+    compare::matrix(job, &expected)
 }
 
 /// Sums up where the Rust with its own libm differs from the transcribed.

@@ -12,7 +12,7 @@
  *   hazhendu_combine (either of the two, as asked):              the sum over k of tau^k phi_k(tau G) w_k, for 1 to 4 vectors w_0, w_1, ...
  *   hazhendu_phi_action:                                         phi_k(tau G) v
  *   hazhendu_phi_action_batched:                                 phi_0(tau G) v, phi_1(tau G) v, ..., phi_p(tau G) v
- *   hazhendu_check_generator:                                    the norm of G, which is the largest sum of the sizes in a row, and a row that has it
+ *   hazhendu_check_generator:                                    the norm of G, which is the largest sum of the sizes in a row, and the first row that has it
  *
  * phi_0 is the exponential, and phi_k(z) = (phi_{k-1}(z) - 1/(k-1)!) / z. For heat, C dT/dt = -A T + q with T = T_0 at time 0, A in W/K,
  * the heat capacities C in J/K and the power q in W: the mass is C, w_0 = T_0, w_1 = q / C, and the sum is T at time tau. A power that
@@ -44,7 +44,7 @@
  *
  *   value                 accepted: mu, the shift of the Taylor plan (0 for none), or Krylov's estimated error, relative to the norm of the
  *                         start, or the norm of a matrix that is checked; refused: the refusal's double
- *   row                   a row whose sum is the norm, from 0; 0 if the matrix is refused
+ *   row                   the first row whose sum is the norm, from 0; 0 if the matrix is refused
  *   s, plan_m             Taylor's plan: sweeps, and the degree to which each goes
  *   applications          Taylor: products with G that were made, over all functions of a batch
  *   substeps, matvecs,    Krylov: substeps accepted, products with G, and lengths rejected. The counts of a refused job are 0.
@@ -180,7 +180,7 @@ static inline size_t hazhendu_krylov_work(size_t n, size_t entries, bool with_ma
 
 /* ---- the calls */
 
-/* The checks of the matrix and its mass alone, 1 to 11; then the norm, and a row that has it. */
+/* The checks of the matrix and its mass alone, 1 to 11; then the norm, and the first row that has it. */
 uint32_t hazhendu_check_generator(
     size_t n,
     const uint32_t *starts, size_t starts_len,

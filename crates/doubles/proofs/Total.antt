@@ -248,6 +248,22 @@ pub ⋖-⩽ : (x y : Float) → T (x ⋖ y) → T (x ⩽ y)
 unfolding le
 ⋖-⩽ x y h = or-join (lt x y) (eq x y) (inl h)
 
+-- what is below another does not equal it
+pub ⋖-apart : (x y : Float) → T (x ⋖ y) → T (eq x y) → ⊥
+unfolding lt eq
+⋖-apart nan y h k = h
+⋖-apart (inf s) nan h k = h
+⋖-apart (inf true) (inf true) h k = h
+⋖-apart (inf true) (inf false) h k = k
+⋖-apart (inf false) (inf t) h k = h
+⋖-apart (inf s) (fin t n d) h k = k
+⋖-apart (fin s m e) nan h k = h
+⋖-apart (fin s m e) (inf t) h k = k
+⋖-apart (fin s m e) (fin t n d) h k =
+    let u = below-is s (m * up e * down d) t (n * up d * down e) h in
+    let v = level-is s (m * up e * down d) t (n * up d * down e) k in
+    omega arith
+
 -- chains of both
 pub ⩽-⋖-trans : (x y z : Float) → T (x ⩽ y) → T (y ⋖ z) → T (x ⋖ z)
 ⩽-⋖-trans x y z h k = not-⩽ z x (lt-numbers y z k .1) (le-number-left x y h) (λ g. ⋖-not y z k (⩽-trans z x y g h))

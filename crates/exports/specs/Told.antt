@@ -1,9 +1,7 @@
 -- An answer as the numbers that an exported function hands back (document 01, 'Oracle'). Definitions only.
-use mathlib.Core.Path.{_≡_}
 use mathlib.Core.Bool.{Bool, true, false}
-use Prim.Native.Nat.{ℕ, _<_}
+use Prim.Native.Nat.{ℕ}
 use lib.Ieee.{Float}
-use Rattle.general_operator.specs.Csr.{Csr, row-sum}
 use Rattle.generator_action.specs.declared.MatrixAnswer.{MatrixAnswer}
 use Rattle.generator_action.specs.declared.MatrixAnswer.the-variants as matrix
 use Rattle.phi_action.specs.declared.TaylorReport.{TaylorReport}
@@ -29,15 +27,10 @@ pub record Numbers : Type 0 where
 abbrev pub numbers : ℕ → Float → ℕ → ℕ → ℕ → Numbers
 numbers k x a b c = record { number = k; value = x; first = a; second = b; third = c }
 
--- of a matrix: the norm and a row
+-- of a matrix: the norm and the first row that has it; the row of a refusal is 0
 unfoldable pub matrix-numbers : MatrixAnswer → Numbers
 matrix-numbers (matrix.Refusal k x) = numbers k x 0 0 0
 matrix-numbers (matrix.Norm x i) = numbers 0 x i 0 0
-
--- what holds of the row i told with an answer, which document 01 leaves free: its sum is the norm; of a refusal it is 0
-abbrev pub RowTold : Csr → MatrixAnswer → ℕ → Type 0
-RowTold q (matrix.Refusal k x) i = i ≡ 0
-RowTold q (matrix.Norm x _) i = (i < q .n) × (row-sum q i ≡ x)
 
 -- of Taylor: mu, s, m and the applications
 unfoldable pub taylor-numbers : TaylorAnswer → Numbers

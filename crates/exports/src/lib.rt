@@ -8,13 +8,13 @@ use phi_krylov::PhiSolver;
 ghost use mathlib.Core.Path.{_≡_};
 ghost use Rattle.combination.specs.Call.{ends};
 ghost use Rattle.general_operator.specs.Csr.{csr};
-ghost use Rattle.generator_action.specs.Mass.{given, quotients};
+ghost use Rattle.generator_action.specs.Mass.{given};
 ghost use Rattle.generator_action.specs.Generator.{forward};
 ghost use Rattle.generator_action.specs.Answer.{matrix-answer};
 ghost use Rattle.phi_action.specs.Calls.{phi-combination, phi-action, phi-action-batched};
 ghost use Rattle.phi_krylov.specs.KrylovCall.{phi-combination-krylov};
 ghost use Rattle.phi_krylov.specs.Combine.{answering, combine};
-ghost use Rattle.exports.specs.Told.{numbers, matrix-numbers, RowTold, taylor-numbers, krylov-numbers, phi-numbers, options, solver};
+ghost use Rattle.exports.specs.Told.{numbers, matrix-numbers, taylor-numbers, krylov-numbers, phi-numbers, options, solver};
 
 // The result is 0 or the refusal's number; `value` is the norm or the refusal's double.
 fn tell_matrix(answer: MatrixAnswer, value: &mut f64, row: &mut usize) -> u32
@@ -156,8 +156,7 @@ pub extern "C" fn hazhendu_check_generator(
     value: &mut f64,
     row: &mut usize,
 ) -> u32
-    ensures { λ r. ⌜ numbers r (now (value .exit)) 0 0 0 ≡ matrix-numbers (matrix-answer (csr n (now (starts .entry)) (now (cols .entry)) (now (vals .entry))) (given «with_mass» (now (mass .entry)))) ⌝ }
-    ensures { λ r. ⌜ RowTold (quotients (csr n (now (starts .entry)) (now (cols .entry)) (now (vals .entry))) (given «with_mass» (now (mass .entry)))) (matrix-answer (csr n (now (starts .entry)) (now (cols .entry)) (now (vals .entry))) (given «with_mass» (now (mass .entry)))) (now (row .exit)) ⌝ }
+    ensures { λ r. ⌜ numbers r (now (value .exit)) (now (row .exit)) 0 0 ≡ matrix-numbers (matrix-answer (csr n (now (starts .entry)) (now (cols .entry)) (now (vals .entry))) (given «with_mass» (now (mass .entry)))) ⌝ }
 {
     let answer = generator_action::check_generator(n, starts, cols, vals, with_mass, mass);
     tell_matrix(answer, value, row)

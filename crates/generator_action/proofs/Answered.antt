@@ -22,20 +22,20 @@ use Rattle.general_operator.proofs.Sound.{sound-valid}
 use Rattle.generator_action.specs.declared.MatrixAnswer.{MatrixAnswer}
 use Rattle.generator_action.specs.declared.MatrixAnswer.the-variants.{Refusal, Norm}
 use Rattle.generator_action.specs.Mass.{Mass, given, normalise, quotients, quotient-need, mass-checks, bad-sum, sum-checks, norm-checks, bound-checks, generator-checks}
-use Rattle.generator_action.specs.Answer.{number, value, unless-refused, matrix-answer, fixed}
+use Rattle.generator_action.specs.Answer.{number, value, unless-refused, matrix-answer}
 use Rattle.generator_action.specs.Known.{Dividing, Divided, Accepted, shape-of, Passed}
 use Rattle.generator_action.proofs.Quotients.{quotients-valid}
 use Rattle.generator_action.proofs.Ways.{mass-sound}
 
-refusal-of : (r : Checked) (norm : Float) {k : ℕ} {x : Float} → Refusal k x ≡ unless-refused r norm → Refused k x ≡ r
+refusal-of : (r : Checked) (q : Csr) {k : ℕ} {x : Float} → Refusal k x ≡ unless-refused r q → Refused k x ≡ r
 unfolding unless-refused
-refusal-of (Refused j y) norm e = cc
-refusal-of Sound norm e = cc
+refusal-of (Refused j y) q e = cc
+refusal-of Sound q e = cc
 
-norm-of : (r : Checked) (norm : Float) {x : Float} {i : ℕ} → Norm x i ≡ unless-refused r norm → (Sound ≡ r) × (x ≡ norm)
+norm-of : (r : Checked) (q : Csr) {x : Float} {i : ℕ} → Norm x i ≡ unless-refused r q → (Sound ≡ r) × (x ≡ row-sum-norm q)
 unfolding unless-refused
-norm-of (Refused j y) norm e = (cc, cc)
-norm-of Sound norm e = (refl, cc)
+norm-of (Refused j y) q e = (cc, cc)
+norm-of Sound q e = (refl, cc)
 
 -- the largest of finite sums is finite
 largest-finite : (q : Csr) (i : ℕ) → ((k : ℕ) → k < i → is-finite (row-sum q k) ≡ true) → is-finite (iter (λ j m. maxNum m (row-sum q j)) i +0) ≡ true
@@ -65,15 +65,15 @@ pub passed-up : {r : MatrixAnswer} {j k : ℕ} {x y : Float} → r ≡ Refusal j
 unfolding number value
 passed-up e ek ey = rw (ek, ey, e)
 
-module _ (a : Csr) (mass : Mass) {r : MatrixAnswer} (e : fixed r ≡ matrix-answer a mass) where
+module _ (a : Csr) (mass : Mass) {r : MatrixAnswer} (e : r ≡ matrix-answer a mass) where
   pub refusal-told : {k : ℕ} {x : Float} → r ≡ Refusal k x → Refused k x ≡ first (generator-checks a mass)
   unfolding matrix-answer
-  refusal-told d = refusal-of _ _ (sym (ap fixed d) ∙ e)
+  refusal-told d = refusal-of _ _ (sym d ∙ e)
 
   pub norm-told : {x : Float} {i : ℕ} → r ≡ Norm x i → Accepted a mass x
   unfolding matrix-answer generator-checks
   norm-told d =
-      let h = norm-of _ _ (sym (ap fixed d) ∙ e) in
+      let h = norm-of _ _ (sym d ∙ e) in
       let s = sound-append (matrix-checks a) (bound-checks a mass) (h .0) in
       let b = bound-sound a mass (s .1) in
       let v = sound-valid a (s .0) in

@@ -80,3 +80,22 @@ falling = refl
 rising : apply-generator (csr 1 (0 ∷ 3 ∷ []) (0 ∷ 0 ∷ 0 ∷ []) (1f ∷ 1f ∷ bits 0x4340_0000_0000_0000 ∷ [])) (1f ∷ []) ≡ bits 0xc340_0000_0000_0001 ∷ []
 unfolding open-Answer
 rising = refl
+
+-- ---- the row: the first of those with the largest sum (document 02, N1)
+-- one entry a row: 1, 2, 2
+abbrev tied : Csr
+tied = csr 3 (0 ∷ 1 ∷ 2 ∷ 3 ∷ []) (0 ∷ 1 ∷ 2 ∷ []) (1f ∷ 2f ∷ 2f ∷ [])
+
+first-of-two : matrix-answer tied none ≡ Norm 2f 1
+unfolding open-Answer
+first-of-two = refl
+
+-- quotients 1, 1/2, 1
+first-by-mass : matrix-answer tied (some (1f ∷ 4f ∷ 2f ∷ [])) ≡ Norm 1f 0
+unfolding open-Answer
+first-by-mass = refl
+
+-- a stored 0, an empty row and a stored -0
+no-sum : matrix-answer (csr 3 (0 ∷ 1 ∷ 1 ∷ 2 ∷ []) (0 ∷ 1 ∷ []) (+0 ∷ bits 0x8000_0000_0000_0000 ∷ [])) none ≡ Norm +0 0
+unfolding open-Answer
+no-sum = refl

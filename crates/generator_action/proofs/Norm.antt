@@ -17,7 +17,7 @@ use Rattle.general_operator.specs.Csr.{Csr, row-sum, row-sum-norm}
 use Rattle.general_operator.specs.Checks.{matrix-checks}
 use Rattle.general_operator.proofs.Sound.{sound-valid, sound-finite}
 use Rattle.generator_action.specs.Mass.{Mass, normalise, quotients, mass-checks, bound-checks, generator-checks}
-use Rattle.generator_action.specs.Answer.{unless-refused, matrix-answer}
+use Rattle.generator_action.specs.Answer.{largest-row, unless-refused, matrix-answer}
 use Rattle.generator_action.specs.declared.MatrixAnswer.the-variants.{Norm}
 use Rattle.generator_action.proofs.Ways.{mass-sound, entries-nonneg, quotients-nonneg}
 use Rattle.generator_action.proofs.Answered.{norm-told}
@@ -31,7 +31,7 @@ pub norm-nonneg : (q : Csr) → ((i : ℕ) → i < q .n → T (nonneg (row-sum q
 unfolding row-sum-norm
 norm-nonneg q h = largest-nonneg q (q .n) h
 
-sums-nonneg : (a : Csr) (mass : Mass) → Sound ≡ first (generator-checks a mass) → (i : ℕ) → i < quotients a mass .n → T (nonneg (row-sum (quotients a mass) i))
+pub sums-nonneg : (a : Csr) (mass : Mass) → Sound ≡ first (generator-checks a mass) → (i : ℕ) → i < quotients a mass .n → T (nonneg (row-sum (quotients a mass) i))
 unfolding generator-checks bound-checks quotients normalise
 sums-nonneg a none e i l = let s = sound-append (matrix-checks a) _ e in entries-nonneg (sound-valid a (s .0)) (λ k h. sound-finite a (s .0) k h) i l
 sums-nonneg a (some mass) e i l =
@@ -42,4 +42,4 @@ sums-nonneg a (some mass) e i l =
 -- 10 or 11 leaves it finite
 pub norm-in-range : (a : Csr) (mass : Mass) → Sound ≡ first (generator-checks a mass) → (is-finite (row-sum-norm (quotients a mass)) ≡ true) × T (nonneg (row-sum-norm (quotients a mass)))
 unfolding matrix-answer unless-refused
-norm-in-range a mass e = (norm-told a mass {r = Norm (row-sum-norm (quotients a mass)) 0} (rw (← e) refl) refl .finite, norm-nonneg (quotients a mass) (sums-nonneg a mass e))
+norm-in-range a mass e = (norm-told a mass {r = Norm (row-sum-norm (quotients a mass)) (largest-row (quotients a mass))} (rw (← e) refl) refl .finite, norm-nonneg (quotients a mass) (sums-nonneg a mass e))

@@ -26,7 +26,7 @@ use Rattle.general_operator.proofs.Rows.{row-within}
 use Rattle.generator_action.specs.declared.MatrixAnswer.{MatrixAnswer}
 use Rattle.generator_action.specs.declared.MatrixAnswer.the-variants.{Refusal, Norm}
 use Rattle.generator_action.specs.Mass.{Mass, normalise, quotients, bad-mass, mass-checks, bad-sum, sum-checks, norm-checks, generator-checks}
-use Rattle.generator_action.specs.Answer.{unless-refused, matrix-answer, fixed, LargestRow}
+use Rattle.generator_action.specs.Answer.{largest-row, unless-refused, matrix-answer}
 use Rattle.generator_action.specs.Known.{Finite, Dividing, Answered}
 use Rattle.general_operator.proofs.Rows.{row-sum-nonneg}
 use Rattle.generator_action.proofs.Quotients.{quotient-at}
@@ -34,23 +34,23 @@ use Rattle.generator_action.proofs.Quotients.{quotient-at}
 -- ---- the two answers
 pub answered-refusal : {q : Csr} {checks : List Check} {k : ℕ} {x : Float} → Refused k x ≡ first checks → Answered q checks (Refusal k x)
 unfolding unless-refused
-answered-refusal e = record { is = rw (← e); row = tt }
+answered-refusal e = record { is = rw (← e) }
 
-pub answered-norm : {q : Csr} {checks : List Check} {x : Float} {i : ℕ} → Sound ≡ first checks → (x ≡ row-sum-norm q) × (i < q .n) × (row-sum q i ≡ x) → Answered q checks (Norm x i)
+pub answered-norm : {q : Csr} {checks : List Check} {x : Float} {i : ℕ} → Sound ≡ first checks → (x ≡ row-sum-norm q) × (i ≡ largest-row q) → Answered q checks (Norm x i)
 unfolding unless-refused
-answered-norm e h = record { is = rw (← e, h .0); row = (h .1, h .2) }
+answered-norm e h = record { is = rw (← e, h .0, h .1) }
 
 -- the first of two lists of checks refuses, or has passed
 pub answered-up : {q : Csr} (xs ys : List Check) {s : Checked} {k : ℕ} {x : Float} → s ≡ Refused k x → s ≡ first xs → Answered q (xs ++ ys) (Refusal k x)
 answered-up xs ys e d = answered-refusal (sym e ∙ refused-up xs ys e d)
 
 pub answered-on : {q : Csr} (xs : List Check) {ys : List Check} {s : Checked} {r : MatrixAnswer} → s ≡ Sound → s ≡ first xs → Answered q ys r → Answered q (xs ++ ys) r
-answered-on {q} xs {ys} e d h = record { is = h .is ∙ ap (λ (c : Checked). unless-refused c (row-sum-norm q)) (sound-on xs ys e d refl); row = h .row }
+answered-on {q} xs {ys} e d h = record { is = h .is ∙ ap (λ (c : Checked). unless-refused c q) (sound-on xs ys e d refl) }
 
 -- no check is left
-pub answer-is : (a : Csr) (mass : Mass) {r : MatrixAnswer} → Answered (quotients a mass) (generator-checks a mass) r → (fixed r ≡ matrix-answer a mass) × LargestRow (quotients a mass) r
+pub answer-is : (a : Csr) (mass : Mass) {r : MatrixAnswer} → Answered (quotients a mass) (generator-checks a mass) r → r ≡ matrix-answer a mass
 unfolding matrix-answer
-answer-is a mass h = (h .is, h .row)
+answer-is a mass h = h .is
 
 -- ---- 10: a search passes the rows whose sums are finite
 module _ (q : Csr) {i : ℕ} (p : Passed (bad-sum q) i) where

@@ -14,7 +14,7 @@ use Rattle.general_operator.specs.Csr.{Csr, Valid, start, row-sum-norm}
 use Rattle.generator_action.specs.declared.MatrixAnswer.{MatrixAnswer}
 use Rattle.generator_action.specs.Mass.{Mass, given, quotients, quotient-need, generator-checks}
 use Rattle.generator_action.specs.declared.Shape.{Shape}
-use Rattle.generator_action.specs.Answer.{unless-refused, fixed, LargestRow}
+use Rattle.generator_action.specs.Answer.{unless-refused}
 
 -- what 6 leaves
 abbrev pub Finite : Csr → Type 0
@@ -26,10 +26,9 @@ pub record Dividing (a : Csr) (mass : List Float) : Type 0 where
   pub above : (i : ℕ) → i < a .n → T (+0 ⋖ at mass i)
   pub from-0 : start a 0 ≡ 0
 
--- r answers the matrix q that some checks are left of: the first refusal of these, or the norm and a row that has it
+-- r answers the matrix q that some checks are left of: the first refusal of these, or the norm and the first row that has it
 pub record Answered (q : Csr) (checks : List Check) (r : MatrixAnswer) : Type 0 where
-  pub is : fixed r ≡ unless-refused (first checks) (row-sum-norm q)
-  pub row : LargestRow q r
+  pub is : r ≡ unless-refused (first checks) q
 
 -- with a mass that is given
 abbrev pub Divided : Csr → Mass → Type 0

@@ -13,11 +13,11 @@ ghost use Rattle.doubles.specs.F64.{_⊘_, _⋖_, at, abs};
 ghost use Rattle.doubles.specs.Sum.{sum};
 ghost use Rattle.checks.specs.First.{first};
 ghost use Rattle.general_operator.specs.Csr.{csr, Valid, size-sum};
-ghost use Rattle.generator_action.specs.Mass.{given, normalise, quotients, stored, bad-mass, mass-checks, sum-checks, norm-checks};
-ghost use Rattle.generator_action.specs.Answer.{number, value, matrix-answer, fixed, LargestRow};
+ghost use Rattle.generator_action.specs.Mass.{given, normalise, stored, bad-mass, mass-checks, sum-checks, norm-checks};
+ghost use Rattle.generator_action.specs.Answer.{number, value, matrix-answer};
 ghost use Rattle.generator_action.specs.Known.{Finite, Dividing, Divided, Answered, shape-of};
 
-// A refusal's number and double, or the norm and a row whose sum equals it.
+// A refusal's number and double, or the norm and the first row whose sum equals it.
 pub enum MatrixAnswer {
     Refusal(u32, f64),
     Norm(f64, usize),
@@ -136,7 +136,7 @@ fn quotient_sum(vals: &[f64], from: usize, to: usize, m: f64) -> f64
     s
 }
 
-// The largest row sum so far, and its row.
+// The largest row sum so far, and the first row that has it.
 struct Largest {
     norm: f64,
     row: usize,
@@ -178,7 +178,7 @@ fn quotient_norm(n: usize, starts: &[u32], cols: &[u32], vals: &[f64], mass: &[f
     requires { ⌜ Dividing (csr n (now starts) (now cols) (now vals)) (now mass) ⌝ }
     ensures { λ r. ⌜ Answered (normalise (csr n (now (starts .entry)) (now (cols .entry)) (now (vals .entry))) (now (mass .entry))) (sum-checks (normalise (csr n (now (starts .entry)) (now (cols .entry)) (now (vals .entry))) (now (mass .entry)))) r ⌝ }
 {
-    let mut best = Largest { norm: 0.0, row: 0 };
+    let mut largest = Largest { norm: 0.0, row: 0 };
     for i in 0..n {
         let from = starts[i] as usize;
         let to = starts[i + 1] as usize;
@@ -186,12 +186,12 @@ fn quotient_norm(n: usize, starts: &[u32], cols: &[u32], vals: &[f64], mass: &[f
         if !float::is_finite(s) {
             return MatrixAnswer::Refusal(10, s);
         }
-        best = larger(best, s, i);
+        largest = larger(largest, s, i);
     }
-    MatrixAnswer::Norm(best.norm, best.row)
+    MatrixAnswer::Norm(largest.norm, largest.row)
 }
 
-// 1 to 11, on any input; then the norm of Q, and a row whose sum it is.
+// 1 to 11, on any input; then the norm of Q, and the first row whose sum it is.
 pub fn check_generator(
     n: usize,
     starts: &[u32],
@@ -200,8 +200,7 @@ pub fn check_generator(
     with_mass: bool,
     mass: &[f64],
 ) -> MatrixAnswer
-    ensures { λ r. ⌜ fixed r ≡ matrix-answer (csr n (now (starts .entry)) (now (cols .entry)) (now (vals .entry))) (given «with_mass» (now (mass .entry))) ⌝ }
-    ensures { λ r. ⌜ LargestRow (quotients (csr n (now (starts .entry)) (now (cols .entry)) (now (vals .entry))) (given «with_mass» (now (mass .entry)))) r ⌝ }
+    ensures { λ r. ⌜ r ≡ matrix-answer (csr n (now (starts .entry)) (now (cols .entry)) (now (vals .entry))) (given «with_mass» (now (mass .entry))) ⌝ }
 {
     let matrix = general_operator::validate_csr(n, starts, cols, vals);
     let Checked::Sound = matrix else {

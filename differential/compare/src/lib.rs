@@ -59,6 +59,11 @@ pub fn library(job: &Job, expected: &Answer, tail: usize) -> Vec<Difference> {
     Difference::of("rattle", library::answer(job), expected).into_iter().chain(on_bytes(job, expected, tail)).collect()
 }
 
+/// Where its answer to the matrix alone differs.
+pub fn matrix(job: &Job, expected: &Answer) -> Option<Difference> {
+    Difference::of("rattle's matrix answer", library::matrix(job), expected)
+}
+
 fn on_bytes(job: &Job, expected: &Answer, tail: usize) -> Option<Difference> {
     let side = "rattle on bytes";
     let expected = if job.is_large() { &job.large() } else { expected };

@@ -68,7 +68,8 @@ fn compared(job: &Job, tail: usize) -> Vec<Difference> {
         return vec![];
     };
     tally::compared(expected.answer.number, job.is_large());
-    compare::library(job, &expected.answer, tail)
+    let matrix = compare::matrix(job, &compare::reference::matrix(job));
+    compare::library(job, &expected.answer, tail).into_iter().chain(matrix).collect()
 }
 
 fn seeds(folder: &str, files: &[String]) -> Result<(), String> {

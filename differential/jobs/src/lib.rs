@@ -222,6 +222,11 @@ impl Job {
 }
 
 impl Answer {
+    /// To a matrix alone: the row is the first count.
+    pub fn of_matrix(number: u32, value: f64, row: usize) -> Answer {
+        Answer { number, value, counts: [row as u64, 0, 0], out: vec![], work: vec![] }
+    }
+
     pub fn print(&self) -> String {
         let [a, b, c] = self.counts;
         let (out, work) = (runs(&self.out, 0), runs(&self.work, 1 << 32));

@@ -11,6 +11,46 @@ exported!(hazhendu_phi_action, u32, f64, [], u32, u32, u64);
 exported!(hazhendu_phi_action_batched, u32, f64, [], u32, u32, u64);
 exported!(hazhendu_phi_combination_krylov, u32, f64, [tol: f64, m: usize, max_substeps: usize], usize, usize, usize);
 
+extern "C" {
+    pub fn hazhendu_check_generator(
+        n: usize,
+        starts: *const u32,
+        starts_len: usize,
+        cols: *const u32,
+        cols_len: usize,
+        vals: *const f64,
+        vals_len: usize,
+        with_mass: bool,
+        mass: *const f64,
+        mass_len: usize,
+        value: *mut f64,
+        row: *mut usize,
+    ) -> u32;
+}
+
+/// The answer to the matrix alone, the row as its first count. SAFETY: as of `called!`.
+pub fn matrix(job: &Job) -> Answer {
+    let s = lent::<Box<[u32]>, Box<[f64]>>(job);
+    let (mut value, mut row) = (jobs::mark(0), !0);
+    let number = unsafe {
+        hazhendu_check_generator(
+            job.n,
+            s.starts.as_ptr(),
+            s.starts.len(),
+            s.cols.as_ptr(),
+            s.cols.len(),
+            s.vals.as_ptr(),
+            s.vals.len(),
+            job.mass.is_some(),
+            s.mass.as_ptr(),
+            s.mass.len(),
+            &mut value,
+            &mut row,
+        )
+    };
+    Answer::of_matrix(number, value, row)
+}
+
 /// The call alone.
 pub fn call(job: &Job, out: &mut [f64], work: &mut [f64]) -> Told {
     put(job, &lent::<&[u32], &[f64]>(job), out, work)

@@ -37,7 +37,7 @@ macro_rules! call {
     }};
 }
 
-/// The checks of the matrix alone, 1 to 11; then its norm and a row that has it.
+/// The checks of the matrix alone, 1 to 11; then its norm and the first row that has it.
 pub fn check(a: &Matrix) -> Result<Largest, Refusal> {
     let mut largest = Largest { norm: 0.0, row: 0 };
     let number = call!(hazhendu_check_generator, a, &mut largest.norm, &mut largest.row);

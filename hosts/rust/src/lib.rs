@@ -110,7 +110,7 @@ pub enum Cost {
 #[derive(Clone, Copy, Debug, PartialEq)]
 pub struct Largest {
     pub norm: f64,
-    /// A row whose sum is the norm, from 0.
+    /// The first row whose sum is the norm, from 0.
     pub row: usize,
 }
 
@@ -155,7 +155,7 @@ pub fn combine(solver: Solver, a: &Matrix, tau: f64, count: usize, w: &[f64]) ->
     with_memory(sizes::output(n, 0), work, |out, work| lent::combine(solver, a, tau, count, w, out, work))
 }
 
-/// The checks of the matrix alone, 1 to 11; then its norm and a row that has it.
+/// The checks of the matrix alone, 1 to 11; then its norm and the first row that has it.
 pub fn check(a: &Matrix) -> Result<Largest, Error> {
     lent::check(a).map_err(|refusal| Error::Refused { refusal, state: None })
 }

@@ -34,8 +34,8 @@ temperatures at the start (K), w_1 = q / C (K/s), and A the conductances (W/K).
   --help, --version
 
 soak check makes the checks of the matrix and its mass alone, and prints the
-norm of G, which is the largest sum of the sizes in a row, a row that has it,
-from 1, and that row's sum.
+norm of G, which is the largest sum of the sizes in a row, the first row that
+has it, from 1, and that row's sum.
 
 The field is one number a line, the shortest decimal that reads back as the same
 double, so that it can be a --vector again. One line about the work done goes to

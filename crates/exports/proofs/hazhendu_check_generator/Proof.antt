@@ -1,14 +1,12 @@
 -- `exports::hazhendu_check_generator` meets its contract. Assumes nothing.
 use borrow.Author.Needs.{needs}
-use Rattle.exports.proofs.Told.{norm-told, row-told}
+use mathlib.Core.Path.{ap, _∙_}
+use Rattle.exports.specs.Told.{matrix-numbers}
 use Rattle.exports.proofs.hazhendu_check_generator.Statement.{statement}
 use Rattle.exports.proofs.hazhendu_check_generator.Tie as tie
 
 returns : tie.Need-returns
-returns c = (
-  norm-told _ (c .tell-matrix .ensures) (c .before .before .before .check-generator .ensures .0),
-  row-told _ _ (c .tell-matrix .ensures) (c .before .before .before .check-generator .ensures .0) (c .before .before .before .check-generator .ensures .1),
-)
+returns c = c .tell-matrix .ensures ∙ ap matrix-numbers (c .before .before .before .check-generator .ensures)
 
 pub hazhendu-check-generator-spec : {M : Type 1} → statement M
 hazhendu-check-generator-spec =

@@ -15,11 +15,11 @@ use Rattle.generator_action.proofs.quotient_norm.Statement.{statement}
 use Rattle.generator_action.proofs.quotient_norm.Tie as tie
 
 abbrev Inv-loop : tie.InvT-loop
-Inv-loop n starts cols vals mass best₀ i₀ best i = let q = normalise (csr n starts cols vals) mass in
-    (i ≤ n) × Passed (bad-sum q) i × Leading q i (best .norm) (best .row)
+Inv-loop n starts cols vals mass largest₀ i₀ largest i = let q = normalise (csr n starts cols vals) mass in
+    (i ≤ n) × Passed (bad-sum q) i × Leading q i (largest .norm) (largest .row)
 
 abbrev μ-loop : tie.MeasureT-loop
-μ-loop n starts cols vals mass best₀ i₀ best i = n - i
+μ-loop n starts cols vals mass largest₀ i₀ largest i = n - i
 
 cast-from : tie.Need-cast-from Inv-loop μ-loop
 cast-from c = omega (arith, c .shared-slice-known5 .given (c .before .before .loop .i))

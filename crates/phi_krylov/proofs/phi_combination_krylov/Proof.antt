@@ -13,7 +13,7 @@ returns c =
     let g = c .before .before .before .before in
     let a = g .before .before .before .before .before .before .before .before .args in
     let refusal = passed-up (c .before .before .enum-told .given .1) (c .before .number .ensures) (c .value .ensures) in
-    refused-generator _ (a .tau) (a .count) (a .w .now) (a .o) (a .out .now) (a .work .now) (refusal-told (csr (a .n) (a .starts .now) (a .cols .now) (a .vals .now)) (given (a .with-mass) (a .mass .now)) (g .check-generator .ensures .0) refusal)
+    refused-generator _ (a .tau) (a .count) (a .w .now) (a .o) (a .out .now) (a .work .now) (refusal-told (csr (a .n) (a .starts .now) (a .cols .now) (a .vals .now)) (given (a .with-mass) (a .mass .now)) (g .check-generator .ensures) refusal)
 
 combined-requires : tie.Need-combined-requires
 combined-requires c κs =
@@ -21,7 +21,7 @@ combined-requires c κs =
     let g = h .before .before .before .before in
     let a = g .before .before .before .before .before .before .before .before .args in
     let m = csr (a .n) (a .starts .now) (a .cols .now) (a .vals .now) in
-    let norm = norm-told m (given (a .with-mass) (a .mass .now)) (g .check-generator .ensures .0) (h .before .before .matrix .given .1) in
+    let norm = norm-told m (given (a .with-mass) (a .mass .now)) (g .check-generator .ensures) (h .before .before .matrix .given .1) in
     rw (h .generator-shape .ensures (a .starts .now) (a .cols .now) (a .vals .now) (a .mass .now) refl) (passed m (a .with-mass) (a .mass .now) norm)
 
 returns-2 : tie.Need-returns-2
@@ -31,7 +31,7 @@ returns-2 c =
     let g = h .before .before .before .before in
     let a = g .before .before .before .before .before .before .before .before .args in
     let m = csr (a .n) (a .starts .now) (a .cols .now) (a .vals .now) in
-    let norm = norm-told m (given (a .with-mass) (a .mass .now)) (g .check-generator .ensures .0) (h .before .before .matrix .given .1) in
+    let norm = norm-told m (given (a .with-mass) (a .mass .now)) (g .check-generator .ensures) (h .before .before .matrix .given .1) in
     rw (h .generator-shape .ensures (a .starts .now) (a .cols .now) (a .vals .now) (a .mass .now) refl) at (r .combined .ensures _ (norm .sound))
 
 pub phi-combination-krylov-spec : {M : Type 1} → statement M
