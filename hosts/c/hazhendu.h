@@ -31,7 +31,7 @@
  *   count                 how many vectors, 1 to 4
  *   w, w_len              the vectors one after the other, count * n numbers
  *   k, p                  the index of a phi-function, 0 to 3
- *   v, v_len              one vector of n numbers, which may be infinite or NaN
+ *   v, v_len              one vector of n numbers
  *   krylov                hazhendu_combine: whether Krylov is asked for; if not, Taylor is, and tol, m and max_substeps are not looked at
  *   tol                   Krylov: the accuracy wanted, relative to the norm of the start, strictly between 0 and 1 (1e-10, say)
  *   m                     Krylov: columns of a substep (30, say); M, which is m brought into the range from 2 to max(2, n + count - 1),
@@ -118,7 +118,7 @@ enum hazhendu_refusal {
     HAZHENDU_TAU_RANGE = 14,           /* tau negative, infinite or NaN                         tau */
     HAZHENDU_OUTPUT_LENGTH = 15,       /* out is not n or (p + 1) * n long                      length of out */
     HAZHENDU_VECTOR_LENGTH = 16,       /* w is not count * n long, or v not n                   length of w or v */
-    HAZHENDU_VECTOR_NOT_FINITE = 17,   /* a number in w is infinite or NaN                      the number */
+    HAZHENDU_VECTOR_NOT_FINITE = 17,   /* a number in w or v is infinite or NaN                 the number */
     HAZHENDU_TOL_RANGE = 18,           /* tol not strictly between 0 and 1                      tol */
     HAZHENDU_NO_SUBSTEPS = 19,         /* max_substeps is 0                                     0 */
     HAZHENDU_OPTION_TOO_LARGE = 20,    /* M above 128 or max_substeps above 1,000,000           NaN */

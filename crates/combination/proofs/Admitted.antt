@@ -114,7 +114,7 @@ pub sweeps-known : (n : ℕ) (tau : Float) (d : ℕ) (w : List Float) (norm : Fl
 unfolding sweep-checks
 sweeps-known n tau d w norm memory need e = planned-known norm tau memory need (sound-append (magnitude-checks n w tau d) _ e .1)
 
--- ---- 13 to 16 and 24 to 26 of an action
+-- ---- 13 to 17 and 24 to 26 of an action
 pub index-known : (k : ℕ) {r : Checked} → r ≡ Sound → r ≡ first (index-checks k) → k ≤ 3
 unfolding index-checks
 index-known k e f = ltb-false 3 k (sound-cons _ _ _ _ (sym e ∙ f) .0)
@@ -125,20 +125,21 @@ pub record Action (k : ℕ) (tau norm : Float) (output wanted long n memory need
   pub whole : long ≡ n
   pub planned : Planned tau norm memory need
 
-pub action-known : (k : ℕ) (tau norm : Float) (output wanted long n memory need : ℕ) → Sound ≡ first (job-checks k tau output wanted long n norm memory need)
-    → Action k tau norm output wanted long n memory need
+pub action-known : (k : ℕ) (tau norm : Float) (output wanted : ℕ) (v : List Float) (n memory need : ℕ) → Sound ≡ first (job-checks k tau output wanted v n norm memory need)
+    → Action k tau norm output wanted (length v) n memory need
 unfolding job-checks length-checks
-action-known k tau norm output wanted long n memory need e =
+action-known k tau norm output wanted v n memory need e =
     let i = sound-append (index-checks k) _ e in
     let t = sound-append (time-checks tau) _ (i .1) in
-    let l = sound-append (length-checks output wanted long n) (schedule-checks M-MAX norm tau ++ memory-checks memory need) (t .1) in
+    let l = sound-append (length-checks output wanted (length v) n) (finite-checks v ++ (schedule-checks M-MAX norm tau ++ memory-checks memory need)) (t .1) in
+    let f = sound-append (finite-checks v) (schedule-checks M-MAX norm tau ++ memory-checks memory need) (l .1) in
     let a = sound-cons _ _ _ _ (l .0) in
     let b = sound-cons _ _ _ _ (a .1) in
     record {
       index = index-known k refl (i .0);
       out = eqb-true output wanted (not-false _ (a .0));
-      whole = eqb-true long n (not-false _ (b .0));
-      planned = planned-known norm tau memory need (l .1);
+      whole = eqb-true (length v) n (not-false _ (b .0));
+      planned = planned-known norm tau memory need (f .1);
     }
 
 -- ---- the first field

@@ -80,10 +80,11 @@ unfoldable pub sweep-checks : ℕ → Float → ℕ → List Float → Float →
 sweep-checks n tau d w norm memory need =
     magnitude-checks n w tau d ++ (schedule-checks M-MAX norm tau ++ memory-checks memory need)
 
--- 13 to 16 and 24 to 26 of an action of n values
-unfoldable pub job-checks : ℕ → Float → ℕ → ℕ → ℕ → ℕ → Float → ℕ → ℕ → List Check
+-- 13 to 17 and 24 to 26 of an action on v, of n values (17: document 02, N2)
+unfoldable pub job-checks : ℕ → Float → ℕ → ℕ → List Float → ℕ → Float → ℕ → ℕ → List Check
 job-checks k tau output wanted v n norm memory need =
-    index-checks k ++ (time-checks tau ++ (length-checks output wanted v n ++ (schedule-checks M-MAX norm tau ++ memory-checks memory need)))
+    index-checks k
+    ++ (time-checks tau ++ (length-checks output wanted (length v) n ++ (finite-checks v ++ (schedule-checks M-MAX norm tau ++ memory-checks memory need))))
 
 -- to compute: a line `unfolding open-Checks` opens every definition of this file and of those below it
 unfoldable pub open-Checks : Unit {0}

@@ -69,7 +69,7 @@ schedule m-max norm tau =
 abbrev pub host-checks : Shape → Float → ℕ → ℕ → List Check
 host-checks g tau d memory = schedule-checks M-MAX (g .norm) tau ++ memory-checks memory (taylor-need (g .n) d (g .stored))
 
--- ---- 21, 22 and 24 to 26 of a combination, 13 to 16 and 24 to 26 of an action: the answer, and what was found, of a generator with the numbers g
+-- ---- 21, 22 and 24 to 26 of a combination, 13 to 17 and 24 to 26 of an action: the answer, and what was found, of a generator with the numbers g
 abbrev pub job-of : Shape → Float → ℕ → List Check → Float → Coupling → Job
 job-of g tau d checks inv b =
     record {
@@ -94,7 +94,7 @@ one-column eta = record { places = 0 ∷ 0 ∷ 0 ∷ []; gains = eta ∷ 1f ∷ 
 
 abbrev pub action-job : Shape → Float → ℕ → List Float → ℕ → ℕ → ℕ → Job
 action-job g tau k v output wanted memory =
-    job-of g tau 3 (job-checks k tau output wanted (length v) (g .n) (g .norm) memory (taylor-need (g .n) 3 (g .stored))) (eta-scaling (sup v) .inv) (one-column (eta-scaling (sup v) .eta))
+    job-of g tau 3 (job-checks k tau output wanted v (g .n) (g .norm) memory (taylor-need (g .n) 3 (g .stored))) (eta-scaling (sup v) .inv) (one-column (eta-scaling (sup v) .eta))
 
 -- ---- what a run takes from them
 -- the columns of W lie within the vectors and the chain

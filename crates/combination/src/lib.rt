@@ -384,7 +384,7 @@ fn one_column(eta: f64) -> Coupling
     }
 }
 
-// 13 to 16 and 24 to 26 of an action of n values.
+// 13 to 17 and 24 to 26 of an action of n values.
 pub fn admit_action(
     g: Shape,
     tau: f64,
@@ -398,7 +398,9 @@ pub fn admit_action(
     ensures { λ r. ⌜ r ≡ action-job g tau k (now (v .entry)) output wanted memory ⌝ }
 {
     let lengths = check_lengths(output, wanted, v.len(), g.n);
-    let checked = and_then(check_index(k), and_then(check_time(tau), lengths));
+    let finite = check_finite(v);
+    let field = and_then(lengths, finite);
+    let checked = and_then(check_index(k), and_then(check_time(tau), field));
     let eta = pow2::eta_scaling(pow2::sup(v));
     let b = one_column(eta.eta);
     plan_job(checked, g, tau, 3, eta.inv, b, memory)

@@ -58,13 +58,13 @@ module _ (a : Csr) (mass : Mass) (tau : Float) where
   -- ---- `phi_action` and, of another output, `phi_action_batched`
   module _ (k : ℕ) (v : List Float) (output wanted memory : ℕ) where
     pub action-never-23 :
-        first (g .checks ++ ((index-checks k ++ (time-checks tau ++ length-checks output wanted (length v) n)) ++ (check-23 g ∷ (schedule-checks M-MAX norm tau ++ memory-checks memory (taylor-need n 3 (g .stored))))))
+        first (g .checks ++ ((index-checks k ++ (time-checks tau ++ (length-checks output wanted (length v) n ++ finite-checks v))) ++ (check-23 g ∷ (schedule-checks M-MAX norm tau ++ memory-checks memory (taylor-need n 3 (g .stored))))))
         ≡ first (action-checks g tau k v output wanted memory)
-    unfolding action-checks job-checks index-checks time-checks length-checks
-    action-never-23 = never-23 a mass (index-checks k ++ (time-checks tau ++ length-checks output wanted (length v) n)) _
+    unfolding action-checks job-checks index-checks time-checks length-checks finite-checks
+    action-never-23 = never-23 a mass (index-checks k ++ (time-checks tau ++ (length-checks output wanted (length v) n ++ finite-checks v))) _
 
     pub action-no-number : before 23 (action-checks g tau k v output wanted memory) ≡ action-checks g tau k v output wanted memory
-    unfolding before action-checks job-checks index-checks time-checks length-checks schedule-checks memory-checks
+    unfolding before action-checks job-checks index-checks time-checks length-checks finite-checks schedule-checks memory-checks
     action-no-number = before-append 23 (generator-checks a mass) _ (forward-none a mass)
 
   -- ---- `phi_combination_krylov`, whose list never had it: the Rust makes no schedule there

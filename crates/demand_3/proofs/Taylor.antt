@@ -281,9 +281,17 @@ module _
     unfolding before index-checks
     low-index = refl
 
-    low-lengths : (wanted : ℕ) → before 25 (length-checks (length output) wanted (length v) (g .matrix .n)) ≡ length-checks (length output) wanted (length v) (g .matrix .n)
-    unfolding before length-checks
-    low-lengths wanted = refl
+    -- 15 to 17
+    abbrev of-field : ℕ → List Check
+    of-field wanted = length-checks (length output) wanted (length v) (g .matrix .n) ++ finite-checks v
+
+    low-field : (wanted : ℕ) → before 25 (of-field wanted) ≡ of-field wanted
+    unfolding before length-checks finite-checks
+    low-field wanted = refl
+
+    action-in-order : (wanted : ℕ) → action-checks g tau k v (length output) wanted (length memory) ≡ in-order (g .checks) (index-checks k) (of-field wanted) tau norm (length memory) (taylor-need (g .matrix .n) 3 (g .stored))
+    unfolding action-checks job-checks length-checks finite-checks
+    action-in-order wanted = refl
 
     action-cost : {r : TaylorReport} → phi-action g tau k v output memory .answer ≡ Soaked r
         → TaylorCost tau (action-of g v) 1 (λ _. action-start g v k) (phi-action g tau k v output memory .output) r
@@ -301,17 +309,15 @@ module _
         (action-checks g tau k v (length output) wanted (length memory))
         tau
         norm
-    unfolding action-checks job-checks
-    action-exactly wanted run = exactly-25 (g .checks) (index-checks k) _ tau norm _ _ ranged-norm none-25 low-index (low-lengths wanted) _ run output memory _ refl
+    action-exactly wanted run = exactly-25 (g .checks) (index-checks k) (of-field wanted) tau norm _ _ ranged-norm none-25 low-index (low-field wanted) _ run output memory _ (action-in-order wanted)
 
     low-action : (wanted : ℕ) → before 27 (action-checks g tau k v (length output) wanted (length memory)) ≡ action-checks g tau k v (length output) wanted (length memory)
-    unfolding before action-checks job-checks index-checks time-checks length-checks schedule-checks memory-checks
+    unfolding before action-checks job-checks index-checks time-checks length-checks finite-checks schedule-checks memory-checks
     low-action wanted = before-append 27 (g .checks) _ none-27
 
     action-no-27 : (wanted : ℕ) (run : SweepPlan → Fields) (x : Float)
         → unless-refused Refusal (first (action-checks g tau k v (length output) wanted (length memory))) output memory (after-plan (taylor-need (g .matrix .n) 3 (g .stored)) tau norm output memory (sweep-plan M-MAX tau (g .matrix) norm) run) .answer ≡ Refusal 27 x → ⊥
-    unfolding action-checks job-checks
-    action-no-27 wanted run = never-27 (g .checks) (index-checks k) _ tau norm _ _ ranged-norm none-25 low-index (low-lengths wanted) _ run output memory _ refl (low-action wanted)
+    action-no-27 wanted run = never-27 (g .checks) (index-checks k) (of-field wanted) tau norm _ _ ranged-norm none-25 low-index (low-field wanted) _ run output memory _ (action-in-order wanted) (low-action wanted)
 
     pub action-claim : TaylorClaim (phi-action g tau k v output memory) (action-checks g tau k v (length output) (g .matrix .n) (length memory)) tau (action-of g v) 1 (λ _. action-start g v k)
     unfolding phi-action action-operator

@@ -59,8 +59,8 @@ others : PhiCall → Generator → Float → ℕ → List Float → ℕ → List
 others Combination g tau k v memory =
     let n = g .matrix .n in
     finite-checks v ++ sweep-checks n tau (k - 1) v (row-sum-norm (g .matrix)) memory (taylor-need n (k - 1) (g .stored))
-others Action g tau k v memory = schedule-checks M-MAX (row-sum-norm (g .matrix)) tau ++ memory-checks memory (taylor-need (g .matrix .n) 3 (g .stored))
-others Batch g tau k v memory = schedule-checks M-MAX (row-sum-norm (g .matrix)) tau ++ memory-checks memory (taylor-need (g .matrix .n) 3 (g .stored))
+others Action g tau k v memory = finite-checks v ++ (schedule-checks M-MAX (row-sum-norm (g .matrix)) tau ++ memory-checks memory (taylor-need (g .matrix .n) 3 (g .stored)))
+others Batch g tau k v memory = finite-checks v ++ (schedule-checks M-MAX (row-sum-norm (g .matrix)) tau ++ memory-checks memory (taylor-need (g .matrix .n) 3 (g .stored)))
 others (Krylov tol m most) g tau k v memory =
     let n = g .matrix .n in
     let M = dimension n (k - 1) m in

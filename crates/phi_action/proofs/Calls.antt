@@ -31,7 +31,7 @@ use Rattle.phi_action.proofs.Jobs.{started-is, ends-planned}
 -- ---- what a run takes from them
 pub known-action : (g : Shape) (tau : Float) (k : ℕ) (v : List Float) (output wanted memory : ℕ) {j : Job} → j ≡ action-job g tau k v output wanted memory → j .checked ≡ Sound
     → Action k tau (g .norm) output wanted (length v) (g .n) memory (taylor-need (g .n) 3 (g .stored))
-known-action g tau k v output wanted memory ej e = action-known k tau (g .norm) output wanted (length v) (g .n) memory _ (sym e ∙ ap (λ (x : Job). x .checked) ej)
+known-action g tau k v output wanted memory ej e = action-known k tau (g .norm) output wanted v (g .n) memory _ (sym e ∙ ap (λ (x : Job). x .checked) ej)
 
 module _ {starts cols : List ℕ} {vals : List Float} (mass : List Float) {g : Shape} (ok : Passed (csr (g .n) starts cols vals) (given (g .«with_mass») mass) g) {tau : Float} {j : Job} {work : List Float} where
   pub allowed-combination : {count output memory : ℕ} (w : List Float) → Vectors (g .n) count (length w) output → j ≡ combination-job g tau (count - 1) w memory → j .checked ≡ Sound

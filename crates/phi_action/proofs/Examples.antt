@@ -3,16 +3,19 @@ use mathlib.Core.Path.{_≡_, refl}
 use mathlib.Core.List.{[], _∷_, _++_}
 use mathlib.Core.Option.{none}
 use lib.ListN.{replicate}
-use lib.Ieee.{nan}
+use lib.Ieee.{Float, nan}
 use Rattle.doubles.specs.F64.{bits, nat, 1f, +0}
 use Rattle.general_operator.specs.Csr.{Csr, csr}
 use Rattle.generator_action.specs.Generator.{forward}
 use Rattle.phi_action.specs.declared.TaylorAnswer.the-variants.{Refusal, Soaked}
 use Rattle.combination.specs.Call.{ends}
-use Rattle.phi_action.specs.Calls.{phi-combination, phi-action-batched, open-Calls}
+use Rattle.phi_action.specs.Calls.{phi-combination, phi-action, phi-action-batched, open-Calls}
 
 abbrev laplace : Csr
 laplace = csr 2 (0 ∷ 2 ∷ 4 ∷ []) (0 ∷ 1 ∷ 0 ∷ 1 ∷ []) (nat 2 ∷ bits 0xbff0000000000000 ∷ bits 0xbff0000000000000 ∷ nat 2 ∷ [])
+
+abbrev -∞ : Float
+-∞ = bits 0xfff0000000000000
 
 abbrev empty : Csr
 empty = csr 1 (0 ∷ 0 ∷ []) [] []
@@ -34,3 +37,17 @@ batch : phi-action-batched (forward empty none) 1f 1 (nat 3 ∷ []) (+0 ∷ +0 �
     ≡ ends (Soaked (record { s = 2; m = 25; mu = +0; applications = 100 })) (nat 3 ∷ nat 3 ∷ []) (replicate 9 +0)
 unfolding open-Calls
 batch = refl
+
+-- ---- 17 of a field v (document 02, N2): the first entry that is not finite, and nothing changes
+field-with-nan : phi-action (forward laplace none) 1f 1 (1f ∷ nan ∷ []) (nat 7 ∷ nat 7 ∷ []) (replicate 12 (nat 9)) ≡ ends (Refusal 17 nan) (nat 7 ∷ nat 7 ∷ []) (replicate 12 (nat 9))
+unfolding open-Calls
+field-with-nan = refl
+
+batch-with-infinity : phi-action-batched (forward laplace none) 1f 0 (-∞ ∷ nan ∷ []) (nat 7 ∷ nat 7 ∷ []) (replicate 12 (nat 9)) ≡ ends (Refusal 17 -∞) (nat 7 ∷ nat 7 ∷ []) (replicate 12 (nat 9))
+unfolding open-Calls
+batch-with-infinity = refl
+
+-- one value for two rows: 16 first
+length-first : phi-action (forward laplace none) 1f 1 (nan ∷ []) (nat 7 ∷ nat 7 ∷ []) (replicate 12 (nat 9)) ≡ ends (Refusal 16 1f) (nat 7 ∷ nat 7 ∷ []) (replicate 12 (nat 9))
+unfolding open-Calls
+length-first = refl

@@ -62,7 +62,7 @@ phi-combination g tau count w output memory =
 unfoldable pub action-checks : Generator → Float → ℕ → List Float → ℕ → ℕ → ℕ → List Check
 action-checks g tau k v output wanted memory =
     let n = g .matrix .n in
-    g .checks ++ job-checks k tau output wanted (length v) n (row-sum-norm (g .matrix)) memory (taylor-need n 3 (g .stored))
+    g .checks ++ job-checks k tau output wanted v n (row-sum-norm (g .matrix)) memory (taylor-need n 3 (g .stored))
 
 unfoldable pub phi-action : Generator → Float → ℕ → List Float → List Float → List Float → Call TaylorAnswer
 phi-action g tau k v output memory =

@@ -1,6 +1,6 @@
-//! The reference answer of a job: the Rust's where the job is in its domain, and where document 01 adds a refusal
-//! (3, 9, 16, 20, 26, and 15 of the action calls) that number, unless the Rust refuses by a lower one. So too where there
-//! would be more vectors (12) than a slice of slices can hold.
+//! The reference answer of a job: the Rust's where the job is in its domain, and where document 01 or 02 adds a refusal
+//! (3, 9, 16, 20, 26, and 15 and 17 of the action calls) that number, unless the Rust refuses by a lower one. So too where
+//! there would be more vectors (12) than a slice of slices can hold.
 
 use jobs::{Answer, Call, Job};
 
@@ -21,6 +21,11 @@ pub fn added(job: &Job) -> Option<(u32, f64)> {
     }
     if job.w.len() != job.vectors() {
         return Some((16, job.w.len() as f64));
+    }
+    if action {
+        if let Some(x) = job.w.iter().find(|x| !x.is_finite()) {
+            return Some((17, *x));
+        }
     }
     if let Call::Krylov { limit, .. } = job.call {
         if job.dimension() > 128 || limit > 1_000_000 {
@@ -50,8 +55,12 @@ fn tamed(job: &Job, number: u32) -> Job {
         t.call = Call::Action;
         t.count = 4;
     }
-    if t.w.len() != t.vectors() {
+    if t.w.len() != t.vectors() || number == 17 {
         t.w = vec![0.0; t.vectors().min(LONGEST)];
+    }
+    if number == 17 && t.tau.is_finite() && t.tau >= 0.0 {
+        // no check below 17 looks at the time but 14
+        t.tau = 0.0;
     }
     if matches!(t.call, Call::Action | Call::Batched) {
         t.out = t.output().min(t.n.saturating_mul(4)).min(LONGEST);

@@ -96,6 +96,39 @@ fn job() {
     expect(taylor(ONE, 1e10, 2, &[1.0, 5e-324]), 22, f64::NAN);
 }
 
+/// phi_1 of a field of three rows, and phi_0 to phi_2; a refusal must leave the memory as it is.
+fn actions(v: &[f64]) -> [Result<hazhendu::Plan, Refusal>; 2] {
+    let chain = Matrix { n: 3, starts: &[0, 1, 3, 4], columns: &[0, 0, 1, 2], entries: &[1.0, -1.0, 2.0, 0.5], mass: None };
+    let (mut one, mut batch, mut work, mut other) = ([MARK; 3], [MARK; 9], [MARK; 16], [MARK; 16]);
+    let answers =
+        [lent::phi_action(&chain, 1.0, 1, v, &mut one, &mut work), lent::phi_action_batched(&chain, 1.0, 2, v, &mut batch, &mut other)];
+    let untouched = |answer: &Result<_, _>, slices: [&[f64]; 2]| answer.is_ok() || slices.iter().all(|s| s.iter().all(|x| *x == MARK));
+    assert!(untouched(&answers[0], [&one, &work]) && untouched(&answers[1], [&batch, &other]));
+    answers
+}
+
+#[test]
+fn a_field_is_tested_as_the_vectors_of_a_combination() {
+    for place in 0..3 {
+        let with = |x: f64| {
+            let mut v = [1.0, 2.0, 3.0];
+            v[place] = x;
+            v
+        };
+        for x in [f64::NAN, f64::INFINITY, f64::NEG_INFINITY] {
+            actions(&with(x)).into_iter().for_each(|answer| expect(answer, 17, x));
+            // the length comes first, and of two such numbers the first is told
+            actions(&with(x)[place..]).into_iter().filter(|_| place > 0).for_each(|answer| expect(answer, 16, 3.0 - place as f64));
+            let mut two = with(x);
+            two[2] = if place < 2 { f64::NEG_INFINITY } else { x };
+            actions(&two).into_iter().for_each(|answer| expect(answer, 17, x));
+        }
+        for x in [-0.0, 5e-324, -2.2e-308] {
+            actions(&with(x)).into_iter().for_each(|answer| assert!(answer.is_ok()));
+        }
+    }
+}
+
 #[test]
 fn options() {
     for tol in [0.0, 1.0, -1.0, f64::NAN, f64::INFINITY] {

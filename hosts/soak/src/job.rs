@@ -3,15 +3,15 @@
 use crate::arguments::Request;
 use crate::failure::Failure;
 use crate::memory::joined;
-use crate::model::{first, Model};
-use crate::vector;
+use crate::model::Model;
+use crate::vector::Vector;
 use hazhendu::sizes::MAX_VECTORS;
 use hazhendu::{combine, shortest, Cost, Refusal, Soaked};
 
 pub struct Job<'a> {
     request: &'a Request,
     model: Model<'a>,
-    vectors: Vec<Vec<f64>>,
+    vectors: Vec<Vector>,
 }
 
 impl<'a> Job<'a> {
@@ -19,7 +19,7 @@ impl<'a> Job<'a> {
         Ok(Job {
             request,
             model: Model::read(&request.files)?,
-            vectors: request.vectors.iter().map(|path| vector::read(path)).collect::<Result<_, _>>()?,
+            vectors: request.vectors.iter().map(|path| Vector::read(path)).collect::<Result<_, _>>()?,
         })
     }
 
@@ -42,11 +42,11 @@ impl<'a> Job<'a> {
             Some(i) if self.vectors.len() <= MAX_VECTORS => &self.vectors[i..=i],
             _ => &self.vectors,
         };
-        Ok((put.len(), joined(put)?))
+        Ok((put.len(), joined(put.iter().map(|vector| vector.numbers.as_slice()))?))
     }
 
     fn misfit(&self) -> Option<usize> {
-        self.vectors.iter().position(|vector| vector.len() != self.model.matrix().n)
+        self.vectors.iter().position(|vector| vector.numbers.len() != self.model.matrix().n)
     }
 
     /// Where a refusal has its cause.
@@ -54,8 +54,8 @@ impl<'a> Job<'a> {
         match refusal.number {
             12 => Some(format!("--vector is given {} times", self.vectors.len())),
             14 => Some(format!("--tau {}", shortest(self.request.tau))),
-            16 => self.misfit().map(|i| self.model.length_told(&self.request.vectors[i], &self.vectors[i])),
-            17 => self.vectors.iter().zip(&self.request.vectors).find_map(|(vector, path)| first(path, vector, |x| !x.is_finite())),
+            16 => self.misfit().map(|i| self.model.length_told(&self.vectors[i])),
+            17 => self.vectors.iter().find_map(|vector| vector.first(|x| !x.is_finite())),
             18 => Some("--tol".into()),
             19 => Some("--limit".into()),
             20 => Some("--m or --limit".into()),

@@ -55,6 +55,11 @@ impl Lines {
         Failure::BadFile { place: self.place(), wrong: wrong.into() }
     }
 
+    /// The number of the line read last.
+    pub fn line(&self) -> u64 {
+        self.number
+    }
+
     /// The line read last, as FILE:LINE.
     pub fn place(&self) -> String {
         format!("{}:{}", self.path.display(), self.number.max(1))

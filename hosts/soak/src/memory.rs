@@ -16,10 +16,10 @@ pub fn filled<T: Copy>(length: usize, value: T) -> Result<Vec<T>, Failure> {
 }
 
 /// One list after the other.
-pub fn joined<T: Copy>(lists: &[Vec<T>]) -> Result<Vec<T>, Failure> {
-    let doubles = lists.iter().map(Vec::len).sum();
+pub fn joined<'a, T: Copy + 'a>(lists: impl Iterator<Item = &'a [T]> + Clone) -> Result<Vec<T>, Failure> {
+    let doubles = lists.clone().map(<[T]>::len).sum();
     let mut all = Vec::new();
     all.try_reserve_exact(doubles).map_err(|_| Failure::OutOfMemory { doubles })?;
-    lists.iter().for_each(|list| all.extend_from_slice(list));
+    lists.for_each(|list| all.extend_from_slice(list));
     Ok(all)
 }

@@ -2,10 +2,10 @@
 
 use crate::failure::Failure;
 use crate::matrix_market::{self, Csr};
-use crate::vector;
+use crate::vector::Vector;
 use hazhendu::sizes::MAX_ROWS;
 use hazhendu::{check, Error, Largest, Matrix, Refusal};
-use std::path::{Path, PathBuf};
+use std::path::PathBuf;
 
 #[derive(Debug)]
 pub struct Files {
@@ -16,20 +16,20 @@ pub struct Files {
 pub struct Model<'a> {
     files: &'a Files,
     csr: Csr,
-    mass: Option<Vec<f64>>,
+    mass: Option<Vector>,
 }
 
 impl<'a> Model<'a> {
     pub fn read(files: &'a Files) -> Result<Self, Failure> {
         let csr = matrix_market::read(&files.matrix)?;
-        let mass = files.mass.as_deref().map(vector::read).transpose()?;
+        let mass = files.mass.as_deref().map(Vector::read).transpose()?;
         Ok(Model { files, csr, mass })
     }
 
     pub fn matrix(&self) -> Matrix<'_> {
         let Csr { n, starts, columns, entries } = &self.csr;
         let bare = Matrix::new(*n, starts, columns, entries);
-        self.mass.as_deref().map_or(bare, |mass| bare.with_mass(mass))
+        self.mass.as_ref().map_or(bare, |mass| bare.with_mass(&mass.numbers))
     }
 
     pub fn check(&self) -> Result<Largest, Failure> {
@@ -70,20 +70,15 @@ impl<'a> Model<'a> {
     }
 
     fn mass_place(&self, number: u32) -> Option<String> {
-        let (path, mass) = (self.files.mass.as_deref()?, self.mass.as_deref()?);
+        let mass = self.mass.as_ref()?;
         match number {
-            7 => Some(self.length_told(path, mass)),
-            _ => first(path, mass, |x| !(x.is_finite() && x > 0.0)),
+            7 => Some(self.length_told(mass)),
+            _ => mass.first(|x| !(x.is_finite() && x > 0.0)),
         }
     }
 
-    pub fn length_told(&self, path: &Path, numbers: &[f64]) -> String {
+    pub fn length_told(&self, Vector { path, numbers, .. }: &Vector) -> String {
         let more = if numbers.len() > MAX_ROWS { " or more" } else { "" };
         format!("{} has {}{more} numbers, {} has {} rows", path.display(), numbers.len(), self.files.matrix.display(), self.csr.n)
     }
-}
-
-pub fn first(path: &Path, numbers: &[f64], wrong: impl Fn(f64) -> bool) -> Option<String> {
-    let place = numbers.iter().position(|x| wrong(*x))?;
-    Some(format!("{}, number {}", path.display(), place + 1))
 }
