@@ -18,7 +18,7 @@ The form of the list. All numbers have their lowest byte first. A section is a c
 record is 21 words of 8 bytes, the head, and the body. The words:
 
      0 call: combination 0, action 1, batched 2, krylov 3      1 n      2 whether there is a mass      3 tau
-     4 count      5 tol      6 m      7 limit
+     4 count      5 tol      6 m, of a Taylor call the highest degree of its plan      7 limit
      8 to 13 where in the body starts, cols, vals, mass, w and the output expected end, in bytes; the body ends there
     14 the length of the working memory, in bytes      15 how many bytes of it are cleared
     16 number      17 value      18 to 20 counts
@@ -93,7 +93,7 @@ def record(job, number, value, counts, out, cleared):
         int(job["tau"], 16),
         int(job["count"]),
         int(job.get("tol", "0"), 16),
-        int(job.get("m", 0)),
+        int(job.get("m", job.get("degree", 30))),
         int(job.get("limit", 0)),
     ]
     head += ends + [8 * int(job["work"]), cleared, number, value] + counts

@@ -1,6 +1,6 @@
-//! Names the files of the Rust original as modules of this crate. Package `oracle` takes every file where it lies;
-//! package `transcribed` takes two of them as copies below OUT_DIR in which the lines of [`TRANSCRIBED`] and [`PROBES`]
-//! are replaced. SEMIFLOW gives the folder of the sources, by default `../shared/docs/src` beside the repository.
+//! Names the files of the Rust original as modules of this crate. Package `oracle` takes every file where it lies but
+//! expmv.rs, a copy below OUT_DIR in which [`DEGREE`] is replaced; package `transcribed` takes two more as copies, in
+//! which the lines of [`TRANSCRIBED`] and [`PROBES`] are replaced. SEMIFLOW gives the folder of the sources, by default `../shared/docs/src` beside the repository.
 
 use std::{env, fs, path::Path};
 
@@ -20,6 +20,9 @@ const FILES: [&str; 14] = [
     "pow2",
     "scratch",
 ];
+
+/// Document 02, N7: `M_MAX` is set to the cap of the job.
+const DEGREE: (&str, &str, &str) = ("expmv", "        if m > M_MAX {", "        if m > crate::probe::degree() {");
 
 /// Document 01's last three items: file, the text that stands there exactly once, its replacement.
 const TRANSCRIBED: [(&str, &str, &str); 6] = [
@@ -99,7 +102,8 @@ fn main() {
         let mut path = sources.join(name).with_extension("rs");
         path = path.canonicalize().unwrap_or_else(|e| panic!("{}: {e}; give the sources' folder as SEMIFLOW", path.display()));
         println!("cargo:rerun-if-changed={}", path.display());
-        if transcribe && (name == "phi_action_helpers" || name == "phi_krylov_arnoldi") {
+        let changed = name == DEGREE.0 || transcribe && (name == "phi_action_helpers" || name == "phi_krylov_arnoldi");
+        if changed {
             let text = transcribed(name, fs::read_to_string(&path).unwrap());
             path = Path::new(&out).join(name).with_extension("rs");
             fs::write(&path, text).unwrap();
@@ -117,7 +121,7 @@ fn main() {
 
 /// `text` with every replacement of its file made.
 fn transcribed(name: &str, mut text: String) -> String {
-    for (file, old, new) in TRANSCRIBED.into_iter().chain(PROBES) {
+    for (file, old, new) in TRANSCRIBED.into_iter().chain(PROBES).chain([DEGREE]) {
         if file == name {
             assert_eq!(text.matches(old).count(), 1, "{file}: {old}");
             text = text.replace(old, new);

@@ -35,6 +35,7 @@ pub fn short(kind: Kind, index: usize) -> Job {
         vals,
         mass: None,
         tau: 0.75,
+        degree: jobs::DEGREE,
         count: 1,
         w: vec![],
         out: 0,
@@ -75,12 +76,24 @@ pub fn random(kind: Kind, r: &mut Random) -> Job {
         7 if kind == Kind::Krylov => rough(r),
         _ => good(kind, r),
     };
+    if kind != Kind::Krylov && r.once_in(3) {
+        job.degree = degree(r);
+    }
     if r.once_in(3) {
         for _ in 0..r.from_to(1, 3) {
             damage(&mut job, r);
         }
     }
     job
+}
+
+/// Mostly one from 3 to 30: below 3 a plan has 10^5 sweeps and more, and up to 1 none fits.
+fn degree(r: &mut Random) -> u32 {
+    match r.below(20) {
+        0 => r.pick(&[0, 31, u32::MAX]),
+        1 => r.pick(&[1, 2]),
+        _ => r.from_to(3, 30) as u32,
+    }
 }
 
 fn call_of(kind: Kind, r: &mut Random) -> Call {
@@ -174,7 +187,8 @@ fn good(kind: Kind, r: &mut Random) -> Job {
         Kind::Combination | Kind::Krylov => r.from_to(1, 4),
         _ => r.from_to(0, 3),
     } as usize;
-    let mut job = Job { call: call_of(kind, r), n, starts, cols, vals, mass, tau: 1.0, count, w: vec![], out: 0, work: 0 };
+    let mut job =
+        Job { call: call_of(kind, r), n, starts, cols, vals, mass, tau: 1.0, degree: jobs::DEGREE, count, w: vec![], out: 0, work: 0 };
     let norm = norm(&job);
     job.tau = match r.below(12) {
         0 => 0.0,

@@ -119,6 +119,8 @@ struct Tally {
     libm_parts: BTreeMap<String, u64>,
     /// The largest difference of two outputs, relative to the largest value.
     libm_largest: f64,
+    /// Accepted Taylor jobs by the highest degree of the plan.
+    degrees: BTreeMap<u32, u64>,
     /// Rows named as the first of the largest sum: with a mass or not, tied with a later one or not.
     rows: BTreeMap<(bool, bool), u64>,
     numbers: BTreeMap<(u32, &'static str), u64>,
@@ -138,6 +140,9 @@ impl Tally {
         self.libm_largest = self.libm_largest.max(other.libm_largest);
         for (key, hits) in other.libm_parts {
             *self.libm_parts.entry(key).or_default() += hits;
+        }
+        for (key, hits) in other.degrees {
+            *self.degrees.entry(key).or_default() += hits;
         }
         for (key, hits) in other.rows {
             *self.rows.entry(key).or_default() += hits;
@@ -165,6 +170,8 @@ fn run(o: &Options) -> bool {
     });
     println!("jobs {}, compared {} ({} of more than 64 rows), above the cost {}", o.jobs, t.compared, t.above_64_rows, t.costly);
     println!("on bytes: compared {}, and {} large ones answered by 255", t.on_bytes, t.large_on_bytes);
+    let degrees: Vec<String> = t.degrees.iter().map(|(degree, hits)| format!("{degree}: {hits}")).collect();
+    println!("accepted Taylor jobs by highest degree: {}", degrees.join(", "));
     println!("rows of largest sum:");
     for ((mass, tied), hits) in &t.rows {
         println!("  {} mass, {:8} {hits}", if *mass { "with a" } else { "without" }, if *tied { "tied" } else { "alone" });
@@ -248,6 +255,9 @@ fn count(o: &Options, job: &Job, expected: &Expected, t: &mut Tally) {
     *t.numbers.entry((number, call_name(job))).or_default() += 1;
     for path in &expected.paths {
         *t.paths.entry(path).or_default() += 1;
+    }
+    if number == 0 && !matches!(job.call, Call::Krylov { .. }) {
+        *t.degrees.entry(job.degree).or_default() += 1;
     }
     t.compared += 1;
     t.above_64_rows += u64::from(job.n > jobs::ROWS);

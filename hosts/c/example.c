@@ -28,7 +28,7 @@ static uint32_t soak_taylor(double tau, double *out, double *work, size_t work_l
     uint32_t s, m;
     uint64_t applications;
     uint32_t number = hazhendu_phi_combination(
-        N, starts, N + 1, cols, ENTRIES, vals, ENTRIES, true, mass, N, tau, COUNT, w, COUNT * N, out, N, work, work_len,
+        N, starts, N + 1, cols, ENTRIES, vals, ENTRIES, true, mass, N, tau, HAZHENDU_MAX_DEGREE, COUNT, w, COUNT * N, out, N, work, work_len,
         &value, &s, &m, &applications);
     if (number == HAZHENDU_ACCEPTED)
         printf("taylor: s %u, m %u, mu %.17g, %llu applications\n", s, m, value, (unsigned long long)applications);
@@ -69,7 +69,7 @@ static bool same_by_choice(bool krylov, const double *field, double *work, size_
     double value, out[N];
     uint64_t first, second, third;
     uint32_t number = hazhendu_combine(
-        N, starts, N + 1, cols, ENTRIES, vals, ENTRIES, true, mass, N, 60, COUNT, w, COUNT * N, krylov, 1e-10, KRYLOV_M, 100000,
+        N, starts, N + 1, cols, ENTRIES, vals, ENTRIES, true, mass, N, 60, HAZHENDU_MAX_DEGREE, COUNT, w, COUNT * N, krylov, 1e-10, KRYLOV_M, 100000,
         out, N, work, work_len, &value, &first, &second, &third);
     printf("combine: number %u, double %.17g, %llu, %llu, %llu\n", number, value, (unsigned long long)first, (unsigned long long)second,
         (unsigned long long)third);

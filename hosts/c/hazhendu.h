@@ -28,11 +28,12 @@
  *   with_mass             whether there is a mass; if not, mass and mass_len are not looked at
  *   mass, mass_len        one number above 0 for each row
  *   tau                   the time, finite and not negative
+ *   degree                Taylor: the highest degree of a sweep, 1 to 30; HAZHENDU_MAX_DEGREE unless high degrees lose digits
  *   count                 how many vectors, 1 to 4
  *   w, w_len              the vectors one after the other, count * n numbers
  *   k, p                  the index of a phi-function, 0 to 3
  *   v, v_len              one vector of n numbers
- *   krylov                hazhendu_combine: whether Krylov is asked for; if not, Taylor is, and tol, m and max_substeps are not looked at
+ *   krylov                hazhendu_combine: whether Krylov is asked for, and degree is not looked at; if not, Taylor is, and tol, m and max_substeps are not
  *   tol                   Krylov: the accuracy wanted, relative to the norm of the start, strictly between 0 and 1 (1e-10, say)
  *   m                     Krylov: columns of a substep (30, say); M, which is m brought into the range from 2 to max(2, n + count - 1),
  *                         may be at most 128
@@ -69,7 +70,7 @@
  * WHAT A CALL CHANGES
  *
  *   accepted           out is the answer; the needed length of work holds +0, the rest is unchanged
- *   refused, 1 to 26   out and work are unchanged
+ *   refused, 1 to 26   out and work are unchanged, and so after 33
  *   refused, 27 to 29  out is the state after the last accepted substep, the needed length of work holds +0. If no substep was accepted
  *                      (28 or 29 in the first), out is w_0 scaled by a power of two and back: its numbers, but for those so small beside
  *                      the largest that the scaling makes them subnormal
@@ -91,10 +92,12 @@ enum {
     HAZHENDU_MAX_VECTORS = 4,
     HAZHENDU_MAX_INDEX = 3,
     HAZHENDU_MAX_DIMENSION = 128,
-    HAZHENDU_MAX_SUBSTEPS = 1000000
+    HAZHENDU_MAX_SUBSTEPS = 1000000,
+    HAZHENDU_MAX_DEGREE = 30
 };
 
-/* Why a job is refused, and the double reported with it. The checks run in number order, and the first that holds is told. */
+/* Why a job is refused, and the double reported with it. The checks run in number order, but for 33 directly after 14, and the first
+   that holds is told. */
 enum hazhendu_refusal {
     HAZHENDU_ACCEPTED = 0,
 
@@ -128,7 +131,7 @@ enum hazhendu_refusal {
     /* the matrix and the job together */
     /* 23 is not used: it never occurred */
     HAZHENDU_ARGUMENT_NOT_FINITE = 24, /* tau times the norm of G overflows                     2 (tau norm + 2), Krylov half of it */
-    HAZHENDU_NO_PLAN = 25,             /* Taylor: more than 4,294,967,295 sweeps                2 (tau norm + 2) */
+    HAZHENDU_NO_PLAN = 25,             /* Taylor: above 4,294,967,295 sweeps at every degree    2 (tau norm + 2) */
 
     /* the host */
     HAZHENDU_WORK_LENGTH = 26,         /* work is too short                                     NaN */
@@ -136,7 +139,10 @@ enum hazhendu_refusal {
     /* Krylov's run */
     HAZHENDU_SUBSTEP_LIMIT = 27,       /* max_substeps made, and tau is not reached             estimated error so far, of the scaled start */
     HAZHENDU_LENGTHS_REJECTED = 28,    /* eleven lengths rejected in one substep                error allowed, of the scaled start */
-    HAZHENDU_NO_INNER_PLAN = 29        /* the small exponential has no plan                     its argument */
+    HAZHENDU_NO_INNER_PLAN = 29,       /* the small exponential has no plan                     its argument */
+
+    /* the job: met between 14 and 15 */
+    HAZHENDU_DEGREE_RANGE = 33         /* Taylor: degree not 1 to 30                            NaN */
 };
 
 /* ---- working memory, in doubles. 0 for jobs that are refused before the memory is looked at (n, entries, count or m too high). */
@@ -196,7 +202,7 @@ uint32_t hazhendu_phi_combination(
     const uint32_t *cols, size_t cols_len,
     const double *vals, size_t vals_len,
     bool with_mass, const double *mass, size_t mass_len,
-    double tau,
+    double tau, uint32_t degree,
     size_t count, const double *w, size_t w_len,
     double *out, size_t out_len,
     double *work, size_t work_len,
@@ -209,7 +215,7 @@ uint32_t hazhendu_phi_action(
     const uint32_t *cols, size_t cols_len,
     const double *vals, size_t vals_len,
     bool with_mass, const double *mass, size_t mass_len,
-    double tau,
+    double tau, uint32_t degree,
     size_t k, const double *v, size_t v_len,
     double *out, size_t out_len,
     double *work, size_t work_len,
@@ -222,7 +228,7 @@ uint32_t hazhendu_phi_action_batched(
     const uint32_t *cols, size_t cols_len,
     const double *vals, size_t vals_len,
     bool with_mass, const double *mass, size_t mass_len,
-    double tau,
+    double tau, uint32_t degree,
     size_t p, const double *v, size_t v_len,
     double *out, size_t out_len,
     double *work, size_t work_len,
@@ -249,7 +255,7 @@ uint32_t hazhendu_combine(
     const uint32_t *cols, size_t cols_len,
     const double *vals, size_t vals_len,
     bool with_mass, const double *mass, size_t mass_len,
-    double tau,
+    double tau, uint32_t degree,
     size_t count, const double *w, size_t w_len,
     bool krylov, double tol, size_t m, size_t max_substeps,
     double *out, size_t out_len,

@@ -14,17 +14,17 @@ use Rattle.lists.proofs.Bounds.{column-within}
 use Rattle.lists.proofs.Loop.{getD-tabulate}
 use Rattle.lists.proofs.Window.{length-window}
 use Rattle.doubles.specs.F64.{+0}
-use Rattle.checks.specs.First.{first}
+use Rattle.checks.specs.First.{Check, first}
 use Rattle.checks.proofs.First.{sound-cons, sound-append}
 use Rattle.checks.specs.declared.Checked.{Checked}
 use Rattle.checks.specs.declared.Checked.the-variants.{Sound}
 use Rattle.general_operator.proofs.Sound.{or-false}
-use Rattle.expmv.specs.Select.{select-s-m, M-MAX}
+use Rattle.expmv.specs.Select.{select-s-m}
 use Rattle.expmv.specs.declared.Selected.{Selected}
 use Rattle.expmv.specs.declared.Selected.the-variants.{NoRow, Row}
 use Rattle.phi_shift.specs.Plan.{argument}
 use Rattle.combination.specs.Combination.{vector, column-places, combination-start, init-aug-vector}
-use Rattle.combination.specs.Checks.{no-row, count-checks, index-checks, time-checks, length-checks, finite-checks, magnitude-checks, schedule-checks, memory-checks, vector-checks, sweep-checks, job-checks}
+use Rattle.combination.specs.Checks.{no-row, count-checks, index-checks, plan-checks, length-checks, finite-checks, magnitude-checks, schedule-checks, memory-checks, vector-checks, sweep-checks, job-checks}
 use Rattle.combination.specs.Inner.{row-sweeps, row-degree, one-column, Coupled}
 
 -- ---- 12 to 17
@@ -38,13 +38,13 @@ above-0 : (k : ℕ) → (k ≡ 0 → zero ≡ 1) → 1 ≤ k
 above-0 zero h = absurd (omega (arith, h refl))
 above-0 (suc k) h = omega arith
 
-pub vectors-known : (n : ℕ) (tau : Float) (count : ℕ) (w : List Float) (output : ℕ) {r : Checked} → r ≡ Sound → r ≡ first (vector-checks n tau count w output)
+pub vectors-known : (n : ℕ) (ts : List Check) (count : ℕ) (w : List Float) (output : ℕ) {r : Checked} → r ≡ Sound → r ≡ first (vector-checks n ts count w output)
     → Vectors n count (length w) output
 unfolding vector-checks count-checks length-checks
-vectors-known n tau count w output e f =
+vectors-known n ts count w output e f =
     let s = sound-append (count-checks count) _ (sym e ∙ f) in
     let c = or-false (eqb count 0) (ltb 4 count) (sound-cons _ _ _ _ (s .0) .0) in
-    let t = sound-append (time-checks tau) _ (s .1) in
+    let t = sound-append ts _ (s .1) in
     let l = sound-append (length-checks output n (length w) (count * n)) (finite-checks w) (t .1) in
     let a = sound-cons _ _ _ _ (l .0) in
     let b = sound-cons _ _ _ _ (a .1) in
@@ -94,52 +94,52 @@ row-is NoRow h = cc
 row-is (Row s m) h = refl
 
 -- the schedule has a row, and the memory is long enough
-pub record Planned (tau norm : Float) (memory need : ℕ) : Type 0 where
-  pub row : select-s-m M-MAX (argument tau norm) ≡ Row (row-sweeps (select-s-m M-MAX (argument tau norm))) (row-degree (select-s-m M-MAX (argument tau norm)))
+pub record Planned (tau : Float) (cap : ℕ) (norm : Float) (memory need : ℕ) : Type 0 where
+  pub row : select-s-m cap (argument tau norm) ≡ Row (row-sweeps (select-s-m cap (argument tau norm))) (row-degree (select-s-m cap (argument tau norm)))
   pub room : need ≤ memory
 
 pub enough-known : (memory need : ℕ) → Sound ≡ first (memory-checks memory need) → need ≤ memory
 unfolding memory-checks
 enough-known memory need e = ltb-false memory need (sound-cons _ _ _ _ e .0)
 
-pub planned-known : (norm tau : Float) (memory need : ℕ) → Sound ≡ first (schedule-checks M-MAX norm tau ++ memory-checks memory need) → Planned tau norm memory need
+pub planned-known : (norm tau : Float) (cap memory need : ℕ) → Sound ≡ first (schedule-checks cap norm tau ++ memory-checks memory need) → Planned tau cap norm memory need
 unfolding schedule-checks
-planned-known norm tau memory need e =
-    let t = sound-append (schedule-checks M-MAX norm tau) (memory-checks memory need) e in
+planned-known norm tau cap memory need e =
+    let t = sound-append (schedule-checks cap norm tau) (memory-checks memory need) e in
     let a = sound-cons _ _ _ _ (t .0) in
     record { row = row-is _ (sound-cons _ _ _ _ (a .1) .0); room = enough-known memory need (t .1) }
 
 -- ---- 21, 22 and 24 to 26 of a combination
-pub sweeps-known : (n : ℕ) (tau : Float) (d : ℕ) (w : List Float) (norm : Float) (memory need : ℕ) → Sound ≡ first (sweep-checks n tau d w norm memory need) → Planned tau norm memory need
+pub sweeps-known : (n : ℕ) (tau : Float) (cap d : ℕ) (w : List Float) (norm : Float) (memory need : ℕ) → Sound ≡ first (sweep-checks n tau cap d w norm memory need) → Planned tau cap norm memory need
 unfolding sweep-checks
-sweeps-known n tau d w norm memory need e = planned-known norm tau memory need (sound-append (magnitude-checks n w tau d) _ e .1)
+sweeps-known n tau cap d w norm memory need e = planned-known norm tau cap memory need (sound-append (magnitude-checks n w tau d) _ e .1)
 
--- ---- 13 to 17 and 24 to 26 of an action
+-- ---- 13 to 17, 33 and 24 to 26 of an action
 pub index-known : (k : ℕ) {r : Checked} → r ≡ Sound → r ≡ first (index-checks k) → k ≤ 3
 unfolding index-checks
 index-known k e f = ltb-false 3 k (sound-cons _ _ _ _ (sym e ∙ f) .0)
 
-pub record Action (k : ℕ) (tau norm : Float) (output wanted long n memory need : ℕ) : Type 0 where
+pub record Action (k : ℕ) (tau : Float) (cap : ℕ) (norm : Float) (output wanted long n memory need : ℕ) : Type 0 where
   pub index : k ≤ 3
   pub out : output ≡ wanted
   pub whole : long ≡ n
-  pub planned : Planned tau norm memory need
+  pub planned : Planned tau cap norm memory need
 
-pub action-known : (k : ℕ) (tau norm : Float) (output wanted : ℕ) (v : List Float) (n memory need : ℕ) → Sound ≡ first (job-checks k tau output wanted v n norm memory need)
-    → Action k tau norm output wanted (length v) n memory need
+pub action-known : (k : ℕ) (tau : Float) (cap : ℕ) (norm : Float) (output wanted : ℕ) (v : List Float) (n memory need : ℕ) → Sound ≡ first (job-checks k tau cap output wanted v n norm memory need)
+    → Action k tau cap norm output wanted (length v) n memory need
 unfolding job-checks length-checks
-action-known k tau norm output wanted v n memory need e =
+action-known k tau cap norm output wanted v n memory need e =
     let i = sound-append (index-checks k) _ e in
-    let t = sound-append (time-checks tau) _ (i .1) in
-    let l = sound-append (length-checks output wanted (length v) n) (finite-checks v ++ (schedule-checks M-MAX norm tau ++ memory-checks memory need)) (t .1) in
-    let f = sound-append (finite-checks v) (schedule-checks M-MAX norm tau ++ memory-checks memory need) (l .1) in
+    let t = sound-append (plan-checks tau cap) _ (i .1) in
+    let l = sound-append (length-checks output wanted (length v) n) (finite-checks v ++ (schedule-checks cap norm tau ++ memory-checks memory need)) (t .1) in
+    let f = sound-append (finite-checks v) (schedule-checks cap norm tau ++ memory-checks memory need) (l .1) in
     let a = sound-cons _ _ _ _ (l .0) in
     let b = sound-cons _ _ _ _ (a .1) in
     record {
       index = index-known k refl (i .0);
       out = eqb-true output wanted (not-false _ (a .0));
       whole = eqb-true (length v) n (not-false _ (b .0));
-      planned = planned-known norm tau memory need (f .1);
+      planned = planned-known norm tau cap memory need (f .1);
     }
 
 -- ---- the first field

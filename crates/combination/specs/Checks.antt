@@ -1,4 +1,4 @@
--- The checks of a job, in number order (document 01, 'Whoever sends the job', 'Matrix and job together', 'The host'; phi_action.rs,
+-- The checks of a job, in the order in which they are met (document 01, 'Whoever sends the job', 'Matrix and job together', 'The host'; phi_action.rs,
 -- `validate_combination`, `eta_scaled_columns`, `phi_schedule`). Definitions only.
 use mathlib.Core.Bool.{Bool, true, false, not, _||_}
 use mathlib.Core.List.{List, [], _∷_, _++_}
@@ -31,6 +31,10 @@ out-of-range x = not (is-finite x) || x ⋖ +0
 unfoldable pub time-checks : Float → List Check
 time-checks tau = refuse 14 (out-of-range tau) tau ∷ []
 
+-- the highest degree of a plan not 1 to 30 (document 02, N7)
+unfoldable pub degree-checks : ℕ → List Check
+degree-checks cap = refuse 33 (eqb cap 0 || ltb M-MAX cap) nan ∷ []
+
 -- the output's and the vectors' lengths: what is handed in, and what is wanted
 unfoldable pub length-checks : ℕ → ℕ → ℕ → ℕ → List Check
 length-checks output wanted vectors expected =
@@ -54,7 +58,7 @@ abbrev pub no-row : Selected → Bool
 no-row NoRow = true
 no-row (Row s m) = false
 
--- the argument not finite, no admissible row. (23, the norm negative or not finite, never occurs, and its number is not used again: document 02, N14.)
+-- the argument not finite, no admissible row up to the degree m-max. (23, the norm negative or not finite, never occurs, and its number is not used again: document 02, N14.)
 unfoldable pub schedule-checks : ℕ → Float → Float → List Check
 schedule-checks m-max norm tau =
     refuse 24 (not (is-finite (argument tau norm))) (argument tau norm)
@@ -70,23 +74,27 @@ unfoldable pub taylor-need : ℕ → ℕ → ℕ → ℕ
 taylor-need n d stored = 3 * n + 2 * d + stored
 
 -- ---- groups of these
--- 12 to 17 of a combination of `count` vectors
-unfoldable pub vector-checks : ℕ → Float → ℕ → List Float → ℕ → List Check
-vector-checks n tau count w output =
-    count-checks count ++ (time-checks tau ++ (length-checks output n (length w) (count * n) ++ finite-checks w))
+-- 14 and 33 of a Taylor job
+unfoldable pub plan-checks : Float → ℕ → List Check
+plan-checks tau cap = time-checks tau ++ degree-checks cap
+
+-- 12 to 17 of a combination of `count` vectors; `of-time` is 14, and of a Taylor job 33 behind it
+unfoldable pub vector-checks : ℕ → List Check → ℕ → List Float → ℕ → List Check
+vector-checks n of-time count w output =
+    count-checks count ++ (of-time ++ (length-checks output n (length w) (count * n) ++ finite-checks w))
 
 -- 21, 22 and 24 to 26 of a Taylor combination
-unfoldable pub sweep-checks : ℕ → Float → ℕ → List Float → Float → ℕ → ℕ → List Check
-sweep-checks n tau d w norm memory need =
-    magnitude-checks n w tau d ++ (schedule-checks M-MAX norm tau ++ memory-checks memory need)
+unfoldable pub sweep-checks : ℕ → Float → ℕ → ℕ → List Float → Float → ℕ → ℕ → List Check
+sweep-checks n tau cap d w norm memory need =
+    magnitude-checks n w tau d ++ (schedule-checks cap norm tau ++ memory-checks memory need)
 
--- 13 to 17 and 24 to 26 of an action on v, of n values (17: document 02, N2)
-unfoldable pub job-checks : ℕ → Float → ℕ → ℕ → List Float → ℕ → Float → ℕ → ℕ → List Check
-job-checks k tau output wanted v n norm memory need =
+-- 13 to 17, 33 behind 14, and 24 to 26 of an action on v, of n values (17: document 02, N2)
+unfoldable pub job-checks : ℕ → Float → ℕ → ℕ → ℕ → List Float → ℕ → Float → ℕ → ℕ → List Check
+job-checks k tau cap output wanted v n norm memory need =
     index-checks k
-    ++ (time-checks tau ++ (length-checks output wanted (length v) n ++ (finite-checks v ++ (schedule-checks M-MAX norm tau ++ memory-checks memory need))))
+    ++ (plan-checks tau cap ++ (length-checks output wanted (length v) n ++ (finite-checks v ++ (schedule-checks cap norm tau ++ memory-checks memory need))))
 
 -- to compute: a line `unfolding open-Checks` opens every definition of this file and of those below it
 unfoldable pub open-Checks : Unit {0}
-unfolding count-checks index-checks out-of-range time-checks length-checks not-finite-at finite-checks bad-gain magnitude-checks schedule-checks memory-checks taylor-need vector-checks sweep-checks job-checks open-Find open-Combination open-Plan
+unfolding count-checks index-checks out-of-range time-checks degree-checks plan-checks length-checks not-finite-at finite-checks bad-gain magnitude-checks schedule-checks memory-checks taylor-need vector-checks sweep-checks job-checks open-Find open-Combination open-Plan
 open-Checks = tt

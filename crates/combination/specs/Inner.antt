@@ -14,7 +14,7 @@ use Rattle.generator_action.specs.Mass.{Mass, given, quotients}
 use Rattle.generator_action.specs.Generator.{Generator}
 use Rattle.generator_action.specs.declared.Shape.{Shape}
 use Rattle.pow2.specs.Pow2.{sup, eta-scaling}
-use Rattle.expmv.specs.Select.{select-s-m, M-MAX}
+use Rattle.expmv.specs.Select.{select-s-m}
 use Rattle.expmv.specs.declared.Selected.{Selected}
 use Rattle.expmv.specs.declared.Selected.the-variants.{NoRow, Row}
 use Rattle.phi_shift.specs.Plan.{argument}
@@ -66,35 +66,36 @@ abbrev pub schedule : ℕ → Float → Float → Schedule
 schedule m-max norm tau =
     record { checked = first (schedule-checks m-max norm tau); s = row-sweeps (select-s-m m-max (argument tau norm)); m = row-degree (select-s-m m-max (argument tau norm)) }
 
-abbrev pub host-checks : Shape → Float → ℕ → ℕ → List Check
-host-checks g tau d memory = schedule-checks M-MAX (g .norm) tau ++ memory-checks memory (taylor-need (g .n) d (g .stored))
+abbrev pub host-checks : Shape → Float → ℕ → ℕ → ℕ → List Check
+host-checks g tau cap d memory = schedule-checks cap (g .norm) tau ++ memory-checks memory (taylor-need (g .n) d (g .stored))
 
--- ---- 21, 22 and 24 to 26 of a combination, 13 to 17 and 24 to 26 of an action: the answer, and what was found, of a generator with the numbers g
-abbrev pub job-of : Shape → Float → ℕ → List Check → Float → Coupling → Job
-job-of g tau d checks inv b =
+-- ---- 21, 22 and 24 to 26 of a combination, 13 to 17, 33 and 24 to 26 of an action: the answer, and what was found, of a generator with the numbers g
+abbrev pub job-of : Shape → Float → ℕ → ℕ → List Check → Float → Coupling → Job
+job-of g tau cap d checks inv b =
     record {
       checked = first checks;
       g = g;
       tau = tau;
+      cap = cap;
       d = d;
       need = taylor-need (g .n) d (g .stored);
       inv = inv;
       b = b;
-      s = schedule M-MAX (g .norm) tau .s;
-      m = schedule M-MAX (g .norm) tau .m;
+      s = schedule cap (g .norm) tau .s;
+      m = schedule cap (g .norm) tau .m;
     }
 
-abbrev pub combination-job : Shape → Float → ℕ → List Float → ℕ → Job
-combination-job g tau d w memory =
-    job-of g tau d (sweep-checks (g .n) tau d w (g .norm) memory (taylor-need (g .n) d (g .stored))) (eta-of (g .n) w tau d .inv) (coupling-of (g .n) w tau d)
+abbrev pub combination-job : Shape → Float → ℕ → ℕ → List Float → ℕ → Job
+combination-job g tau cap d w memory =
+    job-of g tau cap d (sweep-checks (g .n) tau cap d w (g .norm) memory (taylor-need (g .n) d (g .stored))) (eta-of (g .n) w tau d .inv) (coupling-of (g .n) w tau d)
 
 -- an action has one column, v
 abbrev pub one-column : Float → Coupling
 one-column eta = record { places = 0 ∷ 0 ∷ 0 ∷ []; gains = eta ∷ 1f ∷ 1f ∷ []; count = 1 }
 
-abbrev pub action-job : Shape → Float → ℕ → List Float → ℕ → ℕ → ℕ → Job
-action-job g tau k v output wanted memory =
-    job-of g tau 3 (job-checks k tau output wanted v (g .n) (g .norm) memory (taylor-need (g .n) 3 (g .stored))) (eta-scaling (sup v) .inv) (one-column (eta-scaling (sup v) .eta))
+abbrev pub action-job : Shape → Float → ℕ → ℕ → List Float → ℕ → ℕ → ℕ → Job
+action-job g tau cap k v output wanted memory =
+    job-of g tau cap 3 (job-checks k tau cap output wanted v (g .n) (g .norm) memory (taylor-need (g .n) 3 (g .stored))) (eta-scaling (sup v) .inv) (one-column (eta-scaling (sup v) .eta))
 
 -- ---- what a run takes from them
 -- the columns of W lie within the vectors and the chain

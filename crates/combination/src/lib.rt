@@ -13,8 +13,9 @@ ghost use Rattle.lists.specs.Find.{find};
 ghost use Rattle.lists.specs.Window.{splice};
 ghost use Rattle.checks.specs.First.{Check, first};
 ghost use Rattle.pow2.specs.Pow2.{sup};
+ghost use Rattle.expmv.specs.Select.{M-MAX};
 ghost use Rattle.combination.specs.Combination.{vector, column-places, combination-start, init-aug-vector};
-ghost use Rattle.combination.specs.Checks.{count-checks, index-checks, out-of-range, time-checks, length-checks, not-finite-at, finite-checks, memory-checks, vector-checks, taylor-need};
+ghost use Rattle.combination.specs.Checks.{count-checks, index-checks, out-of-range, time-checks, degree-checks, plan-checks, length-checks, not-finite-at, finite-checks, memory-checks, vector-checks, taylor-need};
 ghost use Rattle.combination.specs.Inner.{share-of, powers-of, not-finite-by, power-checks, reversed-by, weights, argument-checks, schedule, host-checks, job-of, combination-job, one-column, action-job};
 
 // sup |w_k|
@@ -188,13 +189,41 @@ fn out_of_range(x: f64) -> bool
 }
 
 // 14.
-fn check_time(tau: f64) -> Checked
+pub fn check_time(tau: f64) -> Checked
     ensures { λ r. ⌜ r ≡ first (time-checks tau) ⌝ }
 {
     if out_of_range(tau) {
         return Checked::Refused(14, tau);
     }
     Checked::Sound
+}
+
+fn wrong_degree(cap: u32) -> bool
+    ensures { λ r. ⌜ r ≡ (eqb cap 0 || ltb M-MAX cap) ⌝ }
+{
+    if cap == 0 {
+        return true;
+    }
+    cap > expmv::M_MAX
+}
+
+// 33.
+fn check_degree(cap: u32) -> Checked
+    ensures { λ r. ⌜ r ≡ first (degree-checks cap) ⌝ }
+{
+    if wrong_degree(cap) {
+        return Checked::Refused(33, float::not_a_number());
+    }
+    Checked::Sound
+}
+
+// 14 and 33 of a Taylor job.
+pub fn check_plan(tau: f64, cap: u32) -> Checked
+    ensures { λ r. ⌜ r ≡ first (plan-checks tau cap) ⌝ }
+{
+    let time = check_time(tau);
+    let degree = check_degree(cap);
+    and_then(time, degree)
 }
 
 // 15 and 16.
@@ -281,16 +310,21 @@ pub fn check_memory(memory: usize, need: usize) -> Checked
     Checked::Sound
 }
 
-// 12 to 17 of a combination.
-pub fn validate_combination(n: usize, tau: f64, count: usize, w: &[f64], output: usize) -> Checked
+// 12 to 17 of a combination; `time` is the answer of what stands between 12 and 15.
+pub fn validate_combination(
+    n: usize,
+    time: Checked,
+    count: usize,
+    w: &[f64],
+    output: usize,
+) -> Checked
     requires { ⌜ n ≤ 1000000 ⌝ }
-    ensures { λ r. ⌜ r ≡ first (vector-checks n tau count (now (w .entry)) output) ⌝ }
+    ensures { λ r. ⌜ ((ts : List Check) → time ≡ first ts → r ≡ first (vector-checks n ts count (now (w .entry)) output)) ⌝ }
 {
     let vectors = check_count(count);
     let Checked::Sound = vectors else {
         return vectors;
     };
-    let time = check_time(tau);
     let Checked::Sound = time else {
         return time;
     };
@@ -316,6 +350,7 @@ pub struct Job {
     pub checked: Checked,
     pub g: Shape,
     pub tau: f64,
+    pub cap: u32,
     pub d: usize,
     pub need: usize,
     pub inv: f64,
@@ -337,15 +372,16 @@ fn plan_job(
     before: Checked,
     g: Shape,
     tau: f64,
+    cap: u32,
     d: usize,
     inv: f64,
     b: Coupling,
     memory: usize,
 ) -> Job
     requires { ⌜ (g .n ≤ 1000000) × (d ≤ 3) × (g .stored ≤ 16777216) ⌝ }
-    ensures { λ r. ⌜ ((xs : List Check) → before ≡ first xs → r ≡ job-of g tau d (xs ++ host-checks g tau d memory) inv b) ⌝ }
+    ensures { λ r. ⌜ ((xs : List Check) → before ≡ first xs → r ≡ job-of g tau cap d (xs ++ host-checks g tau cap d memory) inv b) ⌝ }
 {
-    let schedule = check_schedule(expmv::M_MAX, g.norm, tau);
+    let schedule = check_schedule(cap, g.norm, tau);
     let planned = schedule.checked;
     let need = taylor_need(g.n, d, g.stored);
     let host = and_then(planned, check_memory(memory, need));
@@ -353,6 +389,7 @@ fn plan_job(
         checked: and_then(before, host),
         g: g,
         tau: tau,
+        cap: cap,
         d: d,
         need: need,
         inv: inv,
@@ -363,14 +400,14 @@ fn plan_job(
 }
 
 // 21, 22 and 24 to 26 of a combination.
-pub fn admit_combination(g: Shape, tau: f64, d: usize, w: &[f64], memory: usize) -> Job
+pub fn admit_combination(g: Shape, tau: f64, cap: u32, d: usize, w: &[f64], memory: usize) -> Job
     requires { ⌜ ((d + 1) * g .n ≤ length (now w)) × (g .n ≤ 1000000) × (d ≤ 3) × (g .stored ≤ 16777216) ⌝ }
-    ensures { λ r. ⌜ r ≡ combination-job g tau d (now (w .entry)) memory ⌝ }
+    ensures { λ r. ⌜ r ≡ combination-job g tau cap d (now (w .entry)) memory ⌝ }
 {
     let weights = weigh(g.n, w, tau, d);
     let checked = weights.checked;
     let b = weights.b;
-    plan_job(checked, g, tau, d, weights.inv, b, memory)
+    plan_job(checked, g, tau, cap, d, weights.inv, b, memory)
 }
 
 // An action has one column, v.
@@ -384,10 +421,11 @@ fn one_column(eta: f64) -> Coupling
     }
 }
 
-// 13 to 17 and 24 to 26 of an action of n values.
+// 13 to 17, 33 behind 14, and 24 to 26 of an action of n values.
 pub fn admit_action(
     g: Shape,
     tau: f64,
+    cap: u32,
     k: usize,
     v: &[f64],
     output: usize,
@@ -395,15 +433,15 @@ pub fn admit_action(
     memory: usize,
 ) -> Job
     requires { ⌜ (g .n ≤ 1000000) × (g .stored ≤ 16777216) ⌝ }
-    ensures { λ r. ⌜ r ≡ action-job g tau k (now (v .entry)) output wanted memory ⌝ }
+    ensures { λ r. ⌜ r ≡ action-job g tau cap k (now (v .entry)) output wanted memory ⌝ }
 {
     let lengths = check_lengths(output, wanted, v.len(), g.n);
     let finite = check_finite(v);
     let field = and_then(lengths, finite);
-    let checked = and_then(check_index(k), and_then(check_time(tau), field));
+    let checked = and_then(check_index(k), and_then(check_plan(tau, cap), field));
     let eta = pow2::eta_scaling(pow2::sup(v));
     let b = one_column(eta.eta);
-    plan_job(checked, g, tau, 3, eta.inv, b, memory)
+    plan_job(checked, g, tau, cap, 3, eta.inv, b, memory)
 }
 
 // w_0, then the chain: zeros, and 1 / eta at its end.

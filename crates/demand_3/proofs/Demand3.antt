@@ -70,20 +70,20 @@ module _
   low = before-append 27 (g .checks) _ none-27
 
   -- 12 to 17, and 18 on
-  vectors-sound : Sound ≡ first checks → Sound ≡ first (vector-checks n tau count w (length output))
+  vectors-sound : Sound ≡ first checks → Sound ≡ first (vector-checks n (time-checks tau) count w (length output))
   unfolding krylov-checks
-  vectors-sound e = sound-append (vector-checks n tau count w (length output)) _ (sound-append (g .checks) _ e .1) .0
+  vectors-sound e = sound-append (vector-checks n (time-checks tau) count w (length output)) _ (sound-append (g .checks) _ e .1) .0
 
   start-long : Sound ≡ first checks → clamp-m (o .m) (length (start-of g tau count w)) ≡ M
   unfolding dimension
   start-long e =
-      let s = vectors-known n tau count w (length output) refl (vectors-sound e) in
+      let s = vectors-known n (time-checks tau) count w (length output) refl (vectors-sound e) in
       ap (clamp-m (o .m)) (length-start n w (count - 1) _ (first-within s))
 
   some-limit : Sound ≡ first checks → 0 < o .«max_substeps»
   unfolding krylov-checks option-checks
   some-limit e =
-      let v = sound-append (vector-checks n tau count w (length output)) _ (sound-append (g .checks) _ e .1) in
+      let v = sound-append (vector-checks n (time-checks tau) count w (length output)) _ (sound-append (g .checks) _ e .1) in
       let p = sound-append (option-checks o M) _ (v .1) in
       let n = eqb-false (o .«max_substeps») 0 (sound-cons _ _ _ _ (sound-cons _ _ _ _ (p .0) .1) .0) in
       omega (arith, n)
@@ -103,8 +103,8 @@ module _
   unfolding phi-combination-krylov
   krylov-cost {r} e =
       let h = accepted (first checks) _ _ e in
-      let v = vectors-known n tau count w (length output) refl (vectors-sound (h .0)) in
-      let f = start-finite n w tau (count - 1) (first-within v) (vectors-finite n tau count w (length output) (vectors-sound (h .0))) in
+      let v = vectors-known n (time-checks tau) count w (length output) refl (vectors-sound (h .0)) in
+      let f = start-finite n w tau (count - 1) (first-within v) (vectors-finite n (time-checks tau) count w (length output) (vectors-sound (h .0))) in
       let c = expv-cost _ tau _ (o .tol) (o .m) (o .«max_substeps») (start-of g tau count w) f (h .1 .1 .0) in
       let u = krylov-run g tau count w o in
       let of-M = subst (λ (k : ℕ). KrylovCost n k (o .«max_substeps») (start-of g tau count w) (window 0 n (h .1 .0 .y)) u (h .1 .0 .report)) (start-long (h .0)) c in
@@ -150,7 +150,7 @@ module _
       go true e = let n : _≡_ {A = ℕ} 25 26 = cc in absurd (omega (arith, n))
       go false e = let z : zero ≡ 1 = cc in absurd (omega (arith, z))
 
-  low-vectors : before 25 (vector-checks n tau count w (length output)) ≡ vector-checks n tau count w (length output)
+  low-vectors : before 25 (vector-checks n (time-checks tau) count w (length output)) ≡ vector-checks n (time-checks tau) count w (length output)
   unfolding before vector-checks count-checks time-checks length-checks finite-checks
   low-vectors = refl
 
@@ -214,9 +214,9 @@ demand-3-of g ranged-norm none-25 none-27 tau output memory =
     record {
       one-product = one-each;
       rows = the-rows;
-      combination = λ count w. combination-claim g ranged-norm none-25 none-27 tau count w output memory;
-      action = λ k v. action-claim g ranged-norm none-25 none-27 tau k v output memory;
-      batch = λ p v. batch-claim g ranged-norm none-25 none-27 tau p v output memory;
+      combination = λ cap count w. combination-claim g ranged-norm none-25 none-27 tau cap count w output memory;
+      action = λ cap k v. action-claim g ranged-norm none-25 none-27 tau cap k v output memory;
+      batch = λ cap p v. batch-claim g ranged-norm none-25 none-27 tau cap p v output memory;
       krylov = λ count w o. krylov-claim g none-25 none-27 tau count w o output memory;
       at-limit = λ count w o. exactly-27 g none-25 none-27 tau count w o output memory;
       zeros = λ count w o. zeros-idle g none-25 none-27 tau count w o output memory;

@@ -9,3 +9,4 @@ pub mod Taylor
 pub mod Start
 pub mod Never23
 pub mod Demand3
+pub mod Orders

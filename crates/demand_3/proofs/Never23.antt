@@ -13,8 +13,7 @@ use Rattle.general_operator.specs.Csr.{Csr, row-sum-norm}
 use Rattle.general_operator.specs.Checks.{shape-checks, row-checks, entry-checks, matrix-checks}
 use Rattle.generator_action.specs.Mass.{Mass, generator-checks, bound-checks as sums-checks, mass-checks, sum-checks, norm-checks}
 use Rattle.generator_action.specs.Generator.{Generator, forward}
-use Rattle.expmv.specs.Select.{M-MAX}
-use Rattle.combination.specs.Checks.{out-of-range, count-checks, index-checks, time-checks, length-checks, finite-checks, magnitude-checks, schedule-checks, memory-checks, vector-checks, sweep-checks, job-checks, taylor-need}
+use Rattle.combination.specs.Checks.{out-of-range, count-checks, index-checks, time-checks, degree-checks, plan-checks, length-checks, finite-checks, magnitude-checks, schedule-checks, memory-checks, vector-checks, sweep-checks, job-checks, taylor-need}
 use Rattle.combination.proofs.Range.{no-23}
 use Rattle.phi_action.specs.Calls.{combination-checks, action-checks}
 use Rattle.phi_krylov.specs.KrylovCall.{bound, dimension, option-checks, bound-checks, run-checks, krylov-need, krylov-checks}
@@ -44,27 +43,27 @@ module _ (a : Csr) (mass : Mass) (tau : Float) where
   norm = row-sum-norm (g .matrix)
 
   -- ---- `phi_combination`
-  module _ (count : ℕ) (w : List Float) (output memory : ℕ) where
+  module _ (cap count : ℕ) (w : List Float) (output memory : ℕ) where
     pub combination-never-23 :
-        first (g .checks ++ ((vector-checks n tau count w output ++ magnitude-checks n w tau (count - 1)) ++ (check-23 g ∷ (schedule-checks M-MAX norm tau ++ memory-checks memory (taylor-need n (count - 1) (g .stored))))))
-        ≡ first (combination-checks g tau count w output memory)
-    unfolding combination-checks sweep-checks vector-checks count-checks time-checks length-checks finite-checks magnitude-checks
-    combination-never-23 = never-23 a mass (vector-checks n tau count w output ++ magnitude-checks n w tau (count - 1)) _
+        first (g .checks ++ ((vector-checks n (plan-checks tau cap) count w output ++ magnitude-checks n w tau (count - 1)) ++ (check-23 g ∷ (schedule-checks cap norm tau ++ memory-checks memory (taylor-need n (count - 1) (g .stored))))))
+        ≡ first (combination-checks g tau cap count w output memory)
+    unfolding combination-checks sweep-checks vector-checks count-checks plan-checks time-checks degree-checks length-checks finite-checks magnitude-checks
+    combination-never-23 = never-23 a mass (vector-checks n (plan-checks tau cap) count w output ++ magnitude-checks n w tau (count - 1)) _
 
-    pub combination-no-number : before 23 (combination-checks g tau count w output memory) ≡ combination-checks g tau count w output memory
-    unfolding before combination-checks sweep-checks vector-checks count-checks time-checks length-checks finite-checks magnitude-checks schedule-checks memory-checks
+    pub combination-no-number : before 23 (combination-checks g tau cap count w output memory) ≡ combination-checks g tau cap count w output memory
+    unfolding before combination-checks sweep-checks vector-checks count-checks plan-checks time-checks degree-checks length-checks finite-checks magnitude-checks schedule-checks memory-checks
     combination-no-number = before-append 23 (generator-checks a mass) _ (forward-none a mass)
 
   -- ---- `phi_action` and, of another output, `phi_action_batched`
-  module _ (k : ℕ) (v : List Float) (output wanted memory : ℕ) where
+  module _ (cap k : ℕ) (v : List Float) (output wanted memory : ℕ) where
     pub action-never-23 :
-        first (g .checks ++ ((index-checks k ++ (time-checks tau ++ (length-checks output wanted (length v) n ++ finite-checks v))) ++ (check-23 g ∷ (schedule-checks M-MAX norm tau ++ memory-checks memory (taylor-need n 3 (g .stored))))))
-        ≡ first (action-checks g tau k v output wanted memory)
-    unfolding action-checks job-checks index-checks time-checks length-checks finite-checks
-    action-never-23 = never-23 a mass (index-checks k ++ (time-checks tau ++ (length-checks output wanted (length v) n ++ finite-checks v))) _
+        first (g .checks ++ ((index-checks k ++ (plan-checks tau cap ++ (length-checks output wanted (length v) n ++ finite-checks v))) ++ (check-23 g ∷ (schedule-checks cap norm tau ++ memory-checks memory (taylor-need n 3 (g .stored))))))
+        ≡ first (action-checks g tau cap k v output wanted memory)
+    unfolding action-checks job-checks index-checks plan-checks time-checks degree-checks length-checks finite-checks
+    action-never-23 = never-23 a mass (index-checks k ++ (plan-checks tau cap ++ (length-checks output wanted (length v) n ++ finite-checks v))) _
 
-    pub action-no-number : before 23 (action-checks g tau k v output wanted memory) ≡ action-checks g tau k v output wanted memory
-    unfolding before action-checks job-checks index-checks time-checks length-checks finite-checks schedule-checks memory-checks
+    pub action-no-number : before 23 (action-checks g tau cap k v output wanted memory) ≡ action-checks g tau cap k v output wanted memory
+    unfolding before action-checks job-checks index-checks plan-checks time-checks degree-checks length-checks finite-checks schedule-checks memory-checks
     action-no-number = before-append 23 (generator-checks a mass) _ (forward-none a mass)
 
   -- ---- `phi_combination_krylov`, whose list never had it: the Rust makes no schedule there
@@ -73,10 +72,10 @@ module _ (a : Csr) (mass : Mass) (tau : Float) where
     M = dimension n (count - 1) (o .m)
 
     pub krylov-never-23 :
-        first (g .checks ++ ((vector-checks n tau count w output ++ (option-checks o M ++ magnitude-checks n w tau (count - 1))) ++ (check-23 g ∷ (bound-checks (bound tau norm) ++ memory-checks memory (krylov-need n (count - 1) M (g .stored))))))
+        first (g .checks ++ ((vector-checks n (time-checks tau) count w output ++ (option-checks o M ++ magnitude-checks n w tau (count - 1))) ++ (check-23 g ∷ (bound-checks (bound tau norm) ++ memory-checks memory (krylov-need n (count - 1) M (g .stored))))))
         ≡ first (krylov-checks g tau count w o output memory)
     unfolding krylov-checks run-checks vector-checks count-checks time-checks length-checks finite-checks option-checks magnitude-checks
-    krylov-never-23 = never-23 a mass (vector-checks n tau count w output ++ (option-checks o M ++ magnitude-checks n w tau (count - 1))) _
+    krylov-never-23 = never-23 a mass (vector-checks n (time-checks tau) count w output ++ (option-checks o M ++ magnitude-checks n w tau (count - 1))) _
 
     pub krylov-no-number : before 23 (krylov-checks g tau count w o output memory) ≡ krylov-checks g tau count w o output memory
     unfolding before krylov-checks run-checks vector-checks count-checks time-checks length-checks finite-checks option-checks magnitude-checks bound-checks memory-checks

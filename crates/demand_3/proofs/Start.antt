@@ -13,7 +13,7 @@ use Rattle.lists.specs.Find.{find, exists}
 use Rattle.lists.proofs.Find.{none-below}
 use Rattle.lists.proofs.Window.{length-window, getD-window}
 use Rattle.doubles.specs.F64.{if_then_else_, _⋖_, +0, 1f, at, is-finite}
-use Rattle.checks.specs.First.{first}
+use Rattle.checks.specs.First.{Check, first}
 use Rattle.checks.specs.declared.Checked.the-variants.{Sound}
 use Rattle.checks.proofs.First.{sound-cons, sound-append}
 use Rattle.pow2.specs.Pow2.{eta-scaling}
@@ -30,11 +30,11 @@ both-finite (x ∷ xs) ys f g zero l = f zero (omega arith)
 both-finite (x ∷ xs) ys f g (suc i) l = both-finite xs ys (λ j k. f (suc j) (omega (arith, k))) g i (le-of-suc-le-suc l)
 
 -- 17 passed
-pub vectors-finite : (n : ℕ) (tau : Float) (count : ℕ) (w : List Float) (output : ℕ) → Sound ≡ first (vector-checks n tau count w output) → Finite w
+pub vectors-finite : (n : ℕ) (ts : List Check) (count : ℕ) (w : List Float) (output : ℕ) → Sound ≡ first (vector-checks n ts count w output) → Finite w
 unfolding vector-checks finite-checks not-finite-at
-vectors-finite n tau count w output e i l =
+vectors-finite n ts count w output e i l =
     let c = sound-append (count-checks count) _ e in
-    let t = sound-append (time-checks tau) _ (c .1) in
+    let t = sound-append ts _ (c .1) in
     let s = sound-append (length-checks output n (length w) (count * n)) _ (t .1) in
     not-false (is-finite (at w i)) (none-below (λ k. not (is-finite (at w k))) (length w) (sound-cons _ _ _ _ (s .1) .0) i l)
 

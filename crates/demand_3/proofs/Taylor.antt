@@ -21,7 +21,7 @@ use Rattle.checks.specs.declared.Checked.the-variants.{Sound, Refused}
 use Rattle.general_operator.specs.Csr.{Csr, row-sum-norm}
 use Rattle.general_operator.proofs.Sound.{or-false}
 use Rattle.generator_action.specs.Generator.{Generator}
-use Rattle.expmv.specs.Select.{select-s-m, admissible, degree, quotient, M-MAX}
+use Rattle.expmv.specs.Select.{select-s-m, admissible, degree, quotient}
 use Rattle.expmv.proofs.Rows.{degree-bounds}
 use Rattle.expmv.specs.declared.Selected.{Selected}
 use Rattle.expmv.specs.declared.Selected.the-variants.{NoRow, Row}
@@ -33,10 +33,10 @@ use Rattle.phi_action_helpers.specs.declared.SweepPlan.{SweepPlan}
 use Rattle.phi_shift.specs.Plan.{argument, sweep-plan, plan-of}
 use Rattle.phi_shift.specs.declared.PlanAnswer.{PlanAnswer}
 use Rattle.phi_shift.specs.declared.PlanAnswer.the-variants.{NoPlan, Plan}
-use Rattle.phi_shift.proofs.Chosen.{plan-chosen, chosen-least}
+use Rattle.phi_shift.proofs.Chosen.{plan-chosen, plan-bounded, chosen-least}
 use Rattle.combination.specs.Call.{Call, unless-refused}
 use Rattle.combination.specs.Combination.{combination-operator, action-operator}
-use Rattle.combination.specs.Checks.{no-row, out-of-range, count-checks, index-checks, time-checks, length-checks, finite-checks, magnitude-checks, schedule-checks, memory-checks, vector-checks, sweep-checks, job-checks, taylor-need}
+use Rattle.combination.specs.Checks.{no-row, out-of-range, count-checks, index-checks, time-checks, degree-checks, plan-checks, length-checks, finite-checks, magnitude-checks, schedule-checks, memory-checks, vector-checks, sweep-checks, job-checks, taylor-need}
 use Rattle.phi_action.specs.declared.TaylorReport.{TaylorReport}
 use Rattle.phi_action.specs.declared.TaylorAnswer.{TaylorAnswer}
 use Rattle.phi_action.specs.declared.TaylorAnswer.the-variants.{Refusal, Soaked}
@@ -55,27 +55,26 @@ unfolding unless-refused
 accepted Sound output memory end e = (e, refl)
 accepted (Refused k x) output memory end e = let z : zero ≡ 1 = cc in absurd (omega (arith, z))
 
--- the highest degree leaves no row out
-pub fits-is : (arg : Float) (j : ℕ) → j < 22 → admissible M-MAX arg j ≡ row-fits arg j
-unfolding admissible quotient
-fits-is arg j h = rw (le-leb (degree j) 30 (degree-bounds j h .1)) refl
+pub fits-is : (cap : ℕ) (arg : Float) (j : ℕ) → admissible cap arg j ≡ row-fits cap arg j
+unfolding admissible quotient degree
+fits-is cap arg j = refl
 
-module _ (tau : Float) (b : Augmented) (runs : ℕ) (start : ℕ → List Float) (run : SweepPlan → Fields) (made : (p : SweepPlan) → Made b tau runs start p (run p)) where
-  of-plan : (need : ℕ) (output memory : List Float) (x : PlanAnswer) {r : TaylorReport} → sweep-plan M-MAX tau (b .matrix) (norm-of b) ≡ x → after-plan need tau (norm-of b) output memory x run .answer ≡ Soaked r
-      → TaylorCost tau b runs start (after-plan need tau (norm-of b) output memory x run .output) r
+module _ (tau : Float) (cap : ℕ) (b : Augmented) (runs : ℕ) (start : ℕ → List Float) (run : SweepPlan → Fields) (made : (p : SweepPlan) → Made b tau runs start p (run p)) where
+  of-plan : (need : ℕ) (output memory : List Float) (x : PlanAnswer) {r : TaylorReport} → sweep-plan cap tau (b .matrix) (norm-of b) ≡ x → after-plan need tau (norm-of b) output memory x run .answer ≡ Soaked r
+      → TaylorCost tau cap b runs start (after-plan need tau (norm-of b) output memory x run .output) r
   unfolding after-plan argument
   of-plan need output memory NoPlan e f = let z : zero ≡ 1 = cc in absurd (omega (arith, z))
   of-plan need output memory (Plan p) e f =
-      let c = plan-chosen M-MAX tau (b .matrix) (norm-of b) e in
-      subst (TaylorCost tau b runs start (run p .fields)) (reported f)
-      (record { planned = e; chosen = c; least = λ j l e. chosen-least c j l (fits-is _ j l ∙ e); applications = made p .applications; counted = made p .counted; fields = made p .fields })
+      let c = plan-chosen cap tau (b .matrix) (norm-of b) e in
+      subst (TaylorCost tau cap b runs start (run p .fields)) (reported f)
+      (record { planned = e; capped = plan-bounded cap tau (b .matrix) (norm-of b) e .m-allowed; chosen = c; least = λ j l e. chosen-least c j l (fits-is cap _ j ∙ e); applications = made p .applications; counted = made p .counted; fields = made p .fields })
 
   pub of-call : (x : Checked) (need : ℕ) (output memory : List Float) {r : TaylorReport}
-      → unless-refused Refusal x output memory (after-plan need tau (norm-of b) output memory (sweep-plan M-MAX tau (b .matrix) (norm-of b)) run) .answer ≡ Soaked r
-      → TaylorCost tau b runs start (unless-refused Refusal x output memory (after-plan need tau (norm-of b) output memory (sweep-plan M-MAX tau (b .matrix) (norm-of b)) run) .output) r
+      → unless-refused Refusal x output memory (after-plan need tau (norm-of b) output memory (sweep-plan cap tau (b .matrix) (norm-of b)) run) .answer ≡ Soaked r
+      → TaylorCost tau cap b runs start (unless-refused Refusal x output memory (after-plan need tau (norm-of b) output memory (sweep-plan cap tau (b .matrix) (norm-of b)) run) .output) r
   of-call x need output memory {r} e =
       let h = accepted x output memory _ e in
-      subst (λ (out : List Float). TaylorCost tau b runs start out r) (h .1) (of-plan need output memory _ refl (h .0))
+      subst (λ (out : List Float). TaylorCost tau cap b runs start out r) (h .1) (of-plan need output memory _ refl (h .0))
 
 -- ---- 25
 -- tau and the argument are numbers from 0 on where 14 and 24 pass, and so is the norm where the generator's checks do
@@ -104,37 +103,37 @@ row-none : (s : Selected) → no-row s ≡ true → s ≡ NoRow
 row-none NoRow e = refl
 row-none (Row s m) e = absurd (true≢false (sym e))
 
-none-fits : (arg : Float) → T (is-finite arg) → T (+0 ⩽ arg) → Least.Refused M-MAX arg → (j : ℕ) → j < 22 → admissible M-MAX arg j ≡ false
-none-fits arg f g (Least.not-finite e) = absurd (true≢false (sym (is-true (is-finite arg) f) ∙ e))
-none-fits arg f g (Least.below-zero e) = absurd (⋖-not arg +0 (holds e) g)
-none-fits arg f g (Least.no-row h) = h
+none-fits : (cap : ℕ) (arg : Float) → T (is-finite arg) → T (+0 ⩽ arg) → Least.Refused cap arg → (j : ℕ) → j < 22 → admissible cap arg j ≡ false
+none-fits cap arg f g (Least.not-finite e) = absurd (true≢false (sym (is-true (is-finite arg) f) ∙ e))
+none-fits cap arg f g (Least.below-zero e) = absurd (⋖-not arg +0 (holds e) g)
+none-fits cap arg f g (Least.no-row h) = h
 
-has-plan : (tau : Float) (q : Csr) (norm : Float) → no-row (select-s-m M-MAX (argument tau norm)) ≡ false → sweep-plan M-MAX tau q norm ≡ NoPlan → zero ≡ 1
+has-plan : (tau : Float) (cap : ℕ) (q : Csr) (norm : Float) → no-row (select-s-m cap (argument tau norm)) ≡ false → sweep-plan cap tau q norm ≡ NoPlan → zero ≡ 1
 unfolding sweep-plan plan-of
-has-plan tau q norm h e = go (select-s-m M-MAX (argument tau norm)) h e
+has-plan tau cap q norm h e = go (select-s-m cap (argument tau norm)) h e
   where
-    go : (r : Selected) → no-row r ≡ false → plan-of M-MAX tau q norm r ≡ NoPlan → zero ≡ 1
+    go : (r : Selected) → no-row r ≡ false → plan-of cap tau q norm r ≡ NoPlan → zero ≡ 1
     go NoRow h e = cc
     go (Row s m) h e = cc
 
 -- the checks of a job: before tau's, between tau's and those of the schedule
-module _ (gs xs ys : List Check) (tau norm : Float) (memory need : ℕ) where
+module _ (gs xs ys : List Check) (tau : Float) (cap : ℕ) (norm : Float) (memory need : ℕ) where
   abbrev pub in-order : List Check
-  in-order = gs ++ (xs ++ (time-checks tau ++ (ys ++ (schedule-checks M-MAX norm tau ++ memory-checks memory need))))
+  in-order = gs ++ (xs ++ (time-checks tau ++ (ys ++ (schedule-checks cap norm tau ++ memory-checks memory need))))
 
   abbrev just-before : List Check
   just-before = refuse 24 (not (is-finite (argument tau norm))) (argument tau norm) ∷ []
 
   module _ (rg : Sound ≡ first gs → out-of-range norm ≡ false) (lg : before 25 gs ≡ gs) (lx : before 25 xs ≡ xs) (ly : before 25 ys ≡ ys) where
     lt : before 25 (time-checks tau) ≡ time-checks tau
-    unfolding before time-checks
+    unfolding before plan-checks time-checks
     lt = refl
 
     ls : before 25 just-before ≡ just-before
     unfolding before
     ls = refl
 
-    last : before 25 (schedule-checks M-MAX norm tau ++ memory-checks memory need) ≡ just-before
+    last : before 25 (schedule-checks cap norm tau ++ memory-checks memory need) ≡ just-before
     unfolding before schedule-checks memory-checks
     last = refl
 
@@ -153,7 +152,7 @@ module _ (gs xs ys : List Check) (tau norm : Float) (memory need : ℕ) where
 
     -- what holds where 14 and 24 pass, and the generator's checks
     ranged : Sound ≡ first (before 25 in-order) → T (is-finite (argument tau norm)) × T (+0 ⩽ argument tau norm)
-    unfolding time-checks
+    unfolding plan-checks time-checks
     ranged e =
         let g = sound-append gs _ (e ∙ ap first before-is) in
         let x = sound-append xs _ (g .1) in
@@ -162,41 +161,41 @@ module _ (gs xs ys : List Check) (tau norm : Float) (memory need : ℕ) where
         let f = holds (not-false (is-finite (argument tau norm)) (sound-cons _ _ _ _ (y .1) .0)) in
         (f, argument-nonneg tau norm (sound-cons _ _ _ _ (t .0) .0) (rg (g .0)) f)
 
-    pub only-25 : {x : Float} → Refused 25 x ≡ first in-order → NoRowFits in-order tau norm x
+    pub only-25 : {x : Float} → Refused 25 x ≡ first in-order → NoRowFits in-order tau cap norm x
     unfolding schedule-checks argument
     only-25 {x} e =
         let g = refused-past 25 gs _ lg e in
         let h = refused-past 25 xs _ lx (g .1) in
         let t = refused-past 25 (time-checks tau) _ lt (h .1) in
         let y = refused-past 25 ys _ ly (t .1) in
-        let s = refused-past 25 just-before (refuse 25 (no-row (select-s-m M-MAX (argument tau norm))) (argument tau norm) ∷ memory-checks memory need) ls (y .1) in
+        let s = refused-past 25 just-before (refuse 25 (no-row (select-s-m cap (argument tau norm))) (argument tau norm) ∷ memory-checks memory need) ls (y .1) in
         let r = refused-here 25 _ _ (memory-checks memory need) not-26 (s .1) in
         let b : Sound ≡ first (before 25 in-order) = sound-on gs _ refl (g .0) (sound-on xs _ refl (h .0) (sound-on (time-checks tau) _ refl (t .0) (sound-on ys _ refl (y .0) (s .0)))) ∙ ap first (sym before-is) in
         let f = ranged b in
-        record { earlier = b; none = λ j l. sym (fits-is _ j l) ∙ none-fits _ (f .0) (f .1) (none-only M-MAX _ (row-none _ (r .0))) j l; told = r .1 }
+        record { earlier = b; none = λ j l. sym (fits-is cap _ j) ∙ none-fits cap _ (f .0) (f .1) (none-only cap _ (row-none _ (r .0))) j l; told = r .1 }
 
-    pub if-25 : {x : Float} → NoRowFits in-order tau norm x → Refused 25 x ≡ first in-order
+    pub if-25 : {x : Float} → NoRowFits in-order tau cap norm x → Refused 25 x ≡ first in-order
     unfolding schedule-checks argument
     if-25 {x} h =
         let g = sound-append gs _ (h .earlier ∙ ap first before-is) in
         let k = sound-append xs _ (g .1) in
         let t = sound-append (time-checks tau) _ (k .1) in
         let y = sound-append ys _ (t .1) in
-        let none : no-row (select-s-m M-MAX (argument tau norm)) ≡ true = ap no-row (none-if M-MAX (argument tau norm) (Least.no-row (λ j l. fits-is _ j l ∙ h .none j l))) in
+        let none : no-row (select-s-m cap (argument tau norm)) ≡ true = ap no-row (none-if cap (argument tau norm) (Least.no-row (λ j l. fits-is cap _ j ∙ h .none j l))) in
         sound-on gs _ refl (g .0) (sound-on xs _ refl (k .0) (sound-on (time-checks tau) _ refl (t .0) (sound-on ys _ refl (y .0) (passes 24 _ _ (sound-cons _ _ _ _ (y .1) .0) (stops _ none (h .told))))))
 
-    planned : Sound ≡ first in-order → no-row (select-s-m M-MAX (argument tau norm)) ≡ false
+    planned : Sound ≡ first in-order → no-row (select-s-m cap (argument tau norm)) ≡ false
     unfolding schedule-checks
     planned e =
         let x = sound-append xs _ (sound-append gs _ e .1) in
         let y = sound-append ys _ (sound-append (time-checks tau) _ (x .1) .1) in
-        let s = sound-append (schedule-checks M-MAX norm tau) _ (y .1) in
+        let s = sound-append (schedule-checks cap norm tau) _ (y .1) in
         sound-cons _ _ _ _ (sound-cons _ _ _ _ (s .0) .1) .0
 
     -- of a call
     module _ (q : Csr) (run : SweepPlan → Fields) (output lent : List Float) where
       abbrev call : Checked → Call TaylorAnswer
-      call c = unless-refused Refusal c output lent (after-plan need tau norm output lent (sweep-plan M-MAX tau q norm) run)
+      call c = unless-refused Refusal c output lent (after-plan need tau norm output lent (sweep-plan cap tau q norm) run)
 
       has-run : (x : PlanAnswer) {k : ℕ} {y : Float} → (x ≡ NoPlan → zero ≡ 1) → after-plan need tau norm output lent x run .answer ≡ Refusal k y → ⊥
       unfolding after-plan
@@ -205,17 +204,17 @@ module _ (gs xs ys : List Check) (tau norm : Float) (memory need : ℕ) where
 
       refusal-of : (c : Checked) {x : Float} → c ≡ first in-order → call c .answer ≡ Refusal 25 x → Refused 25 x ≡ first in-order
       unfolding unless-refused
-      refusal-of Sound e f = absurd (has-run _ (has-plan tau q norm (planned e)) f)
+      refusal-of Sound e f = absurd (has-run _ (has-plan tau cap q norm (planned e)) f)
       refusal-of (Refused k y) {x} e f = same f ∙ e
         where
           same : {i j : ℕ} {x y : Float} → Refusal i x ≡ Refusal j y → Refused j y ≡ Refused i x
           same g = cc
 
-      refuses : {x : Float} → NoRowFits in-order tau norm x → call (first in-order) .answer ≡ Refusal 25 x
+      refuses : {x : Float} → NoRowFits in-order tau cap norm x → call (first in-order) .answer ≡ Refusal 25 x
       unfolding unless-refused
       refuses h = rw (← (if-25 h)) refl
 
-      pub exactly-25 : (cs : List Check) → cs ≡ in-order → Exactly25 (call (first cs)) cs tau norm
+      pub exactly-25 : (cs : List Check) → cs ≡ in-order → Exactly25 (call (first cs)) cs tau cap norm
       exactly-25 cs e x = rw e ((λ f. only-25 (refusal-of (first in-order) refl f)), refuses)
 
       pub never-27 : (cs : List Check) → cs ≡ in-order → before 27 cs ≡ cs → (x : Float) → call (first cs) .answer ≡ Refusal 27 x → ⊥
@@ -226,7 +225,7 @@ module _ (gs xs ys : List Check) (tau norm : Float) (memory need : ℕ) where
           number g = cc
 
           go : (c : Checked) → c ≡ first cs → call c .answer ≡ Refusal 27 x → ⊥
-          go Sound d f = absurd (has-run _ (has-plan tau q norm (planned (d ∙ ap first e))) f)
+          go Sound d f = absurd (has-run _ (has-plan tau cap q norm (planned (d ∙ ap first e))) f)
           go (Refused k y) d f = let n : k ≡ 27 = number f in not-by 27 cs low (subst (λ (i : ℕ). Refused i y ≡ first cs) n d)
 
 -- ---- the three calls
@@ -239,90 +238,91 @@ module _
   abbrev norm : Float
   norm = row-sum-norm (g .matrix)
 
-  module _ (count : ℕ) (w output memory : List Float) where
-    combination-cost : {r : TaylorReport} → phi-combination g tau count w output memory .answer ≡ Soaked r
-        → TaylorCost tau (operator-of g tau count w) 1 (λ _. start-of g tau count w) (phi-combination g tau count w output memory .output) r
+  module _ (cap count : ℕ) (w output memory : List Float) where
+    combination-cost : {r : TaylorReport} → phi-combination g tau cap count w output memory .answer ≡ Soaked r
+        → TaylorCost tau cap (operator-of g tau count w) 1 (λ _. start-of g tau count w) (phi-combination g tau cap count w output memory .output) r
     unfolding phi-combination combination-operator
-    combination-cost e = of-call tau (operator-of g tau count w) 1 _ _ (λ p. one-made (operator-of g tau count w) tau p (start-of g tau count w)) _ _ output memory e
+    combination-cost e = of-call tau cap (operator-of g tau count w) 1 _ _ (λ p. one-made (operator-of g tau count w) tau p (start-of g tau count w)) _ _ output memory e
 
     low-count : before 25 (count-checks count) ≡ count-checks count
     unfolding before count-checks
     low-count = refl
 
     abbrev between : List Check
-    between = length-checks (length output) (g .matrix .n) (length w) (count * g .matrix .n) ++ (finite-checks w ++ magnitude-checks (g .matrix .n) w tau (count - 1))
+    between = degree-checks cap ++ (length-checks (length output) (g .matrix .n) (length w) (count * g .matrix .n) ++ (finite-checks w ++ magnitude-checks (g .matrix .n) w tau (count - 1)))
 
     low-between : before 25 between ≡ between
-    unfolding before length-checks finite-checks magnitude-checks
+    unfolding before degree-checks length-checks finite-checks magnitude-checks
     low-between = refl
 
-    combination-in-order : combination-checks g tau count w (length output) (length memory) ≡ in-order (g .checks) (count-checks count) between tau norm (length memory) (taylor-need (g .matrix .n) (count - 1) (g .stored))
-    unfolding combination-checks vector-checks sweep-checks count-checks time-checks length-checks finite-checks magnitude-checks
+    combination-in-order : combination-checks g tau cap count w (length output) (length memory) ≡ in-order (g .checks) (count-checks count) between tau cap norm (length memory) (taylor-need (g .matrix .n) (count - 1) (g .stored))
+    unfolding combination-checks vector-checks sweep-checks count-checks plan-checks time-checks degree-checks length-checks finite-checks magnitude-checks
     combination-in-order = refl
 
-    combination-25 : Exactly25 (phi-combination g tau count w output memory) (combination-checks g tau count w (length output) (length memory)) tau norm
+    combination-25 : Exactly25 (phi-combination g tau cap count w output memory) (combination-checks g tau cap count w (length output) (length memory)) tau cap norm
     unfolding phi-combination
-    combination-25 = exactly-25 _ _ between tau norm _ _ ranged-norm none-25 low-count low-between _ _ output memory _ combination-in-order
+    combination-25 = exactly-25 _ _ between tau cap norm _ _ ranged-norm none-25 low-count low-between _ _ output memory _ combination-in-order
 
-    low-combination : before 27 (combination-checks g tau count w (length output) (length memory)) ≡ combination-checks g tau count w (length output) (length memory)
-    unfolding before combination-checks vector-checks count-checks time-checks length-checks finite-checks sweep-checks magnitude-checks schedule-checks memory-checks
+    low-combination : before 27 (combination-checks g tau cap count w (length output) (length memory)) ≡ combination-checks g tau cap count w (length output) (length memory)
+    unfolding before combination-checks vector-checks count-checks plan-checks time-checks degree-checks length-checks finite-checks sweep-checks magnitude-checks schedule-checks memory-checks
     low-combination = before-append 27 (g .checks) _ none-27
 
-    combination-no-27 : (x : Float) → phi-combination g tau count w output memory .answer ≡ Refusal 27 x → ⊥
+    combination-no-27 : (x : Float) → phi-combination g tau cap count w output memory .answer ≡ Refusal 27 x → ⊥
     unfolding phi-combination
-    combination-no-27 = never-27 _ _ between tau norm _ _ ranged-norm none-25 low-count low-between _ _ output memory _ combination-in-order low-combination
+    combination-no-27 = never-27 _ _ between tau cap norm _ _ ranged-norm none-25 low-count low-between _ _ output memory _ combination-in-order low-combination
 
-    pub combination-claim : TaylorClaim (phi-combination g tau count w output memory) (combination-checks g tau count w (length output) (length memory)) tau (operator-of g tau count w) 1 (λ _. start-of g tau count w)
+    pub combination-claim : TaylorClaim (phi-combination g tau cap count w output memory) (combination-checks g tau cap count w (length output) (length memory)) tau cap (operator-of g tau count w) 1 (λ _. start-of g tau count w)
     unfolding combination-operator
     combination-claim = record { accepted = combination-cost; no-plan = combination-25; no-limit = combination-no-27 }
 
-  module _ (k : ℕ) (v output memory : List Float) where
+  module _ (cap k : ℕ) (v output memory : List Float) where
     low-index : before 25 (index-checks k) ≡ index-checks k
     unfolding before index-checks
     low-index = refl
 
-    -- 15 to 17
+    -- 33 and 15 to 17
     abbrev of-field : ℕ → List Check
-    of-field wanted = length-checks (length output) wanted (length v) (g .matrix .n) ++ finite-checks v
+    of-field wanted = degree-checks cap ++ (length-checks (length output) wanted (length v) (g .matrix .n) ++ finite-checks v)
 
     low-field : (wanted : ℕ) → before 25 (of-field wanted) ≡ of-field wanted
-    unfolding before length-checks finite-checks
+    unfolding before degree-checks length-checks finite-checks
     low-field wanted = refl
 
-    action-in-order : (wanted : ℕ) → action-checks g tau k v (length output) wanted (length memory) ≡ in-order (g .checks) (index-checks k) (of-field wanted) tau norm (length memory) (taylor-need (g .matrix .n) 3 (g .stored))
-    unfolding action-checks job-checks length-checks finite-checks
+    action-in-order : (wanted : ℕ) → action-checks g tau cap k v (length output) wanted (length memory) ≡ in-order (g .checks) (index-checks k) (of-field wanted) tau cap norm (length memory) (taylor-need (g .matrix .n) 3 (g .stored))
+    unfolding action-checks job-checks plan-checks time-checks degree-checks length-checks finite-checks
     action-in-order wanted = refl
 
-    action-cost : {r : TaylorReport} → phi-action g tau k v output memory .answer ≡ Soaked r
-        → TaylorCost tau (action-of g v) 1 (λ _. action-start g v k) (phi-action g tau k v output memory .output) r
+    action-cost : {r : TaylorReport} → phi-action g tau cap k v output memory .answer ≡ Soaked r
+        → TaylorCost tau cap (action-of g v) 1 (λ _. action-start g v k) (phi-action g tau cap k v output memory .output) r
     unfolding phi-action action-operator
-    action-cost e = of-call tau (action-of g v) 1 _ _ (λ p. one-made (action-of g v) tau p (action-start g v k)) _ _ output memory e
+    action-cost e = of-call tau cap (action-of g v) 1 _ _ (λ p. one-made (action-of g v) tau p (action-start g v k)) _ _ output memory e
 
-    batch-cost : {r : TaylorReport} → phi-action-batched g tau k v output memory .answer ≡ Soaked r
-        → TaylorCost tau (action-of g v) (suc k) (action-start g v) (phi-action-batched g tau k v output memory .output) r
+    batch-cost : {r : TaylorReport} → phi-action-batched g tau cap k v output memory .answer ≡ Soaked r
+        → TaylorCost tau cap (action-of g v) (suc k) (action-start g v) (phi-action-batched g tau cap k v output memory .output) r
     unfolding phi-action-batched action-operator
-    batch-cost e = of-call tau (action-of g v) (suc k) _ _ (λ p. batch-made (action-of g v) tau p v (eta-scaling (sup v) .inv) (suc k)) _ _ output memory e
+    batch-cost e = of-call tau cap (action-of g v) (suc k) _ _ (λ p. batch-made (action-of g v) tau p v (eta-scaling (sup v) .inv) (suc k)) _ _ output memory e
 
     -- of an output of `wanted` values, whatever is run
     action-exactly : (wanted : ℕ) (run : SweepPlan → Fields)
-        → Exactly25 (unless-refused Refusal (first (action-checks g tau k v (length output) wanted (length memory))) output memory (after-plan (taylor-need (g .matrix .n) 3 (g .stored)) tau norm output memory (sweep-plan M-MAX tau (g .matrix) norm) run))
-        (action-checks g tau k v (length output) wanted (length memory))
+        → Exactly25 (unless-refused Refusal (first (action-checks g tau cap k v (length output) wanted (length memory))) output memory (after-plan (taylor-need (g .matrix .n) 3 (g .stored)) tau norm output memory (sweep-plan cap tau (g .matrix) norm) run))
+        (action-checks g tau cap k v (length output) wanted (length memory))
         tau
+        cap
         norm
-    action-exactly wanted run = exactly-25 (g .checks) (index-checks k) (of-field wanted) tau norm _ _ ranged-norm none-25 low-index (low-field wanted) _ run output memory _ (action-in-order wanted)
+    action-exactly wanted run = exactly-25 (g .checks) (index-checks k) (of-field wanted) tau cap norm _ _ ranged-norm none-25 low-index (low-field wanted) _ run output memory _ (action-in-order wanted)
 
-    low-action : (wanted : ℕ) → before 27 (action-checks g tau k v (length output) wanted (length memory)) ≡ action-checks g tau k v (length output) wanted (length memory)
-    unfolding before action-checks job-checks index-checks time-checks length-checks finite-checks schedule-checks memory-checks
+    low-action : (wanted : ℕ) → before 27 (action-checks g tau cap k v (length output) wanted (length memory)) ≡ action-checks g tau cap k v (length output) wanted (length memory)
+    unfolding before action-checks job-checks index-checks plan-checks time-checks degree-checks length-checks finite-checks schedule-checks memory-checks
     low-action wanted = before-append 27 (g .checks) _ none-27
 
     action-no-27 : (wanted : ℕ) (run : SweepPlan → Fields) (x : Float)
-        → unless-refused Refusal (first (action-checks g tau k v (length output) wanted (length memory))) output memory (after-plan (taylor-need (g .matrix .n) 3 (g .stored)) tau norm output memory (sweep-plan M-MAX tau (g .matrix) norm) run) .answer ≡ Refusal 27 x → ⊥
-    action-no-27 wanted run = never-27 (g .checks) (index-checks k) (of-field wanted) tau norm _ _ ranged-norm none-25 low-index (low-field wanted) _ run output memory _ (action-in-order wanted) (low-action wanted)
+        → unless-refused Refusal (first (action-checks g tau cap k v (length output) wanted (length memory))) output memory (after-plan (taylor-need (g .matrix .n) 3 (g .stored)) tau norm output memory (sweep-plan cap tau (g .matrix) norm) run) .answer ≡ Refusal 27 x → ⊥
+    action-no-27 wanted run = never-27 (g .checks) (index-checks k) (of-field wanted) tau cap norm _ _ ranged-norm none-25 low-index (low-field wanted) _ run output memory _ (action-in-order wanted) (low-action wanted)
 
-    pub action-claim : TaylorClaim (phi-action g tau k v output memory) (action-checks g tau k v (length output) (g .matrix .n) (length memory)) tau (action-of g v) 1 (λ _. action-start g v k)
+    pub action-claim : TaylorClaim (phi-action g tau cap k v output memory) (action-checks g tau cap k v (length output) (g .matrix .n) (length memory)) tau cap (action-of g v) 1 (λ _. action-start g v k)
     unfolding phi-action action-operator
     action-claim = record { accepted = action-cost; no-plan = action-exactly (g .matrix .n) _; no-limit = action-no-27 (g .matrix .n) _ }
 
-    pub batch-claim : TaylorClaim (phi-action-batched g tau k v output memory) (action-checks g tau k v (length output) (suc k * g .matrix .n) (length memory)) tau (action-of g v) (suc k) (action-start g v)
+    pub batch-claim : TaylorClaim (phi-action-batched g tau cap k v output memory) (action-checks g tau cap k v (length output) (suc k * g .matrix .n) (length memory)) tau cap (action-of g v) (suc k) (action-start g v)
     unfolding phi-action-batched action-operator
     batch-claim = record { accepted = batch-cost; no-plan = action-exactly (suc k * g .matrix .n) _; no-limit = action-no-27 (suc k * g .matrix .n) _ }

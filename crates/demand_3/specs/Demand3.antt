@@ -54,18 +54,18 @@ OneProduct b k x =
     let c = window (b .matrix .n) (b .d) x in
     aug-matvec b k x ≡ top b k (apply-generator (b .matrix) u) u c ++ bottom k (b .d) c
 
--- of a generator, a time and what is lent, for every count, index, vector and option
+-- of a generator, a time and what is lent, for every cap, count, index, vector and option
 pub record Demand3 (g : Generator) (tau : Float) (output memory : List Float) : Type 0 where
   pub one-product : (b : Augmented) (k : Scales) (x : List Float) → OneProduct b k x
   -- the rows that a plan is chosen of
   pub rows : Rows
-  -- Taylor: the products are exactly s × m for each function, the least of all admissible rows; 25 exactly where no row is admissible
-  pub combination : (count : ℕ) (w : List Float)
-      → TaylorClaim (phi-combination g tau count w output memory) (combination-checks g tau count w (length output) (length memory)) tau (operator-of g tau count w) 1 (λ _. start-of g tau count w)
-  pub action : (k : ℕ) (v : List Float)
-      → TaylorClaim (phi-action g tau k v output memory) (action-checks g tau k v (length output) (g .matrix .n) (length memory)) tau (action-of g v) 1 (λ _. action-start g v k)
-  pub batch : (p : ℕ) (v : List Float)
-      → TaylorClaim (phi-action-batched g tau p v output memory) (action-checks g tau p v (length output) (suc p * g .matrix .n) (length memory)) tau (action-of g v) (suc p) (action-start g v)
+  -- Taylor: the products are exactly s × m for each function, the least of all rows that are admissible up to the cap; 25 exactly where none is
+  pub combination : (cap count : ℕ) (w : List Float)
+      → TaylorClaim (phi-combination g tau cap count w output memory) (combination-checks g tau cap count w (length output) (length memory)) tau cap (operator-of g tau count w) 1 (λ _. start-of g tau count w)
+  pub action : (cap k : ℕ) (v : List Float)
+      → TaylorClaim (phi-action g tau cap k v output memory) (action-checks g tau cap k v (length output) (g .matrix .n) (length memory)) tau cap (action-of g v) 1 (λ _. action-start g v k)
+  pub batch : (cap p : ℕ) (v : List Float)
+      → TaylorClaim (phi-action-batched g tau cap p v output memory) (action-checks g tau cap p v (length output) (suc p * g .matrix .n) (length memory)) tau cap (action-of g v) (suc p) (action-start g v)
   -- Krylov: the counts are those of what the run did, and bounded; the rounded sum of its steps is 1 at the last; 27 exactly at the limit
   pub krylov : (count : ℕ) (w : List Float) (o : KrylovPhiOptions) {r : KrylovPhiReport} → phi-combination-krylov g tau count w o output memory .answer ≡ Soaked r
       → KrylovCost (g .matrix .n) (clamped (o .m) (g .matrix .n + (count - 1))) (o .«max_substeps») (start-of g tau count w) (phi-combination-krylov g tau count w o output memory .output) (krylov-run g tau count w o) r

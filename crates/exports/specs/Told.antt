@@ -52,7 +52,7 @@ phi-numbers (phi.Krylov r) = krylov-numbers (krylov.Soaked r)
 abbrev pub options : Float → ℕ → ℕ → KrylovPhiOptions
 options tol m limit = record { tol = tol; m = m; «max_substeps» = limit }
 
--- the solver asked for: Krylov, or Taylor, which has no options (phi_krylov.rs, `PhiSolver`)
-unfoldable pub solver : Bool → KrylovPhiOptions → PhiSolver
-solver true o = Krylov o
-solver false o = Taylor
+-- the solver asked for: Krylov with its options, or Taylor up to a degree (phi_krylov.rs, `PhiSolver`)
+unfoldable pub solver : Bool → ℕ → KrylovPhiOptions → PhiSolver
+solver true degree o = Krylov o
+solver false degree o = Taylor degree

@@ -135,13 +135,13 @@ fn options(tol: f64, m: usize, max_substeps: usize) -> KrylovPhiOptions
     }
 }
 
-fn solver(krylov: bool, o: KrylovPhiOptions) -> PhiSolver
-    ensures { λ r. ⌜ r ≡ solver krylov o ⌝ }
+fn solver(krylov: bool, degree: u32, o: KrylovPhiOptions) -> PhiSolver
+    ensures { λ r. ⌜ r ≡ solver krylov degree o ⌝ }
 {
     if krylov {
         return PhiSolver::Krylov(o);
     }
-    PhiSolver::Taylor
+    PhiSolver::Taylor(degree)
 }
 
 // `generator_action::check_generator`, told by `tell_matrix`.
@@ -172,6 +172,7 @@ pub extern "C" fn hazhendu_phi_combination(
     with_mass: bool,
     mass: &[f64],
     tau: f64,
+    degree: u32,
     count: usize,
     w: &[f64],
     out: &mut [f64],
@@ -181,7 +182,7 @@ pub extern "C" fn hazhendu_phi_combination(
     m: &mut u32,
     applications: &mut u64,
 ) -> u32
-    ensures { λ r. ⌜ ends (numbers r (now (value .exit)) (now (s .exit)) (now (m .exit)) (now (applications .exit))) (now (out .exit)) (now (work .exit)) ≡ answering taylor-numbers (phi-combination (forward (csr n (now (starts .entry)) (now (cols .entry)) (now (vals .entry))) (given «with_mass» (now (mass .entry)))) tau count (now (w .entry)) (now (out .entry)) (now (work .entry))) ⌝ }
+    ensures { λ r. ⌜ ends (numbers r (now (value .exit)) (now (s .exit)) (now (m .exit)) (now (applications .exit))) (now (out .exit)) (now (work .exit)) ≡ answering taylor-numbers (phi-combination (forward (csr n (now (starts .entry)) (now (cols .entry)) (now (vals .entry))) (given «with_mass» (now (mass .entry)))) tau degree count (now (w .entry)) (now (out .entry)) (now (work .entry))) ⌝ }
 {
     let answer = phi_action::phi_combination(
         n,
@@ -191,6 +192,7 @@ pub extern "C" fn hazhendu_phi_combination(
         with_mass,
         mass,
         tau,
+        degree,
         count,
         w,
         out,
@@ -209,6 +211,7 @@ pub extern "C" fn hazhendu_phi_action(
     with_mass: bool,
     mass: &[f64],
     tau: f64,
+    degree: u32,
     k: usize,
     v: &[f64],
     out: &mut [f64],
@@ -218,7 +221,7 @@ pub extern "C" fn hazhendu_phi_action(
     m: &mut u32,
     applications: &mut u64,
 ) -> u32
-    ensures { λ r. ⌜ ends (numbers r (now (value .exit)) (now (s .exit)) (now (m .exit)) (now (applications .exit))) (now (out .exit)) (now (work .exit)) ≡ answering taylor-numbers (phi-action (forward (csr n (now (starts .entry)) (now (cols .entry)) (now (vals .entry))) (given «with_mass» (now (mass .entry)))) tau k (now (v .entry)) (now (out .entry)) (now (work .entry))) ⌝ }
+    ensures { λ r. ⌜ ends (numbers r (now (value .exit)) (now (s .exit)) (now (m .exit)) (now (applications .exit))) (now (out .exit)) (now (work .exit)) ≡ answering taylor-numbers (phi-action (forward (csr n (now (starts .entry)) (now (cols .entry)) (now (vals .entry))) (given «with_mass» (now (mass .entry)))) tau degree k (now (v .entry)) (now (out .entry)) (now (work .entry))) ⌝ }
 {
     let answer = phi_action::phi_action(
         n,
@@ -228,6 +231,7 @@ pub extern "C" fn hazhendu_phi_action(
         with_mass,
         mass,
         tau,
+        degree,
         k,
         v,
         out,
@@ -246,6 +250,7 @@ pub extern "C" fn hazhendu_phi_action_batched(
     with_mass: bool,
     mass: &[f64],
     tau: f64,
+    degree: u32,
     p: usize,
     v: &[f64],
     out: &mut [f64],
@@ -255,7 +260,7 @@ pub extern "C" fn hazhendu_phi_action_batched(
     m: &mut u32,
     applications: &mut u64,
 ) -> u32
-    ensures { λ r. ⌜ ends (numbers r (now (value .exit)) (now (s .exit)) (now (m .exit)) (now (applications .exit))) (now (out .exit)) (now (work .exit)) ≡ answering taylor-numbers (phi-action-batched (forward (csr n (now (starts .entry)) (now (cols .entry)) (now (vals .entry))) (given «with_mass» (now (mass .entry)))) tau p (now (v .entry)) (now (out .entry)) (now (work .entry))) ⌝ }
+    ensures { λ r. ⌜ ends (numbers r (now (value .exit)) (now (s .exit)) (now (m .exit)) (now (applications .exit))) (now (out .exit)) (now (work .exit)) ≡ answering taylor-numbers (phi-action-batched (forward (csr n (now (starts .entry)) (now (cols .entry)) (now (vals .entry))) (given «with_mass» (now (mass .entry)))) tau degree p (now (v .entry)) (now (out .entry)) (now (work .entry))) ⌝ }
 {
     let answer = phi_action::phi_action_batched(
         n,
@@ -265,6 +270,7 @@ pub extern "C" fn hazhendu_phi_action_batched(
         with_mass,
         mass,
         tau,
+        degree,
         p,
         v,
         out,
@@ -325,6 +331,7 @@ pub extern "C" fn hazhendu_combine(
     with_mass: bool,
     mass: &[f64],
     tau: f64,
+    degree: u32,
     count: usize,
     w: &[f64],
     krylov: bool,
@@ -338,10 +345,10 @@ pub extern "C" fn hazhendu_combine(
     second: &mut u64,
     third: &mut u64,
 ) -> u32
-    ensures { λ r. ⌜ ends (numbers r (now (value .exit)) (now (first .exit)) (now (second .exit)) (now (third .exit))) (now (out .exit)) (now (work .exit)) ≡ answering phi-numbers (combine (solver krylov (options tol m «max_substeps»)) (forward (csr n (now (starts .entry)) (now (cols .entry)) (now (vals .entry))) (given «with_mass» (now (mass .entry)))) tau count (now (w .entry)) (now (out .entry)) (now (work .entry))) ⌝ }
+    ensures { λ r. ⌜ ends (numbers r (now (value .exit)) (now (first .exit)) (now (second .exit)) (now (third .exit))) (now (out .exit)) (now (work .exit)) ≡ answering phi-numbers (combine (solver krylov degree (options tol m «max_substeps»)) (forward (csr n (now (starts .entry)) (now (cols .entry)) (now (vals .entry))) (given «with_mass» (now (mass .entry)))) tau count (now (w .entry)) (now (out .entry)) (now (work .entry))) ⌝ }
 {
     let o = options(tol, m, max_substeps);
-    let chosen = solver(krylov, o);
+    let chosen = solver(krylov, degree, o);
     let answer = phi_krylov::combine(
         chosen,
         n,

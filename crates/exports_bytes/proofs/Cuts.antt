@@ -67,9 +67,9 @@ bytes-of (suc n) (x ∷ b) h (suc i) = bytes-of n b (λ j. h (suc j)) i
 -- ---- the double of a struct
 told-again : (call : PhiCall) (t : Told) (a b c d : ℕ) → told call (revalued t (long-told 16 d (t .number) (long-told 15 c (t .number) (long-told 7 b (t .number) (long-told 1 a (t .number) (t .value)))))) ≡ retold 16 d (retold 15 c (retold 7 b (retold 1 a (told call t))))
 unfolding told
-told-again Combination t a b c d = refl
-told-again Action t a b c d = refl
-told-again Batch t a b c d = refl
+told-again (Combination degree) t a b c d = refl
+told-again (Action degree) t a b c d = refl
+told-again (Batch degree) t a b c d = refl
 told-again (Krylov tol m most) t a b c d = refl
 
 again : (k c : ℕ) {t : Numbers} {out₁ work₁ : List ℕ} {p : Call Numbers} (q : Call Numbers) (out work : List ℕ) → p ≡ recalled k c q → replies t out₁ work₁ ≡ packed q out work → replies (retold k c t) out₁ work₁ ≡ packed p out work

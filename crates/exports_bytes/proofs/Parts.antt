@@ -1,6 +1,6 @@
 -- A call on the first 512 elements of a longer slice is refused as the call on the whole slice is, but for the length reported. Assumes nothing.
 use mathlib.Core.Bool.{Bool, true, false, not, _||_, cond}
-use mathlib.Core.List.{List, [], _∷_, _++_}
+use mathlib.Core.List.{List, [], _∷_, _++_, append-assoc}
 use mathlib.Core.Logic.{_⊎_, inl, inr}
 use mathlib.Core.Option.{none, some}
 use mathlib.Core.Path.{_≡_, refl, sym, _∙_, ap, subst}
@@ -22,8 +22,7 @@ use Rattle.general_operator.proofs.Sound.{or-false}
 use Rattle.generator_action.specs.Mass.{Mass, given, quotients, mass-checks, sum-checks, norm-checks, bound-checks, generator-checks}
 use Rattle.generator_action.specs.Generator.{Generator, forward}
 use Rattle.combination.specs.Call.{Call, ends, unless-refused}
-use Rattle.expmv.specs.Select.{M-MAX}
-use Rattle.combination.specs.Checks.{count-checks, index-checks, time-checks, length-checks, finite-checks, schedule-checks, memory-checks, taylor-need, vector-checks, sweep-checks, job-checks}
+use Rattle.combination.specs.Checks.{count-checks, index-checks, time-checks, degree-checks, plan-checks, length-checks, finite-checks, schedule-checks, memory-checks, taylor-need, vector-checks, sweep-checks, job-checks}
 use Rattle.combination.proofs.Stored.{quotients-rows}
 use Rattle.phi_action.specs.Calls.{combination-checks, action-checks, phi-combination, phi-action, phi-action-batched}
 use Rattle.phi_action.specs.declared.TaylorAnswer.the-variants as taylor
@@ -38,29 +37,29 @@ use Rattle.exports_bytes.proofs.Alike.{Alike, stopped, in-front, behind
 
 -- ---- the checks of the four calls: of the matrix; of the number of vectors or the index, of the time, of two lengths; and others
 limit : PhiCall → ℕ → Check
-limit Combination k = refuse 12 (eqb k 0 || ltb 4 k) (nat k)
-limit Action k = refuse 13 (ltb 3 k) (nat k)
-limit Batch k = refuse 13 (ltb 3 k) (nat k)
+limit (Combination degree) k = refuse 12 (eqb k 0 || ltb 4 k) (nat k)
+limit (Action degree) k = refuse 13 (ltb 3 k) (nat k)
+limit (Batch degree) k = refuse 13 (ltb 3 k) (nat k)
 limit (Krylov tol m most) k = refuse 12 (eqb k 0 || ltb 4 k) (nat k)
 
 wanted : PhiCall → ℕ → ℕ → ℕ
-wanted Combination n k = n
-wanted Action n k = n
-wanted Batch n k = suc k * n
+wanted (Combination degree) n k = n
+wanted (Action degree) n k = n
+wanted (Batch degree) n k = suc k * n
 wanted (Krylov tol m most) n k = n
 
 expected : PhiCall → ℕ → ℕ → ℕ
-expected Combination n k = k * n
-expected Action n k = n
-expected Batch n k = n
+expected (Combination degree) n k = k * n
+expected (Action degree) n k = n
+expected (Batch degree) n k = n
 expected (Krylov tol m most) n k = k * n
 
 others : PhiCall → Generator → Float → ℕ → List Float → ℕ → List Check
-others Combination g tau k v memory =
+others (Combination degree) g tau k v memory =
     let n = g .matrix .n in
-    finite-checks v ++ sweep-checks n tau (k - 1) v (row-sum-norm (g .matrix)) memory (taylor-need n (k - 1) (g .stored))
-others Action g tau k v memory = finite-checks v ++ (schedule-checks M-MAX (row-sum-norm (g .matrix)) tau ++ memory-checks memory (taylor-need (g .matrix .n) 3 (g .stored)))
-others Batch g tau k v memory = finite-checks v ++ (schedule-checks M-MAX (row-sum-norm (g .matrix)) tau ++ memory-checks memory (taylor-need (g .matrix .n) 3 (g .stored)))
+    finite-checks v ++ sweep-checks n tau degree (k - 1) v (row-sum-norm (g .matrix)) memory (taylor-need n (k - 1) (g .stored))
+others (Action degree) g tau k v memory = finite-checks v ++ (schedule-checks degree (row-sum-norm (g .matrix)) tau ++ memory-checks memory (taylor-need (g .matrix .n) 3 (g .stored)))
+others (Batch degree) g tau k v memory = finite-checks v ++ (schedule-checks degree (row-sum-norm (g .matrix)) tau ++ memory-checks memory (taylor-need (g .matrix .n) 3 (g .stored)))
 others (Krylov tol m most) g tau k v memory =
     let n = g .matrix .n in
     let M = dimension n (k - 1) m in
@@ -68,10 +67,17 @@ others (Krylov tol m most) g tau k v memory =
     ++ (option-checks (options tol m most) M
     ++ run-checks n tau (k - 1) v (bound tau (row-sum-norm (g .matrix))) memory (krylov-need n (k - 1) M (g .stored)))
 
+-- 14, and of a Taylor call 33
+times : PhiCall → Float → List Check
+times (Combination degree) tau = plan-checks tau degree
+times (Action degree) tau = plan-checks tau degree
+times (Batch degree) tau = plan-checks tau degree
+times (Krylov tol m most) tau = time-checks tau
+
 job : PhiCall → Generator → Float → ℕ → List Float → ℕ → ℕ → List Check
 job call g tau k v output memory =
     limit call k
-    ∷ (time-checks tau ++ (length-checks output (wanted call (g .matrix .n) k) (length v) (expected call (g .matrix .n) k) ++ others call g tau k v memory))
+    ∷ (times call tau ++ (length-checks output (wanted call (g .matrix .n) k) (length v) (expected call (g .matrix .n) k) ++ others call g tau k v memory))
 
 checks : PhiCall → Generator → Float → ℕ → List Float → ℕ → ℕ → List Check
 checks call g tau k v output memory = g .checks ++ job call g tau k v output memory
@@ -90,10 +96,10 @@ unfolding krylov-numbers
 krylov-refusal j x = refl
 
 refused : (call : PhiCall) (g : Generator) (tau : Float) (k : ℕ) (v output memory : List Float) {j : ℕ} {x : Float} → first (checks call g tau k v (length output) (length memory)) ≡ Refused j x → called call g tau k v output memory ≡ ends (numbers j x 0 0 0) output memory
-unfolding checks job limit wanted expected others called combination-checks action-checks krylov-checks vector-checks job-checks count-checks index-checks time-checks length-checks finite-checks phi-combination phi-action phi-action-batched phi-combination-krylov
-refused Combination g tau k v output memory e = refused-by taylor-numbers taylor.Refusal output memory _ (taylor-refusal _ _) e
-refused Action g tau k v output memory e = refused-by taylor-numbers taylor.Refusal output memory _ (taylor-refusal _ _) e
-refused Batch g tau k v output memory e = refused-by taylor-numbers taylor.Refusal output memory _ (taylor-refusal _ _) e
+unfolding checks job times limit wanted expected others called combination-checks action-checks krylov-checks vector-checks job-checks count-checks index-checks plan-checks time-checks degree-checks length-checks finite-checks phi-combination phi-action phi-action-batched phi-combination-krylov
+refused (Combination degree) g tau k v output memory e = refused-by taylor-numbers taylor.Refusal output memory _ (taylor-refusal _ _) e
+refused (Action degree) g tau k v output memory e = refused-by taylor-numbers taylor.Refusal output memory _ (taylor-refusal _ _) e
+refused (Batch degree) g tau k v output memory e = refused-by taylor-numbers taylor.Refusal output memory _ (taylor-refusal _ _) e
 refused (Krylov tol m most) g tau k v output memory e = refused-by krylov-numbers krylov.Refusal output memory _ (krylov-refusal _ _) e
 
 -- ---- one of the lists is too long
@@ -106,19 +112,29 @@ not-7 : (a : Csr) → before 7 (matrix-checks a) ≡ matrix-checks a
 unfolding before matrix-checks shape-checks row-checks entry-checks
 not-7 a = refl
 
-time-not-15 : (tau : Float) → before 15 (time-checks tau) ≡ time-checks tau
-unfolding before time-checks
-time-not-15 tau = refl
+time-not-15 : (call : PhiCall) (tau : Float) → before 15 (times call tau) ≡ times call tau
+unfolding before times plan-checks time-checks degree-checks
+time-not-15 (Combination degree) tau = refl
+time-not-15 (Action degree) tau = refl
+time-not-15 (Batch degree) tau = refl
+time-not-15 (Krylov tol m most) tau = refl
 
-output-not-16 : (tau : Float) (b : Bool) (x : Float) → before 16 (time-checks tau ++ (refuse 15 b x ∷ [])) ≡ time-checks tau ++ (refuse 15 b x ∷ [])
-unfolding before time-checks
-output-not-16 tau b x = refl
+output-not-16 : (call : PhiCall) (tau : Float) (b : Bool) (x : Float) → before 16 (times call tau ++ (refuse 15 b x ∷ [])) ≡ times call tau ++ (refuse 15 b x ∷ [])
+unfolding before times plan-checks time-checks degree-checks
+output-not-16 (Combination degree) tau b x = refl
+output-not-16 (Action degree) tau b x = refl
+output-not-16 (Batch degree) tau b x = refl
+output-not-16 (Krylov tol m most) tau b x = refl
+
+-- 15 joined to what stands before it
+lengths-on : (ts : List Check) (c : Check) (rest : List Check) → ts ++ (c ∷ rest) ≡ (ts ++ (c ∷ [])) ++ rest
+lengths-on ts c rest = sym (append-assoc ts (c ∷ []) rest)
 
 low-limit : (call : PhiCall) (k : ℕ) → limit call k .number ≤ 13
 unfolding limit
-low-limit Combination k = omega arith
-low-limit Action k = omega arith
-low-limit Batch k = omega arith
+low-limit (Combination degree) k = omega arith
+low-limit (Action degree) k = omega arith
+low-limit (Batch degree) k = omega arith
 low-limit (Krylov tol m most) k = omega arith
 
 product : (a b : ℕ) → a ≤ 4 → b ≤ 64 → a * b ≤ 256
@@ -126,16 +142,16 @@ product a b la lb = mul-le-mul la lb
 
 few-wanted : (call : PhiCall) (n k : ℕ) → n ≤ 64 → limit call k .holds ≡ false → wanted call n k ≤ 256
 unfolding limit wanted
-few-wanted Combination n k l e = omega (arith, l)
-few-wanted Action n k l e = omega (arith, l)
-few-wanted Batch n k l e = product (suc k) n (omega (arith, ltb-false 3 k e)) l
+few-wanted (Combination degree) n k l e = omega (arith, l)
+few-wanted (Action degree) n k l e = omega (arith, l)
+few-wanted (Batch degree) n k l e = product (suc k) n (omega (arith, ltb-false 3 k e)) l
 few-wanted (Krylov tol m most) n k l e = omega (arith, l)
 
 few-expected : (call : PhiCall) (n k : ℕ) → n ≤ 64 → limit call k .holds ≡ false → expected call n k ≤ 256
 unfolding limit expected
-few-expected Combination n k l e = product k n (ltb-false 4 k (or-false (eqb k 0) (ltb 4 k) e .1)) l
-few-expected Action n k l e = omega (arith, l)
-few-expected Batch n k l e = omega (arith, l)
+few-expected (Combination degree) n k l e = product k n (ltb-false 4 k (or-false (eqb k 0) (ltb 4 k) e .1)) l
+few-expected (Action degree) n k l e = omega (arith, l)
+few-expected (Batch degree) n k l e = omega (arith, l)
 few-expected (Krylov tol m most) n k l e = product k n (ltb-false 4 k (or-false (eqb k 0) (ltb 4 k) e .1)) l
 
 or-true : (b : Bool) → (b || true) ≡ true
@@ -163,12 +179,19 @@ module _ (call : PhiCall) (g : Generator) (tau : Float) (k memory : ℕ) (few : 
   alike-output : (v : List Float) (o p : ℕ) → before 15 (g .checks) ≡ g .checks → 512 < o → 512 ≤ p → Alike 15 (nat o) (first (checks call g tau k v o memory)) (first (checks call g tau k v p memory))
   unfolding checks job length-checks
   alike-output v o p free lo lp =
-      wrong-lengths 15 (g .checks) (limit call k) (time-checks tau) o p (wanted call (g .matrix .n) k) _ _ free (λ e. omega (arith, low-limit call k, e)) (time-not-15 tau) (few-wanted call (g .matrix .n) k few) (omega (arith, lo)) (omega (arith, lp))
+      wrong-lengths 15 (g .checks) (limit call k) (times call tau) o p (wanted call (g .matrix .n) k) _ _ free (λ e. omega (arith, low-limit call k, e)) (time-not-15 call tau) (few-wanted call (g .matrix .n) k few) (omega (arith, lo)) (omega (arith, lp))
+
+  abbrev of-output : ℕ → Check
+  of-output output = refuse 15 (not (eqb output (wanted call (g .matrix .n) k))) (nat output)
+
+  abbrev of-vectors : List Float → List Check
+  of-vectors v = refuse 16 (not (eqb (length v) (expected call (g .matrix .n) k))) (nat (length v)) ∷ others call g tau k v memory
 
   alike-vectors : (v p : List Float) (output : ℕ) → before 16 (g .checks) ≡ g .checks → 512 < length v → 512 ≤ length p → Alike 16 (nat (length v)) (first (checks call g tau k v output memory)) (first (checks call g tau k p output memory))
-  unfolding checks job length-checks time-checks
+  unfolding checks job length-checks
   alike-vectors v p output free lv lp =
-      wrong-lengths 16 (g .checks) (limit call k) (time-checks tau ++ (refuse 15 (not (eqb output (wanted call (g .matrix .n) k))) (nat output) ∷ [])) (length v) (length p) (expected call (g .matrix .n) k) _ _ free (λ e. omega (arith, low-limit call k, e)) (output-not-16 tau _ _) (few-expected call (g .matrix .n) k few) (omega (arith, lv)) (omega (arith, lp))
+      rw (lengths-on (times call tau) (of-output output) (of-vectors v), lengths-on (times call tau) (of-output output) (of-vectors p))
+      (wrong-lengths 16 (g .checks) (limit call k) (times call tau ++ (of-output output ∷ [])) (length v) (length p) (expected call (g .matrix .n) k) _ _ free (λ e. omega (arith, low-limit call k, e)) (output-not-16 call tau _ _) (few-expected call (g .matrix .n) k few) (omega (arith, lv)) (omega (arith, lp)))
 
 -- ---- other columns
 shape-told : Bool → ℕ → ℕ → Numbers

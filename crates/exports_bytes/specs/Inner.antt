@@ -25,16 +25,16 @@ abbrev pub krylov-told : Told → Numbers
 krylov-told t = numbers (t .number) (t .value) (t .substeps) (t .matvecs) (t .rejected)
 
 unfoldable pub told : PhiCall → Told → Numbers
-told Combination = taylor-told
-told Action = taylor-told
-told Batch = taylor-told
+told (Combination degree) = taylor-told
+told (Action degree) = taylor-told
+told (Batch degree) = taylor-told
 told (Krylov tol m limit) = krylov-told
 
 -- the four calls, told as numbers
 unfoldable pub called : PhiCall → Generator → Float → ℕ → List Float → List Float → List Float → Call Numbers
-called Combination g tau k v output memory = answering taylor-numbers (phi-combination g tau k v output memory)
-called Action g tau k v output memory = answering taylor-numbers (phi-action g tau k v output memory)
-called Batch g tau k v output memory = answering taylor-numbers (phi-action-batched g tau k v output memory)
+called (Combination degree) g tau k v output memory = answering taylor-numbers (phi-combination g tau degree k v output memory)
+called (Action degree) g tau k v output memory = answering taylor-numbers (phi-action g tau degree k v output memory)
+called (Batch degree) g tau k v output memory = answering taylor-numbers (phi-action-batched g tau degree k v output memory)
 called (Krylov tol m limit) g tau k v output memory = answering krylov-numbers (phi-combination-krylov g tau k v (options tol m limit) output memory)
 
 -- the same with another double

@@ -18,11 +18,11 @@ ghost use Rattle.exports.specs.Told.{numbers, taylor-numbers, krylov-numbers, o
 ghost use Rattle.exports_bytes.specs.Replies.{large, replies, packed, replied};
 ghost use Rattle.exports_bytes.specs.Inner.{taylor-told, krylov-told, told, revalued, Cut, long-told, called};
 
-// Which call; of Krylov with tol, m and max_substeps.
+// Which call; of Taylor with the highest degree, of Krylov with tol, m and max_substeps.
 enum PhiCall {
-    Combination,
-    Action,
-    Batch,
+    Combination(u32),
+    Action(u32),
+    Batch(u32),
     Krylov(f64, usize, usize),
 }
 
@@ -160,7 +160,7 @@ fn solve(
     ensures { λ r. ⌜ ends (told call r) (now (out .exit)) (now (work .exit)) ≡ called call (forward (csr n (now (starts .entry)) (now (cols .entry)) (now (vals .entry))) (given «with_mass» (now (mass .entry)))) tau k (now (v .entry)) (now (out .entry)) (now (work .entry)) ⌝ }
 {
     match call {
-        PhiCall::Combination => of_taylor(phi_action::phi_combination(
+        PhiCall::Combination(degree) => of_taylor(phi_action::phi_combination(
             n,
             starts,
             cols,
@@ -168,12 +168,13 @@ fn solve(
             with_mass,
             mass,
             tau,
+            degree,
             k,
             v,
             out,
             work,
         )),
-        PhiCall::Action => of_taylor(phi_action::phi_action(
+        PhiCall::Action(degree) => of_taylor(phi_action::phi_action(
             n,
             starts,
             cols,
@@ -181,12 +182,13 @@ fn solve(
             with_mass,
             mass,
             tau,
+            degree,
             k,
             v,
             out,
             work,
         )),
-        PhiCall::Batch => of_taylor(phi_action::phi_action_batched(
+        PhiCall::Batch(degree) => of_taylor(phi_action::phi_action_batched(
             n,
             starts,
             cols,
@@ -194,6 +196,7 @@ fn solve(
             with_mass,
             mass,
             tau,
+            degree,
             k,
             v,
             out,
@@ -409,6 +412,7 @@ pub extern "C" fn hazhendu_phi_combination_bytes(
     with_mass: bool,
     mass: &[u8],
     tau: f64,
+    degree: u32,
     count: usize,
     w: &[u8],
     out: &mut [u8],
@@ -418,10 +422,10 @@ pub extern "C" fn hazhendu_phi_combination_bytes(
     m: &mut u32,
     applications: &mut u64,
 ) -> u32
-    ensures { λ r. ⌜ replies (numbers r (now (value .exit)) (now (s .exit)) (now (m .exit)) (now (applications .exit))) (now (out .exit)) (now (work .exit)) ≡ replied (large n (length (now (vals .entry))) (length (now (work .entry)))) (replies (numbers 255 (now (value .entry)) (now (s .entry)) (now (m .entry)) (now (applications .entry))) (now (out .entry)) (now (work .entry))) (answering taylor-numbers (phi-combination (forward (csr n (numbers-of (now (starts .entry))) (numbers-of (now (cols .entry))) (doubles-of (now (vals .entry)))) (given «with_mass» (doubles-of (now (mass .entry))))) tau count (doubles-of (now (w .entry))) (doubles-of (now (out .entry))) (doubles-of (now (work .entry))))) ⌝ }
+    ensures { λ r. ⌜ replies (numbers r (now (value .exit)) (now (s .exit)) (now (m .exit)) (now (applications .exit))) (now (out .exit)) (now (work .exit)) ≡ replied (large n (length (now (vals .entry))) (length (now (work .entry)))) (replies (numbers 255 (now (value .entry)) (now (s .entry)) (now (m .entry)) (now (applications .entry))) (now (out .entry)) (now (work .entry))) (answering taylor-numbers (phi-combination (forward (csr n (numbers-of (now (starts .entry))) (numbers-of (now (cols .entry))) (doubles-of (now (vals .entry)))) (given «with_mass» (doubles-of (now (mass .entry))))) tau degree count (doubles-of (now (w .entry))) (doubles-of (now (out .entry))) (doubles-of (now (work .entry))))) ⌝ }
 {
     let t = answer(
-        PhiCall::Combination,
+        PhiCall::Combination(degree),
         n,
         starts,
         cols,
@@ -448,6 +452,7 @@ pub extern "C" fn hazhendu_phi_action_bytes(
     with_mass: bool,
     mass: &[u8],
     tau: f64,
+    degree: u32,
     k: usize,
     v: &[u8],
     out: &mut [u8],
@@ -457,10 +462,10 @@ pub extern "C" fn hazhendu_phi_action_bytes(
     m: &mut u32,
     applications: &mut u64,
 ) -> u32
-    ensures { λ r. ⌜ replies (numbers r (now (value .exit)) (now (s .exit)) (now (m .exit)) (now (applications .exit))) (now (out .exit)) (now (work .exit)) ≡ replied (large n (length (now (vals .entry))) (length (now (work .entry)))) (replies (numbers 255 (now (value .entry)) (now (s .entry)) (now (m .entry)) (now (applications .entry))) (now (out .entry)) (now (work .entry))) (answering taylor-numbers (phi-action (forward (csr n (numbers-of (now (starts .entry))) (numbers-of (now (cols .entry))) (doubles-of (now (vals .entry)))) (given «with_mass» (doubles-of (now (mass .entry))))) tau k (doubles-of (now (v .entry))) (doubles-of (now (out .entry))) (doubles-of (now (work .entry))))) ⌝ }
+    ensures { λ r. ⌜ replies (numbers r (now (value .exit)) (now (s .exit)) (now (m .exit)) (now (applications .exit))) (now (out .exit)) (now (work .exit)) ≡ replied (large n (length (now (vals .entry))) (length (now (work .entry)))) (replies (numbers 255 (now (value .entry)) (now (s .entry)) (now (m .entry)) (now (applications .entry))) (now (out .entry)) (now (work .entry))) (answering taylor-numbers (phi-action (forward (csr n (numbers-of (now (starts .entry))) (numbers-of (now (cols .entry))) (doubles-of (now (vals .entry)))) (given «with_mass» (doubles-of (now (mass .entry))))) tau degree k (doubles-of (now (v .entry))) (doubles-of (now (out .entry))) (doubles-of (now (work .entry))))) ⌝ }
 {
     let t = answer(
-        PhiCall::Action,
+        PhiCall::Action(degree),
         n,
         starts,
         cols,
@@ -487,6 +492,7 @@ pub extern "C" fn hazhendu_phi_action_batched_bytes(
     with_mass: bool,
     mass: &[u8],
     tau: f64,
+    degree: u32,
     p: usize,
     v: &[u8],
     out: &mut [u8],
@@ -496,10 +502,10 @@ pub extern "C" fn hazhendu_phi_action_batched_bytes(
     m: &mut u32,
     applications: &mut u64,
 ) -> u32
-    ensures { λ r. ⌜ replies (numbers r (now (value .exit)) (now (s .exit)) (now (m .exit)) (now (applications .exit))) (now (out .exit)) (now (work .exit)) ≡ replied (large n (length (now (vals .entry))) (length (now (work .entry)))) (replies (numbers 255 (now (value .entry)) (now (s .entry)) (now (m .entry)) (now (applications .entry))) (now (out .entry)) (now (work .entry))) (answering taylor-numbers (phi-action-batched (forward (csr n (numbers-of (now (starts .entry))) (numbers-of (now (cols .entry))) (doubles-of (now (vals .entry)))) (given «with_mass» (doubles-of (now (mass .entry))))) tau p (doubles-of (now (v .entry))) (doubles-of (now (out .entry))) (doubles-of (now (work .entry))))) ⌝ }
+    ensures { λ r. ⌜ replies (numbers r (now (value .exit)) (now (s .exit)) (now (m .exit)) (now (applications .exit))) (now (out .exit)) (now (work .exit)) ≡ replied (large n (length (now (vals .entry))) (length (now (work .entry)))) (replies (numbers 255 (now (value .entry)) (now (s .entry)) (now (m .entry)) (now (applications .entry))) (now (out .entry)) (now (work .entry))) (answering taylor-numbers (phi-action-batched (forward (csr n (numbers-of (now (starts .entry))) (numbers-of (now (cols .entry))) (doubles-of (now (vals .entry)))) (given «with_mass» (doubles-of (now (mass .entry))))) tau degree p (doubles-of (now (v .entry))) (doubles-of (now (out .entry))) (doubles-of (now (work .entry))))) ⌝ }
 {
     let t = answer(
-        PhiCall::Batch,
+        PhiCall::Batch(degree),
         n,
         starts,
         cols,

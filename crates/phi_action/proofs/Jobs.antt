@@ -13,7 +13,7 @@ use Rattle.general_operator.specs.Csr.{Csr, csr}
 use Rattle.generator_action.specs.Mass.{given, stored}
 use Rattle.csr_shift.specs.Shift.{negated-csr-shift}
 use Rattle.csr_shift.specs.declared.Shift.{Shift}
-use Rattle.expmv.specs.Select.{M-MAX, Bounds}
+use Rattle.expmv.specs.Select.{Bounds}
 use Rattle.phi_action_helpers.specs.declared.SweepPlan.{SweepPlan}
 use Rattle.phi_action_helpers.specs.declared.Layout.{Layout}
 use Rattle.phi_action_helpers.specs.Augmented.{Augmented}
@@ -61,13 +61,13 @@ module _ {starts cols : List ℕ} {vals mass w₀ : List Float} {j : Job} (h : A
   a = csr (j .g .n) starts cols vals
 
   -- the row that the checks found has a plan
-  pub planned : (q : Csr) → sweep-plan M-MAX (j .tau) q (j .g .norm) ≡ Plan (plan-by j q)
-  planned q = sym (plan-ways.planned M-MAX (j .tau) q (j .g .norm) refl refl (h .row) refl refl)
+  pub planned : (q : Csr) → sweep-plan (j .cap) (j .tau) q (j .g .norm) ≡ Plan (plan-by j q)
+  planned q = sym (plan-ways.planned (j .cap) (j .tau) q (j .g .norm) refl refl (h .row) refl refl)
 
-  pub bounded : {p : SweepPlan} (q : Csr) → p ≡ plan-by j q → Bounds M-MAX (p .s) (p .m)
-  bounded q e = rw e (plan-bounded M-MAX (j .tau) q (j .g .norm) (planned q))
+  pub bounded : {p : SweepPlan} (q : Csr) → p ≡ plan-by j q → Bounds (j .cap) (p .s) (p .m)
+  bounded q e = rw e (plan-bounded (j .cap) (j .tau) q (j .g .norm) (planned q))
 
-  pub ends-planned : (out : List Float) (q : Csr) (run : SweepPlan → Fields) → job-end j q run w₀ ≡ after-plan (j .need) (j .tau) (j .g .norm) out w₀ (sweep-plan M-MAX (j .tau) q (j .g .norm)) run
+  pub ends-planned : (out : List Float) (q : Csr) (run : SweepPlan → Fields) → job-end j q run w₀ ≡ after-plan (j .need) (j .tau) (j .g .norm) out w₀ (sweep-plan (j .cap) (j .tau) q (j .g .norm)) run
   unfolding after-plan
   ends-planned out q run = rw (planned q) refl
 
@@ -87,7 +87,7 @@ module _ {starts cols : List ℕ} {vals mass w₀ : List Float} {j : Job} (h : A
       pub still-enough : {w₂ : List Float} → Kept 0 (l .q) +0 w₁ w₂ → j .need ≤ length w₂
       still-enough k = omega (arith, h .enough, k .long, long₁ held e₁)
 
-      pub plan-is : {shift : Shift} {p : SweepPlan} → shift ≡ negated-csr-shift (matrix-at l starts cols vals w₁) (j .g .norm) → p ≡ with-shift M-MAX (j .tau) (j .s) (j .m) shift
+      pub plan-is : {shift : Shift} {p : SweepPlan} → shift ≡ negated-csr-shift (matrix-at l starts cols vals w₁) (j .g .norm) → p ≡ with-shift (j .cap) (j .tau) (j .s) (j .m) shift
           → p ≡ plan-by j (matrix-of (j .g) starts cols vals mass)
       plan-is e f = f ∙ rw (e, matrix-is held e₁) refl
 

@@ -10,7 +10,6 @@ use Rattle.checks.specs.First.{Check, first}
 use Rattle.general_operator.specs.Csr.{row-sum-norm}
 use Rattle.generator_action.specs.Mass.{open-Mass}
 use Rattle.generator_action.specs.Generator.{Generator}
-use Rattle.expmv.specs.Select.{M-MAX}
 use Rattle.pow2.specs.Pow2.{sup, eta-scaling}
 use Rattle.phi_action_helpers.specs.Augmented.{Augmented}
 use Rattle.phi_action_helpers.specs.Sweeps.{run-sweeps}
@@ -22,7 +21,7 @@ use Rattle.phi_action.specs.declared.TaylorAnswer.{TaylorAnswer}
 use Rattle.phi_action.specs.declared.TaylorAnswer.the-variants.{Refusal, Soaked}
 use Rattle.combination.specs.Combination.{eta-of, combination-operator, combination-start, action-operator, init-aug-vector}
 use Rattle.combination.specs.Call.{Call, ends, unless-refused, cleared, open-Call}
-use Rattle.combination.specs.Checks.{vector-checks, sweep-checks, job-checks, taylor-need, open-Checks}
+use Rattle.combination.specs.Checks.{plan-checks, vector-checks, sweep-checks, job-checks, taylor-need, open-Checks}
 
 -- the fields made, and the products with the generator
 pub record Fields : Type 0 where
@@ -41,35 +40,35 @@ after-plan need tau norm output memory (Plan p) run = ends (report p (run p .app
 unfoldable pub soaked : Augmented → Float → List Float → SweepPlan → Fields
 soaked b tau y p = let r = run-sweeps b tau p y in record { fields = window 0 (b .matrix .n) (r .y); applied = r .applied }
 
--- ---- `phi_combination` of `count` vectors in one slice
-unfoldable pub combination-checks : Generator → Float → ℕ → List Float → ℕ → ℕ → List Check
-combination-checks g tau count w output memory =
+-- ---- `phi_combination` of `count` vectors in one slice; no degree of the plan is above the cap (document 02, N7)
+unfoldable pub combination-checks : Generator → Float → ℕ → ℕ → List Float → ℕ → ℕ → List Check
+combination-checks g tau cap count w output memory =
     let n = g .matrix .n in
     g .checks
-    ++ (vector-checks n tau count w output
-    ++ sweep-checks n tau (count - 1) w (row-sum-norm (g .matrix)) memory (taylor-need n (count - 1) (g .stored)))
+    ++ (vector-checks n (plan-checks tau cap) count w output
+    ++ sweep-checks n tau cap (count - 1) w (row-sum-norm (g .matrix)) memory (taylor-need n (count - 1) (g .stored)))
 
-unfoldable pub phi-combination : Generator → Float → ℕ → List Float → List Float → List Float → Call TaylorAnswer
-phi-combination g tau count w output memory =
+unfoldable pub phi-combination : Generator → Float → ℕ → ℕ → List Float → List Float → List Float → Call TaylorAnswer
+phi-combination g tau cap count w output memory =
     let d = count - 1 in
     let q = g .matrix in
     let eta = eta-of (q .n) w tau d in
-    unless-refused Refusal (first (combination-checks g tau count w (length output) (length memory))) output memory
-    (after-plan (taylor-need (q .n) d (g .stored)) tau (row-sum-norm q) output memory (sweep-plan M-MAX tau q (row-sum-norm q))
+    unless-refused Refusal (first (combination-checks g tau cap count w (length output) (length memory))) output memory
+    (after-plan (taylor-need (q .n) d (g .stored)) tau (row-sum-norm q) output memory (sweep-plan cap tau q (row-sum-norm q))
     (soaked (combination-operator q w tau d (eta .eta)) tau (combination-start (q .n) w d (eta .inv))))
 
 -- ---- `phi_action` of index k, `phi_action_batched` of the indices 0 to p
-unfoldable pub action-checks : Generator → Float → ℕ → List Float → ℕ → ℕ → ℕ → List Check
-action-checks g tau k v output wanted memory =
+unfoldable pub action-checks : Generator → Float → ℕ → ℕ → List Float → ℕ → ℕ → ℕ → List Check
+action-checks g tau cap k v output wanted memory =
     let n = g .matrix .n in
-    g .checks ++ job-checks k tau output wanted v n (row-sum-norm (g .matrix)) memory (taylor-need n 3 (g .stored))
+    g .checks ++ job-checks k tau cap output wanted v n (row-sum-norm (g .matrix)) memory (taylor-need n 3 (g .stored))
 
-unfoldable pub phi-action : Generator → Float → ℕ → List Float → List Float → List Float → Call TaylorAnswer
-phi-action g tau k v output memory =
+unfoldable pub phi-action : Generator → Float → ℕ → ℕ → List Float → List Float → List Float → Call TaylorAnswer
+phi-action g tau cap k v output memory =
     let q = g .matrix in
     let eta = eta-scaling (sup v) in
-    unless-refused Refusal (first (action-checks g tau k v (length output) (q .n) (length memory))) output memory
-    (after-plan (taylor-need (q .n) 3 (g .stored)) tau (row-sum-norm q) output memory (sweep-plan M-MAX tau q (row-sum-norm q))
+    unless-refused Refusal (first (action-checks g tau cap k v (length output) (q .n) (length memory))) output memory
+    (after-plan (taylor-need (q .n) 3 (g .stored)) tau (row-sum-norm q) output memory (sweep-plan cap tau q (row-sum-norm q))
     (soaked (action-operator q v (eta .eta)) tau (init-aug-vector (q .n) v (eta .inv) k)))
 
 -- one more function of a batch
@@ -81,12 +80,12 @@ batch-step b tau p v inv k r =
 unfoldable pub batched : Augmented → Float → List Float → Float → ℕ → SweepPlan → Fields
 batched b tau v inv k p = iter (batch-step b tau p v inv) k (record { fields = []; applied = 0 })
 
-unfoldable pub phi-action-batched : Generator → Float → ℕ → List Float → List Float → List Float → Call TaylorAnswer
-phi-action-batched g tau p v output memory =
+unfoldable pub phi-action-batched : Generator → Float → ℕ → ℕ → List Float → List Float → List Float → Call TaylorAnswer
+phi-action-batched g tau cap p v output memory =
     let q = g .matrix in
     let eta = eta-scaling (sup v) in
-    unless-refused Refusal (first (action-checks g tau p v (length output) (suc p * q .n) (length memory))) output memory
-    (after-plan (taylor-need (q .n) 3 (g .stored)) tau (row-sum-norm q) output memory (sweep-plan M-MAX tau q (row-sum-norm q))
+    unless-refused Refusal (first (action-checks g tau cap p v (length output) (suc p * q .n) (length memory))) output memory
+    (after-plan (taylor-need (q .n) 3 (g .stored)) tau (row-sum-norm q) output memory (sweep-plan cap tau q (row-sum-norm q))
     (batched (action-operator q v (eta .eta)) tau v (eta .inv) (suc p)))
 
 -- to compute: a line `unfolding open-Calls` opens every definition of this file and of those below it

@@ -9,7 +9,7 @@ use Rattle.general_operator.specs.Csr.{Csr, csr}
 use Rattle.generator_action.specs.Mass.{given}
 use Rattle.generator_action.specs.Known.{Passed}
 use Rattle.csr_shift.specs.Shift.{negated-csr-shift}
-use Rattle.expmv.specs.Select.{select-s-m, M-MAX}
+use Rattle.expmv.specs.Select.{select-s-m}
 use Rattle.expmv.specs.declared.Selected.the-variants.{Row}
 use Rattle.phi_action_helpers.specs.Augmented.{Augmented, augmented}
 use Rattle.phi_action_helpers.specs.declared.Layout.{Layout}
@@ -32,11 +32,11 @@ pub record Allowed (starts cols : List ℕ) (vals mass work : List Float) (j : J
   pub short : j .d ≤ 3
   pub needed : j .need ≡ taylor-need (j .g .n) (j .d) (j .g .stored)
   pub enough : j .need ≤ length work
-  pub row : select-s-m M-MAX (argument (j .tau) (j .g .norm)) ≡ Row (j .s) (j .m)
+  pub row : select-s-m (j .cap) (argument (j .tau) (j .g .norm)) ≡ Row (j .s) (j .m)
 
 -- the plan from the row that the checks found
 abbrev pub plan-by : Job → Csr → SweepPlan
-plan-by j q = with-shift M-MAX (j .tau) (j .s) (j .m) (negated-csr-shift q (j .g .norm))
+plan-by j q = with-shift (j .cap) (j .tau) (j .s) (j .m) (negated-csr-shift q (j .g .norm))
 
 abbrev pub operator-by : Job → Csr → List Float → Augmented
 operator-by j q vectors = augmented q (j .d) vectors (j .b .places) (j .b .gains) (j .b .count)

@@ -89,7 +89,7 @@ fn prepare(
     let q = l.q;
     generator_action::store_quotients(g.n, starts, cols, vals, g.with_mass, mass, work, q);
     let shift = shift_at(starts, cols, vals, work, l, g.norm);
-    phi_shift::with_shift(expmv::M_MAX, j.tau, j.s, j.m, shift)
+    phi_shift::with_shift(j.cap, j.tau, j.s, j.m, shift)
 }
 
 // The sweeps, and their n values from `place` of the output on.
@@ -167,20 +167,22 @@ fn combined(
     mass: &[f64],
     g: Shape,
     tau: f64,
+    cap: u32,
     count: usize,
     w: &[f64],
     out: &mut [f64],
     work: &mut [f64],
 ) -> TaylorAnswer
     requires { ⌜ Passed (csr (g .n) (now starts) (now cols) (now vals)) (given (g .«with_mass») (now mass)) g ⌝ }
-    ensures { λ r. ⌜ ((gs : List Check) → Sound ≡ first gs → ends r (now (out .exit)) (now (work .exit)) ≡ phi-combination (after-checks gs (csr (g .n) (now (starts .entry)) (now (cols .entry)) (now (vals .entry))) (given (g .«with_mass») (now (mass .entry))) g) tau count (now (w .entry)) (now (out .entry)) (now (work .entry))) ⌝ }
+    ensures { λ r. ⌜ ((gs : List Check) → Sound ≡ first gs → ends r (now (out .exit)) (now (work .exit)) ≡ phi-combination (after-checks gs (csr (g .n) (now (starts .entry)) (now (cols .entry)) (now (vals .entry))) (given (g .«with_mass») (now (mass .entry))) g) tau cap count (now (w .entry)) (now (out .entry)) (now (work .entry))) ⌝ }
 {
-    let vectors = combination::validate_combination(g.n, tau, count, w, out.len());
+    let time = combination::check_plan(tau, cap);
+    let vectors = combination::validate_combination(g.n, time, count, w, out.len());
     let Checked::Sound = vectors else {
         return TaylorAnswer::Refusal(checks::number(vectors), checks::reported(vectors));
     };
     let d = count - 1;
-    let j = combination::admit_combination(g, tau, d, w, work.len());
+    let j = combination::admit_combination(g, tau, cap, d, w, work.len());
     let checked = j.checked;
     let Checked::Sound = checked else {
         return TaylorAnswer::Refusal(checks::number(checked), checks::reported(checked));
@@ -198,12 +200,13 @@ pub fn phi_combination(
     with_mass: bool,
     mass: &[f64],
     tau: f64,
+    cap: u32,
     count: usize,
     w: &[f64],
     out: &mut [f64],
     work: &mut [f64],
 ) -> TaylorAnswer
-    ensures { λ r. ⌜ ends r (now (out .exit)) (now (work .exit)) ≡ phi-combination (forward (csr n (now (starts .entry)) (now (cols .entry)) (now (vals .entry))) (given «with_mass» (now (mass .entry)))) tau count (now (w .entry)) (now (out .entry)) (now (work .entry)) ⌝ }
+    ensures { λ r. ⌜ ends r (now (out .exit)) (now (work .exit)) ≡ phi-combination (forward (csr n (now (starts .entry)) (now (cols .entry)) (now (vals .entry))) (given «with_mass» (now (mass .entry)))) tau cap count (now (w .entry)) (now (out .entry)) (now (work .entry)) ⌝ }
 {
     let matrix = generator_action::check_generator(n, starts, cols, vals, with_mass, mass);
     let MatrixAnswer::Norm(norm, _) = matrix else {
@@ -213,7 +216,7 @@ pub fn phi_combination(
         );
     };
     let g = generator_action::generator_shape(n, with_mass, vals.len(), norm);
-    combined(starts, cols, vals, mass, g, tau, count, w, out, work)
+    combined(starts, cols, vals, mass, g, tau, cap, count, w, out, work)
 }
 
 // The action over a generator that passed its checks.
@@ -224,15 +227,16 @@ fn acted(
     mass: &[f64],
     g: Shape,
     tau: f64,
+    cap: u32,
     k: usize,
     v: &[f64],
     out: &mut [f64],
     work: &mut [f64],
 ) -> TaylorAnswer
     requires { ⌜ Passed (csr (g .n) (now starts) (now cols) (now vals)) (given (g .«with_mass») (now mass)) g ⌝ }
-    ensures { λ r. ⌜ ((gs : List Check) → Sound ≡ first gs → ends r (now (out .exit)) (now (work .exit)) ≡ phi-action (after-checks gs (csr (g .n) (now (starts .entry)) (now (cols .entry)) (now (vals .entry))) (given (g .«with_mass») (now (mass .entry))) g) tau k (now (v .entry)) (now (out .entry)) (now (work .entry))) ⌝ }
+    ensures { λ r. ⌜ ((gs : List Check) → Sound ≡ first gs → ends r (now (out .exit)) (now (work .exit)) ≡ phi-action (after-checks gs (csr (g .n) (now (starts .entry)) (now (cols .entry)) (now (vals .entry))) (given (g .«with_mass») (now (mass .entry))) g) tau cap k (now (v .entry)) (now (out .entry)) (now (work .entry))) ⌝ }
 {
-    let j = combination::admit_action(g, tau, k, v, out.len(), g.n, work.len());
+    let j = combination::admit_action(g, tau, cap, k, v, out.len(), g.n, work.len());
     let checked = j.checked;
     let Checked::Sound = checked else {
         return TaylorAnswer::Refusal(checks::number(checked), checks::reported(checked));
@@ -250,12 +254,13 @@ pub fn phi_action(
     with_mass: bool,
     mass: &[f64],
     tau: f64,
+    cap: u32,
     k: usize,
     v: &[f64],
     out: &mut [f64],
     work: &mut [f64],
 ) -> TaylorAnswer
-    ensures { λ r. ⌜ ends r (now (out .exit)) (now (work .exit)) ≡ phi-action (forward (csr n (now (starts .entry)) (now (cols .entry)) (now (vals .entry))) (given «with_mass» (now (mass .entry)))) tau k (now (v .entry)) (now (out .entry)) (now (work .entry)) ⌝ }
+    ensures { λ r. ⌜ ends r (now (out .exit)) (now (work .exit)) ≡ phi-action (forward (csr n (now (starts .entry)) (now (cols .entry)) (now (vals .entry))) (given «with_mass» (now (mass .entry)))) tau cap k (now (v .entry)) (now (out .entry)) (now (work .entry)) ⌝ }
 {
     let matrix = generator_action::check_generator(n, starts, cols, vals, with_mass, mass);
     let MatrixAnswer::Norm(norm, _) = matrix else {
@@ -265,7 +270,7 @@ pub fn phi_action(
         );
     };
     let g = generator_action::generator_shape(n, with_mass, vals.len(), norm);
-    acted(starts, cols, vals, mass, g, tau, k, v, out, work)
+    acted(starts, cols, vals, mass, g, tau, cap, k, v, out, work)
 }
 
 // The sweeps of phi_0 up to phi_(count - 1), one after the other; the products of all.
@@ -335,20 +340,21 @@ fn acted_batched(
     mass: &[f64],
     g: Shape,
     tau: f64,
+    cap: u32,
     p: usize,
     v: &[f64],
     out: &mut [f64],
     work: &mut [f64],
 ) -> TaylorAnswer
     requires { ⌜ Passed (csr (g .n) (now starts) (now cols) (now vals)) (given (g .«with_mass») (now mass)) g ⌝ }
-    ensures { λ r. ⌜ ((gs : List Check) → Sound ≡ first gs → ends r (now (out .exit)) (now (work .exit)) ≡ phi-action-batched (after-checks gs (csr (g .n) (now (starts .entry)) (now (cols .entry)) (now (vals .entry))) (given (g .«with_mass») (now (mass .entry))) g) tau p (now (v .entry)) (now (out .entry)) (now (work .entry))) ⌝ }
+    ensures { λ r. ⌜ ((gs : List Check) → Sound ≡ first gs → ends r (now (out .exit)) (now (work .exit)) ≡ phi-action-batched (after-checks gs (csr (g .n) (now (starts .entry)) (now (cols .entry)) (now (vals .entry))) (given (g .«with_mass») (now (mass .entry))) g) tau cap p (now (v .entry)) (now (out .entry)) (now (work .entry))) ⌝ }
 {
     let index = combination::check_index(p);
     let Checked::Sound = index else {
         return TaylorAnswer::Refusal(checks::number(index), checks::reported(index));
     };
     let count = p + 1;
-    let j = combination::admit_action(g, tau, p, v, out.len(), count * g.n, work.len());
+    let j = combination::admit_action(g, tau, cap, p, v, out.len(), count * g.n, work.len());
     let checked = j.checked;
     let Checked::Sound = checked else {
         return TaylorAnswer::Refusal(checks::number(checked), checks::reported(checked));
@@ -365,12 +371,13 @@ pub fn phi_action_batched(
     with_mass: bool,
     mass: &[f64],
     tau: f64,
+    cap: u32,
     p: usize,
     v: &[f64],
     out: &mut [f64],
     work: &mut [f64],
 ) -> TaylorAnswer
-    ensures { λ r. ⌜ ends r (now (out .exit)) (now (work .exit)) ≡ phi-action-batched (forward (csr n (now (starts .entry)) (now (cols .entry)) (now (vals .entry))) (given «with_mass» (now (mass .entry)))) tau p (now (v .entry)) (now (out .entry)) (now (work .entry)) ⌝ }
+    ensures { λ r. ⌜ ends r (now (out .exit)) (now (work .exit)) ≡ phi-action-batched (forward (csr n (now (starts .entry)) (now (cols .entry)) (now (vals .entry))) (given «with_mass» (now (mass .entry)))) tau cap p (now (v .entry)) (now (out .entry)) (now (work .entry)) ⌝ }
 {
     let matrix = generator_action::check_generator(n, starts, cols, vals, with_mass, mass);
     let MatrixAnswer::Norm(norm, _) = matrix else {
@@ -380,5 +387,5 @@ pub fn phi_action_batched(
         );
     };
     let g = generator_action::generator_shape(n, with_mass, vals.len(), norm);
-    acted_batched(starts, cols, vals, mass, g, tau, p, v, out, work)
+    acted_batched(starts, cols, vals, mass, g, tau, cap, p, v, out, work)
 }

@@ -23,7 +23,7 @@ use Rattle.generator_action.specs.declared.Shape.{Shape}
 use Rattle.phi_action_helpers.specs.Augmented.{augmented}
 use Rattle.combination.specs.Combination.{combination-operator, combination-start}
 use Rattle.combination.specs.Call.{Call, ends, cleared}
-use Rattle.combination.specs.Checks.{vector-checks, magnitude-checks}
+use Rattle.combination.specs.Checks.{time-checks, vector-checks, magnitude-checks}
 use Rattle.combination.specs.Inner.{matrix-of, after-checks}
 use Rattle.combination.proofs.Admitted.{Vectors, vectors-known, vectors-within, first-within, coupled-in, enough-known, length-start}
 use Rattle.combination.proofs.Stored.{quotients-rows, clear-over}
@@ -131,7 +131,7 @@ module _
     (o : KrylovPhiOptions)
     (out w₀ : List Float)
     {v : Checked}
-    (fv : v ≡ first (vector-checks (g .n) tau count w (length out))) where
+    (fv : v ≡ first (vector-checks (g .n) (time-checks tau) count w (length out))) where
   abbrev generator : Generator
   generator = after-checks gs (csr (g .n) starts cols vals) (given (g .«with_mass») mass) g
 
@@ -140,14 +140,14 @@ module _
 
   pub refused-vectors : {k : ℕ} {x : Float} → v ≡ Refused k x → ends (Refusal k x) out w₀ ≡ phi-combination-krylov generator tau count w o out w₀
   unfolding phi-combination-krylov krylov-checks
-  refused-vectors e = refused-by Refusal _ out w₀ _ e (sound-on gs _ refl sound (rw rows (refused-up (vector-checks (g .n) tau count w (length out)) _ e fv)))
+  refused-vectors e = refused-by Refusal _ out w₀ _ e (sound-on gs _ refl sound (rw rows (refused-up (vector-checks (g .n) (time-checks tau) count w (length out)) _ e fv)))
 
   -- 12 to 17 passed
   module _ (ev : v ≡ Sound) {M : ℕ} (em : M ≡ clamp-m (o .m) (g .n + (count - 1))) {p : Checked} (fp : p ≡ first (option-checks o M)) where
     told : {r : Checked} → r ≡ first (option-checks o M ++ run-checks (g .n) tau (count - 1) w (bound tau (g .norm)) (length w₀) (krylov-need (g .n) (count - 1) M (g .stored)))
         → r ≡ first (krylov-checks generator tau count w o (length out) (length w₀))
     unfolding krylov-checks dimension
-    told f = sound-on gs _ refl sound (rw (← (ok .norm), rows) (sound-on (vector-checks (g .n) tau count w (length out)) _ ev fv (rw (← em) f)))
+    told f = sound-on gs _ refl sound (rw (← (ok .norm), rows) (sound-on (vector-checks (g .n) (time-checks tau) count w (length out)) _ ev fv (rw (← em) f)))
 
     pub refused-options : {k : ℕ} {x : Float} → p ≡ Refused k x → ends (Refusal k x) out w₀ ≡ phi-combination-krylov generator tau count w o out w₀
     unfolding phi-combination-krylov
@@ -169,7 +169,7 @@ module _
       combined-is e e₁ f =
           let J = run-job g tau (count - 1) w o M (length w₀) in
           let q = generator .matrix in
-          let known = vectors-known (g .n) tau count w (length out) ev fv in
+          let known = vectors-known (g .n) (time-checks tau) count w (length out) ev fv in
           let al = allowed mass ok w o known (options-known o M ep fp) em ej e in
           let y = combination-start (g .n) w (J .d) (J .inv) in
           let ly = length-start (g .n) w (J .d) (J .inv) (first-within known) in

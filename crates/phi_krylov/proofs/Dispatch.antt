@@ -20,9 +20,9 @@ unfolding answering
 answered f x {r} {out₁} {w₁} {c} er ec = (λ i. ends (er i) out₁ w₁) ∙ ap (answering f) ec
 
 module _ (g : Generator) (tau : Float) (count : ℕ) (w out w₀ : List Float) {s : PhiSolver} {r : PhiAnswer} {out₁ w₁ : List Float} where
-  pub by-taylor : {x : TaylorAnswer} → s ≡ Taylor → r ≡ of-taylor x → ends x out₁ w₁ ≡ phi-combination g tau count w out w₀ → ends r out₁ w₁ ≡ combine s g tau count w out w₀
+  pub by-taylor : {cap : ℕ} {x : TaylorAnswer} → s ≡ Taylor cap → r ≡ of-taylor x → ends x out₁ w₁ ≡ phi-combination g tau cap count w out w₀ → ends r out₁ w₁ ≡ combine s g tau count w out w₀
   unfolding combine
-  by-taylor {x} es er ec = rw es (answered of-taylor x er ec)
+  by-taylor {cap} {x} es er ec = rw es (answered of-taylor x er ec)
 
   pub by-krylov : {o : KrylovPhiOptions} {x : KrylovAnswer} → s ≡ Krylov o → r ≡ of-krylov x → ends x out₁ w₁ ≡ phi-combination-krylov g tau count w o out w₀
       → ends r out₁ w₁ ≡ combine s g tau count w out w₀

@@ -28,5 +28,5 @@ unfoldable pub answering : {A B : Type 0} → (A → B) → Call A → Call B
 answering f c = ends (f (c .answer)) (c .output) (c .memory)
 
 unfoldable pub combine : PhiSolver → Generator → Float → ℕ → List Float → List Float → List Float → Call PhiAnswer
-combine solver.Taylor g tau count w output memory = answering of-taylor (phi-combination g tau count w output memory)
+combine (solver.Taylor cap) g tau count w output memory = answering of-taylor (phi-combination g tau cap count w output memory)
 combine (solver.Krylov o) g tau count w output memory = answering of-krylov (phi-combination-krylov g tau count w o output memory)

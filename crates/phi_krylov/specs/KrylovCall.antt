@@ -14,7 +14,7 @@ use Rattle.generator_action.specs.Mass.{open-Mass}
 use Rattle.generator_action.specs.Generator.{Generator}
 use Rattle.combination.specs.Combination.{eta-of, combination-operator, combination-start}
 use Rattle.combination.specs.Call.{Call, ends, unless-refused, cleared, open-Call}
-use Rattle.combination.specs.Checks.{vector-checks, magnitude-checks, memory-checks, open-Checks}
+use Rattle.combination.specs.Checks.{time-checks, vector-checks, magnitude-checks, memory-checks, open-Checks}
 use Rattle.phi_krylov_arnoldi.specs.Run.{End, finished, refused, clamp-m, expv, open-Run}
 use Rattle.phi_krylov.specs.declared.KrylovPhiOptions.{KrylovPhiOptions}
 use Rattle.phi_krylov.specs.declared.KrylovAnswer.{KrylovAnswer}
@@ -53,7 +53,7 @@ krylov-checks g tau count w o output memory =
     let d = count - 1 in
     let M = dimension n d (o .m) in
     g .checks
-    ++ (vector-checks n tau count w output
+    ++ (vector-checks n (time-checks tau) count w output
     ++ (option-checks o M
     ++ run-checks n tau d w (bound tau (row-sum-norm (g .matrix))) memory (krylov-need n d M (g .stored))))
 

@@ -47,9 +47,9 @@ pub enum KrylovAnswer {
     Soaked(KrylovPhiReport),
 }
 
-// Which evaluator a combination uses.
+// Which evaluator a combination uses; Taylor's plan has a highest degree.
 pub enum PhiSolver {
-    Taylor,
+    Taylor(u32),
     Krylov(KrylovPhiOptions),
 }
 
@@ -293,7 +293,8 @@ fn combined(
     requires { ⌜ Passed (csr (g .n) (now starts) (now cols) (now vals)) (given (g .«with_mass») (now mass)) g ⌝ }
     ensures { λ r. ⌜ ((gs : List Check) → Sound ≡ first gs → ends r (now (out .exit)) (now (work .exit)) ≡ phi-combination-krylov (after-checks gs (csr (g .n) (now (starts .entry)) (now (cols .entry)) (now (vals .entry))) (given (g .«with_mass») (now (mass .entry))) g) tau count (now (w .entry)) o (now (out .entry)) (now (work .entry))) ⌝ }
 {
-    let vectors = combination::validate_combination(g.n, tau, count, w, out.len());
+    let time = combination::check_time(tau);
+    let vectors = combination::validate_combination(g.n, time, count, w, out.len());
     let Checked::Sound = vectors else {
         return KrylovAnswer::Refusal(checks::number(vectors), checks::reported(vectors));
     };
@@ -376,7 +377,7 @@ pub fn combine(
     ensures { λ r. ⌜ ends r (now (out .exit)) (now (work .exit)) ≡ combine solver (forward (csr n (now (starts .entry)) (now (cols .entry)) (now (vals .entry))) (given «with_mass» (now (mass .entry)))) tau count (now (w .entry)) (now (out .entry)) (now (work .entry)) ⌝ }
 {
     match solver {
-        PhiSolver::Taylor => of_taylor(phi_action::phi_combination(
+        PhiSolver::Taylor(cap) => of_taylor(phi_action::phi_combination(
             n,
             starts,
             cols,
@@ -384,6 +385,7 @@ pub fn combine(
             with_mass,
             mass,
             tau,
+            cap,
             count,
             w,
             out,

@@ -1,6 +1,6 @@
 //! Heat conduction on a plate of rectangles: each conducts to its neighbours and a little to the air.
 
-use jobs::{Call, Job};
+use jobs::{Call, Job, DEGREE};
 
 /// tau times the norm of the generator: some dozens of Taylor products a sweep.
 const STIFFNESS: f64 = 60.0;
@@ -43,8 +43,20 @@ fn masses(n: usize) -> Vec<f64> {
 pub fn job(size: (usize, usize), with_mass: bool, call: Call, count: usize) -> Job {
     let n = size.0 * size.1;
     let (starts, cols, vals) = matrix(size);
-    let mut job =
-        Job { call, n, starts, cols, vals, mass: with_mass.then(|| masses(n)), tau: STIFFNESS / 8.01, count, w: vec![], out: 0, work: 0 };
+    let mut job = Job {
+        call,
+        n,
+        starts,
+        cols,
+        vals,
+        mass: with_mass.then(|| masses(n)),
+        tau: STIFFNESS / 8.01,
+        degree: DEGREE,
+        count,
+        w: vec![],
+        out: 0,
+        work: 0,
+    };
     job.w = (0..job.vectors())
         .map(|i| if i < n { 1.0 / (1.0 + (i as f64 - n as f64 / 2.0).abs()) } else { 0.05 * ((i - n) % size.1 < 2) as u8 as f64 })
         .collect();

@@ -1,10 +1,10 @@
 //! The reference answer of a job: the Rust's where the job is in its domain, and where document 01 or 02 adds a refusal
-//! (3, 9, 16, 20, 26, and 15 and 17 of the action calls) that number, unless the Rust refuses by a lower one. So too where
-//! there would be more vectors (12) than a slice of slices can hold.
+//! (3, 9, 33, 16, 20, 26, and 15 and 17 of the action calls) that number, unless the Rust refuses by one that is met before
+//! it. So too where there would be more vectors (12) than a slice of slices can hold.
 
-use jobs::{Answer, Call, Job};
+use jobs::{Answer, Call, Job, DEGREE};
 
-/// The least added refusal of a job that passes the checks before it, with its double.
+/// The first added refusal of a job that passes the checks before it, with its double.
 pub fn added(job: &Job) -> Option<(u32, f64)> {
     let action = matches!(job.call, Call::Action | Call::Batched);
     if job.n > 1_000_000 || job.vals.len() > 16_777_216 {
@@ -15,6 +15,9 @@ pub fn added(job: &Job) -> Option<(u32, f64)> {
     }
     if !action && job.count > LONGEST {
         return Some((12, job.count as f64));
+    }
+    if !matches!(job.call, Call::Krylov { .. }) && !(1..=DEGREE).contains(&job.degree) {
+        return Some((33, f64::NAN));
     }
     if action && job.out != job.output() {
         return Some((15, job.out as f64));
@@ -47,9 +50,20 @@ pub fn matrix(job: &Job) -> Answer {
 /// Longer slices are not made: a job that wants them is refused by 1, 12 or 13 before their lengths count.
 const LONGEST: usize = 1 << 24;
 
-/// A job that passes or fails the checks below the added refusal's as `job` does, and that the Rust takes.
+/// In which order the refusals are met: by number, but for 33, which comes directly after 14.
+fn place(number: u32) -> u32 {
+    match number {
+        33 => 2 * 14 + 1,
+        other => 2 * other,
+    }
+}
+
+/// A job that passes or fails the checks before the added refusal's as `job` does, and that the Rust takes.
 fn tamed(job: &Job, number: u32) -> Job {
     let mut t = job.clone();
+    if place(number) <= place(33) {
+        t.degree = DEGREE;
+    }
     if number <= 12 {
         // only the checks of the matrix count
         t.call = Call::Action;
@@ -58,8 +72,8 @@ fn tamed(job: &Job, number: u32) -> Job {
     if t.w.len() != t.vectors() || number == 17 {
         t.w = vec![0.0; t.vectors().min(LONGEST)];
     }
-    if number == 17 && t.tau.is_finite() && t.tau >= 0.0 {
-        // no check below 17 looks at the time but 14
+    if (number == 17 || number == 33) && t.tau.is_finite() && t.tau >= 0.0 {
+        // no check before these looks at the time but 14
         t.tau = 0.0;
     }
     if matches!(t.call, Call::Action | Call::Batched) {
@@ -76,7 +90,7 @@ fn tamed(job: &Job, number: u32) -> Job {
 pub fn answer(job: &Job, rust: impl Fn(&Job) -> Option<Answer>) -> Option<Answer> {
     let Some((number, value)) = added(job) else { return rust(job) };
     let below = rust(&tamed(job, number))?;
-    if below.number != 0 && below.number < number {
+    if below.number != 0 && place(below.number) < place(number) {
         return Some(job.refused(below.number, below.value));
     }
     Some(job.refused(number, value))

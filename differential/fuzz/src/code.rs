@@ -1,10 +1,10 @@
 //! Jobs as byte strings. Every byte string is a job, and a byte that is not there reads as 0.
 //!
 //! In order: the call, and whether there is a mass; the bytes behind the last whole elements; alterations; rows, count,
-//! tau, and the options of a Krylov call; how many entries stand before the first row and in each row; column and value
+//! tau, the options of a Krylov call or the highest degree of a Taylor call; how many entries stand before the first row and in each row; column and value
 //! of each entry; the mass; the vectors. Lengths come out right, and alterations make them wrong.
 
-use jobs::{Call, Job, ENTRIES, SPECIAL, WORK};
+use jobs::{Call, Job, DEGREE, ENTRIES, SPECIAL, WORK};
 
 /// Vectors and output of a count beyond all are cut.
 const LONGEST: usize = 1024;
@@ -74,6 +74,16 @@ fn count(byte: u8, vectors: bool) -> usize {
     }
 }
 
+/// Mostly the highest that there is, less often another from 0 to 31 or one of the largest numbers.
+fn degree(byte: u8) -> usize {
+    match byte {
+        0..=159 => DEGREE as usize,
+        160..=191 => usize::from(byte - 160),
+        192..=247 => usize::from(byte % 8) + 20,
+        248..=255 => u32::MAX as usize - usize::from(255 - byte),
+    }
+}
+
 /// Up to 3 entries in a row, less often up to 31.
 fn entries(byte: u8) -> usize {
     usize::from(if byte < 224 { byte % 4 } else { byte - 224 })
@@ -128,9 +138,10 @@ pub fn decode(bytes: &[u8]) -> (Job, usize) {
     let count = count(r.byte(), kind % 4 < 2);
     let tau = r.double();
     let call = call(&mut r, kind % 4);
+    let degree = if matches!(call, Call::Krylov { .. }) { DEGREE } else { degree(r.byte()) as u32 };
     let (starts, cols, vals) = matrix(&mut r, n);
     let mass = (kind & 4 != 0).then(|| r.doubles(n));
-    let mut job = Job { call, n, starts, cols, vals, mass, tau, count, w: vec![], out: 0, work: 0 };
+    let mut job = Job { call, n, starts, cols, vals, mass, tau, degree, count, w: vec![], out: 0, work: 0 };
     job.w = r.doubles(job.vectors());
     job.out = job.output().min(LONGEST);
     job.work = job.need().min(MOST_WORK);
@@ -202,6 +213,8 @@ fn head(job: &Job) -> Option<Vec<u8>> {
         put_double(&mut bytes, tol);
         put_number(&mut bytes, m);
         put_number(&mut bytes, limit);
+    } else {
+        bytes.push(inverse(degree, job.degree as usize)?);
     }
     Some(bytes)
 }

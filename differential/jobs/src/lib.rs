@@ -11,6 +11,7 @@
 //! | vals | list of doubles |
 //! | mass | list of doubles, or `none` |
 //! | tau | double |
+//! | degree | of the Taylor calls: the highest degree of the plan; 30 if it is not given |
 //! | count | vectors of `combination` and `krylov`; the index k of `action`, the last index p of `batched` |
 //! | w | list of doubles: the vectors in one, or v |
 //! | tol, m, limit | of `krylov` alone: double, number, number |
@@ -23,6 +24,9 @@
 pub const ROWS: usize = 64;
 pub const ENTRIES: usize = 512;
 pub const WORK: usize = 4096;
+
+/// The highest degree that there is, for a caller that names none.
+pub const DEGREE: u32 = 30;
 
 /// Doubles at the ends of their ranges, and those that are no finite number last.
 pub const SPECIAL: [f64; 20] = [
@@ -65,6 +69,8 @@ pub struct Job {
     pub vals: Vec<f64>,
     pub mass: Option<Vec<f64>>,
     pub tau: f64,
+    /// The highest degree of a Taylor plan; [`DEGREE`] of Krylov, which takes none.
+    pub degree: u32,
     /// The number of vectors, or the index of an action.
     pub count: usize,
     pub w: Vec<f64>,
@@ -176,8 +182,9 @@ impl Job {
             Call::Batched => ("batched", String::new()),
         };
         let mass = self.mass.as_ref().map_or("none".into(), |m| doubles(m));
+        let degree = if self.degree == DEGREE { String::new() } else { format!(" degree={}", self.degree) };
         format!(
-            "call={call} n={} starts={} cols={} vals={} mass={mass} tau={} count={} w={}{options} out={} work={}",
+            "call={call} n={} starts={} cols={} vals={} mass={mass} tau={}{degree} count={} w={}{options} out={} work={}",
             self.n,
             list(&self.starts, u32::to_string),
             list(&self.cols, u32::to_string),
@@ -213,6 +220,7 @@ impl Job {
                 m => Some(read_list(m, read_double)?),
             },
             tau: read_double(get("tau")?)?,
+            degree: words.iter().find(|w| w.0 == "degree").map_or(Ok(DEGREE), |w| read_u32(w.1))?,
             count: number("count")?,
             w: read_list(get("w")?, read_double)?,
             out: number("out")?,

@@ -6,10 +6,10 @@ use jobs::{Answer, Job};
 
 use crate::{called, exported, told, Slices};
 
-exported!(hazhendu_phi_combination_bytes, u8, u8, [], u32, u32, u64);
-exported!(hazhendu_phi_action_bytes, u8, u8, [], u32, u32, u64);
-exported!(hazhendu_phi_action_batched_bytes, u8, u8, [], u32, u32, u64);
-exported!(hazhendu_phi_combination_krylov_bytes, u8, u8, [tol: f64, m: usize, max_substeps: usize], usize, usize, usize);
+exported!(hazhendu_phi_combination_bytes, u8, u8, [degree: u32], [], u32, u32, u64);
+exported!(hazhendu_phi_action_bytes, u8, u8, [degree: u32], [], u32, u32, u64);
+exported!(hazhendu_phi_action_batched_bytes, u8, u8, [degree: u32], [], u32, u32, u64);
+exported!(hazhendu_phi_combination_krylov_bytes, u8, u8, [], [tol: f64, m: usize, max_substeps: usize], usize, usize, usize);
 
 /// The doubles' bytes, and `tail` more that make no whole element.
 fn doubles(list: &[f64], tail: usize) -> Box<[u8]> {

@@ -27,7 +27,7 @@ struct Slices<N, D> {
 
 /// Declares one exported function on slices of `$u32` and `$f64`: a slice is a pointer and a length, a `&mut` number a pointer.
 macro_rules! exported {
-    ($name:ident, $u32:ty, $f64:ty, [$($option:ident: $option_type:ty),*], $a:ty, $b:ty, $c:ty) => {
+    ($name:ident, $u32:ty, $f64:ty, [$($degree:ident: u32)?], [$($option:ident: $option_type:ty),*], $a:ty, $b:ty, $c:ty) => {
         extern "C" {
             pub fn $name(
                 n: usize,
@@ -41,6 +41,7 @@ macro_rules! exported {
                 mass: *const $f64,
                 mass_len: usize,
                 tau: f64,
+                $($degree: u32,)?
                 count: usize,
                 w: *const $f64,
                 w_len: usize,
@@ -61,7 +62,7 @@ macro_rules! exported {
 /// Calls one of them. SAFETY: every pointer comes from a slice with its own length or from a local, and no two overlap; the
 /// functions are proved to stay within them.
 macro_rules! called {
-    ($name:path, $job:expr, $s:expr, [$($option:expr),*], $out:expr, $work:expr, $value:expr, $a:expr, $b:expr, $c:expr) => {
+    ($name:path, $job:expr, $s:expr, [$($degree:expr)?], [$($option:expr),*], $out:expr, $work:expr, $value:expr, $a:expr, $b:expr, $c:expr) => {
         unsafe {
             $name(
                 $job.n,
@@ -75,6 +76,7 @@ macro_rules! called {
                 $s.mass.as_ptr(),
                 $s.mass.len(),
                 $job.tau,
+                $($degree,)?
                 $job.count,
                 $s.w.as_ptr(),
                 $s.w.len(),
@@ -99,14 +101,16 @@ macro_rules! told {
         let mut value = jobs::mark(0);
         if let jobs::Call::Krylov { tol, m, limit } = job.call {
             let (mut substeps, mut matvecs, mut rejected) = (!0, !0, !0);
-            let number = called!($krylov, job, s, [tol, m, limit], out, work, &mut value, &mut substeps, &mut matvecs, &mut rejected);
+            let number = called!($krylov, job, s, [], [tol, m, limit], out, work, &mut value, &mut substeps, &mut matvecs, &mut rejected);
             $crate::Told { number, value, counts: [matvecs as u64, substeps as u64, rejected as u64] }
         } else {
             let (mut s_, mut m, mut applications) = (!0, !0, !0);
             let number = match job.call {
-                jobs::Call::Action => called!($action, job, s, [], out, work, &mut value, &mut s_, &mut m, &mut applications),
-                jobs::Call::Batched => called!($batched, job, s, [], out, work, &mut value, &mut s_, &mut m, &mut applications),
-                _ => called!($combination, job, s, [], out, work, &mut value, &mut s_, &mut m, &mut applications),
+                jobs::Call::Action => called!($action, job, s, [job.degree], [], out, work, &mut value, &mut s_, &mut m, &mut applications),
+                jobs::Call::Batched => {
+                    called!($batched, job, s, [job.degree], [], out, work, &mut value, &mut s_, &mut m, &mut applications)
+                }
+                _ => called!($combination, job, s, [job.degree], [], out, work, &mut value, &mut s_, &mut m, &mut applications),
             };
             $crate::Told { number, value, counts: [s_.into(), m.into(), applications] }
         }

@@ -6,10 +6,10 @@ use jobs::{Answer, Job};
 
 use crate::{called, exported, told, Slices, Told};
 
-exported!(hazhendu_phi_combination, u32, f64, [], u32, u32, u64);
-exported!(hazhendu_phi_action, u32, f64, [], u32, u32, u64);
-exported!(hazhendu_phi_action_batched, u32, f64, [], u32, u32, u64);
-exported!(hazhendu_phi_combination_krylov, u32, f64, [tol: f64, m: usize, max_substeps: usize], usize, usize, usize);
+exported!(hazhendu_phi_combination, u32, f64, [degree: u32], [], u32, u32, u64);
+exported!(hazhendu_phi_action, u32, f64, [degree: u32], [], u32, u32, u64);
+exported!(hazhendu_phi_action_batched, u32, f64, [degree: u32], [], u32, u32, u64);
+exported!(hazhendu_phi_combination_krylov, u32, f64, [], [tol: f64, m: usize, max_substeps: usize], usize, usize, usize);
 
 extern "C" {
     pub fn hazhendu_check_generator(

@@ -1,4 +1,4 @@
-//! What a run of the transcribed Rust does: paths taken and cost.
+//! What a run of the transcribed Rust does: paths taken and cost; and the highest degree of a plan, which it is given.
 
 use std::cell::{Cell, RefCell};
 use std::collections::BTreeMap;
@@ -6,6 +6,7 @@ use std::collections::BTreeMap;
 thread_local! {
     static HITS: RefCell<BTreeMap<&'static str, u64>> = const { RefCell::new(BTreeMap::new()) };
     static LEFT: Cell<u64> = const { Cell::new(u64::MAX) };
+    static DEGREE: Cell<u32> = const { Cell::new(jobs::DEGREE) };
 }
 
 /// The payload of the unwinding that ends a run above its cost.
@@ -31,6 +32,16 @@ pub fn spend(cost: u64) {
         Some(rest) => l.set(rest),
         None => std::panic::resume_unwind(Box::new(Costly)),
     });
+}
+
+/// Sets the highest degree of a plan.
+pub fn set_degree(degree: u32) {
+    DEGREE.with(|d| d.set(degree));
+}
+
+/// What stands for `M_MAX` in expmv.rs.
+pub fn degree() -> u32 {
+    DEGREE.with(Cell::get)
 }
 
 pub fn first(x: f64) -> f64 {

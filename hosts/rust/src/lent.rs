@@ -4,7 +4,7 @@
 //! substep. After an accepted job, and after 27 to 29, the needed length of `work` holds +0. [`crate::sizes`] says how long
 //! `work` has to be.
 
-use crate::{sys, Cost, KrylovOptions, Largest, Matrix, Plan, Refusal, Report, Solver};
+use crate::{sys, Cost, KrylovOptions, Largest, Matrix, Plan, Refusal, Report, Solver, TaylorOptions};
 
 /// 0 is no refusal.
 fn unless_refused<T>(number: u32, value: f64, told: T) -> Result<T, Refusal> {
@@ -47,12 +47,21 @@ pub fn check(a: &Matrix) -> Result<Largest, Refusal> {
 macro_rules! taylor {
     ($(#[$doc:meta])* $name:ident, $exported:ident, $index:ident, $w:ident) => {
         $(#[$doc])*
-        pub fn $name(a: &Matrix, tau: f64, $index: usize, $w: &[f64], out: &mut [f64], work: &mut [f64]) -> Result<Plan, Refusal> {
+        pub fn $name(
+            a: &Matrix,
+            tau: f64,
+            $index: usize,
+            $w: &[f64],
+            options: TaylorOptions,
+            out: &mut [f64],
+            work: &mut [f64],
+        ) -> Result<Plan, Refusal> {
             let mut plan = Plan { s: 0, m: 0, mu: 0.0, applications: 0 };
             let number = call!(
                 $exported,
                 a,
                 tau,
+                options.degree,
                 $index,
                 $w.as_ptr(),
                 $w.len(),
@@ -119,19 +128,20 @@ pub fn phi_combination_krylov(
 
 /// The sum over k of tau^k phi_k(tau G) w_k for `count` vectors, one after the other in `w`, by either solver.
 pub fn combine(solver: Solver, a: &Matrix, tau: f64, count: usize, w: &[f64], out: &mut [f64], work: &mut [f64]) -> Result<Cost, Refusal> {
-    let (krylov, KrylovOptions { tol, m, max_substeps }) = match solver {
-        Solver::Taylor => (false, KrylovOptions::default()),
-        Solver::Krylov(options) => (true, options),
+    let (taylor, KrylovOptions { tol, m, max_substeps }) = match solver {
+        Solver::Taylor(options) => (options, KrylovOptions::default()),
+        Solver::Krylov(options) => (TaylorOptions::default(), options),
     };
     let (mut value, mut first, mut second, mut third) = (0.0, 0, 0, 0);
     let number = call!(
         hazhendu_combine,
         a,
         tau,
+        taylor.degree,
         count,
         w.as_ptr(),
         w.len(),
-        krylov,
+        matches!(solver, Solver::Krylov(_)),
         tol,
         m,
         max_substeps,
@@ -146,7 +156,7 @@ pub fn combine(solver: Solver, a: &Matrix, tau: f64, count: usize, w: &[f64], ou
     );
     // The casts lose nothing: the counts are those of a plan or of a report, whose types they had.
     let cost = match solver {
-        Solver::Taylor => Cost::Taylor(Plan { s: first as u32, m: second as u32, mu: value, applications: third }),
+        Solver::Taylor(_) => Cost::Taylor(Plan { s: first as u32, m: second as u32, mu: value, applications: third }),
         Solver::Krylov(_) => {
             Cost::Krylov(Report { substeps: first as usize, matvecs: second as usize, rejected: third as usize, estimated_error: value })
         }

@@ -10,7 +10,7 @@
 //! // Two bodies of 8 J/K, joined by 0.5 W/K; the second loses 0.1 W/K to the room; 2 W heat the first.
 //! let a = Matrix::new(2, &[0, 2, 4], &[0, 1, 0, 1], &[0.5, -0.5, -0.5, 0.6]).with_mass(&[8.0, 8.0]);
 //! let w = [20.0, 20.0, 2.0 / 8.0, 0.0];
-//! let soaked = combine(Solver::Taylor, &a, 60.0, 2, &w)?;
+//! let soaked = combine(Solver::default(), &a, 60.0, 2, &w)?;
 //! assert_eq!(soaked.field.len(), 2);
 //! assert!(soaked.field[0] > soaked.field[1]);
 //! # Ok::<(), hazhendu::Error>(())
@@ -69,9 +69,27 @@ impl Default for KrylovOptions {
 }
 
 #[derive(Clone, Copy, Debug, PartialEq)]
+pub struct TaylorOptions {
+    /// The highest degree of a sweep, 1 to 30. A lower one costs more sweeps; up to 1 no plan is found.
+    pub degree: u32,
+}
+
+impl Default for TaylorOptions {
+    fn default() -> Self {
+        TaylorOptions { degree: sizes::MAX_DEGREE }
+    }
+}
+
+#[derive(Clone, Copy, Debug, PartialEq)]
 pub enum Solver {
-    Taylor,
+    Taylor(TaylorOptions),
     Krylov(KrylovOptions),
+}
+
+impl Default for Solver {
+    fn default() -> Self {
+        Solver::Taylor(TaylorOptions::default())
+    }
 }
 
 /// What a Taylor job did.
@@ -122,21 +140,21 @@ pub struct Soaked<C> {
 }
 
 /// The sum over k of tau^k phi_k(tau G) w_k for `count` vectors, one after the other in `w`, by Taylor sweeps.
-pub fn phi_combination(a: &Matrix, tau: f64, count: usize, w: &[f64]) -> Result<Soaked<Plan>, Error> {
+pub fn phi_combination(a: &Matrix, tau: f64, count: usize, w: &[f64], options: TaylorOptions) -> Result<Soaked<Plan>, Error> {
     let work = sizes::taylor_work(a.n, a.entries.len(), a.mass.is_some(), count);
-    with_memory(sizes::output(a.n, 0), work, |out, work| lent::phi_combination(a, tau, count, w, out, work))
+    with_memory(sizes::output(a.n, 0), work, |out, work| lent::phi_combination(a, tau, count, w, options, out, work))
 }
 
 /// phi_k(tau G) v, by Taylor sweeps.
-pub fn phi_action(a: &Matrix, tau: f64, k: usize, v: &[f64]) -> Result<Soaked<Plan>, Error> {
+pub fn phi_action(a: &Matrix, tau: f64, k: usize, v: &[f64], options: TaylorOptions) -> Result<Soaked<Plan>, Error> {
     let work = sizes::action_work(a.n, a.entries.len(), a.mass.is_some());
-    with_memory(sizes::output(a.n, 0), work, |out, work| lent::phi_action(a, tau, k, v, out, work))
+    with_memory(sizes::output(a.n, 0), work, |out, work| lent::phi_action(a, tau, k, v, options, out, work))
 }
 
 /// phi_0(tau G) v to phi_p(tau G) v, one after the other, by Taylor sweeps.
-pub fn phi_action_batched(a: &Matrix, tau: f64, p: usize, v: &[f64]) -> Result<Soaked<Plan>, Error> {
+pub fn phi_action_batched(a: &Matrix, tau: f64, p: usize, v: &[f64], options: TaylorOptions) -> Result<Soaked<Plan>, Error> {
     let work = sizes::action_work(a.n, a.entries.len(), a.mass.is_some());
-    with_memory(sizes::output(a.n, p), work, |out, work| lent::phi_action_batched(a, tau, p, v, out, work))
+    with_memory(sizes::output(a.n, p), work, |out, work| lent::phi_action_batched(a, tau, p, v, options, out, work))
 }
 
 /// The sum over k of tau^k phi_k(tau G) w_k for `count` vectors, one after the other in `w`, by Krylov substeps.
@@ -149,7 +167,7 @@ pub fn phi_combination_krylov(a: &Matrix, tau: f64, count: usize, w: &[f64], opt
 pub fn combine(solver: Solver, a: &Matrix, tau: f64, count: usize, w: &[f64]) -> Result<Soaked<Cost>, Error> {
     let (n, entries, with_mass) = (a.n, a.entries.len(), a.mass.is_some());
     let work = match solver {
-        Solver::Taylor => sizes::taylor_work(n, entries, with_mass, count),
+        Solver::Taylor(_) => sizes::taylor_work(n, entries, with_mass, count),
         Solver::Krylov(options) => sizes::krylov_work(n, entries, with_mass, count, options.m),
     };
     with_memory(sizes::output(n, 0), work, |out, work| lent::combine(solver, a, tau, count, w, out, work))

@@ -11,95 +11,116 @@ pub struct Refusal {
 }
 
 struct Meaning {
+    number: u32,
     wrong: &'static str,
     /// What the double is, or nothing where it tells nothing.
     value: &'static str,
     change: &'static str,
 }
 
-const fn meaning(wrong: &'static str, value: &'static str, change: &'static str) -> Meaning {
-    Meaning { wrong, value, change }
+const fn meaning(number: u32, wrong: &'static str, value: &'static str, change: &'static str) -> Meaning {
+    Meaning { number, wrong, value, change }
 }
 
-/// Refusal 1 first.
+/// In the order of their numbers; 23 is not used.
 const MEANINGS: [Meaning; 29] = [
     meaning(
+        1,
         "the matrix has no rows, or there are not n + 1 row starts",
         "number of row starts",
         "give n + 1 row starts for a matrix of n rows, n at least 1",
     ),
     meaning(
+        2,
         "columns and entries differ in number, or the last row start is not their number",
         "number of entries",
         "give one column for each entry, and end the row starts with the number of entries",
     ),
-    meaning("the matrix has more than 1,000,000 rows or 16,777,216 entries", "", "take a coarser model"),
-    meaning("a row starts after the next one", "the row, counted from 0", "let the row starts rise"),
-    meaning("a column is n or more", "the column", "count columns from 0 to n - 1"),
-    meaning("an entry of the matrix is infinite or not a number", "the entry", "give finite entries"),
-    meaning("the mass does not have one number for each row", "how many it has", "give n masses for a matrix of n rows"),
-    meaning("a mass is infinite, not a number, or not above 0", "the mass", "give finite masses above 0"),
+    meaning(3, "the matrix has more than 1,000,000 rows or 16,777,216 entries", "", "take a coarser model"),
+    meaning(4, "a row starts after the next one", "the row, counted from 0", "let the row starts rise"),
+    meaning(5, "a column is n or more", "the column", "count columns from 0 to n - 1"),
+    meaning(6, "an entry of the matrix is infinite or not a number", "the entry", "give finite entries"),
+    meaning(7, "the mass does not have one number for each row", "how many it has", "give n masses for a matrix of n rows"),
+    meaning(8, "a mass is infinite, not a number, or not above 0", "the mass", "give finite masses above 0"),
     meaning(
+        9,
         "there is a mass, and the first row start is not 0",
         "",
         "leave out the entries before the first row, and let the row starts begin with 0",
     ),
     meaning(
+        10,
         "the sizes of a row's entries, divided by its mass, have no finite sum",
         "the sum",
         "take other units, in which the entries are lower or the masses higher",
     ),
-    meaning("the sizes of a row's entries have no finite sum", "the sum", "take other units, in which the entries are lower"),
-    meaning("there are not 1 to 4 vectors", "how many there are", "give w_0 and at most three more"),
-    meaning("the index of the phi-function is above 3", "the index", "ask for phi_0 to phi_3"),
-    meaning("tau is negative, infinite or not a number", "tau", "give a finite time of 0 or more"),
-    meaning("the output has the wrong length", "its length", "lend n numbers, for a batch (p + 1) * n"),
-    meaning("the vectors have the wrong length", "their length", "give n numbers in each vector for a matrix of n rows"),
-    meaning("a number in a vector is infinite or not a number", "the number", "give finite vectors"),
-    meaning("tol is not strictly between 0 and 1", "tol", "take 1e-10, say"),
-    meaning("no substep is allowed", "", "allow at least one; 100,000 will do for most jobs"),
+    meaning(11, "the sizes of a row's entries have no finite sum", "the sum", "take other units, in which the entries are lower"),
+    meaning(12, "there are not 1 to 4 vectors", "how many there are", "give w_0 and at most three more"),
+    meaning(13, "the index of the phi-function is above 3", "the index", "ask for phi_0 to phi_3"),
+    meaning(14, "tau is negative, infinite or not a number", "tau", "give a finite time of 0 or more"),
+    meaning(15, "the output has the wrong length", "its length", "lend n numbers, for a batch (p + 1) * n"),
+    meaning(16, "the vectors have the wrong length", "their length", "give n numbers in each vector for a matrix of n rows"),
+    meaning(17, "a number in a vector is infinite or not a number", "the number", "give finite vectors"),
+    meaning(18, "tol is not strictly between 0 and 1", "tol", "take 1e-10, say"),
+    meaning(19, "no substep is allowed", "", "allow at least one; 100,000 will do for most jobs"),
     meaning(
+        20,
         "a substep has more than 128 columns, or more than 1,000,000 substeps are allowed",
         "",
         "take an m of at most 128 (30, say) and a limit of at most 1,000,000",
     ),
     meaning(
+        21,
         "tau^k times the largest size in w_k, summed over k from 1, is not finite",
         "the sum",
         "shorten tau, or scale all vectors down: the answer scales with them",
     ),
     meaning(
+        22,
         "tau^k, scaled for a w_k whose numbers are all close to 0, is not finite",
         "",
         "scale all vectors up (the answer scales with them), or give 0 for such numbers",
     ),
-    meaning("the norm of the generator is negative or not finite", "the norm", "take other units, in which the entries are lower"),
-    meaning("tau times the norm of the generator is not finite", "the schedule's argument", "shorten tau, or check its units"),
+    meaning(24, "tau times the norm of the generator is not finite", "the schedule's argument", "shorten tau, or check its units"),
     meaning(
+        25,
         "Taylor has no plan: it would need more than 4,294,967,295 sweeps",
         "the schedule's argument",
-        "shorten tau, check its units, or take the Krylov solver",
+        "shorten tau, check its units, raise the highest degree, or take the Krylov solver",
     ),
-    meaning("the working memory is too short", "", "lend as many doubles as the size functions say"),
+    meaning(26, "the working memory is too short", "", "lend as many doubles as the size functions say"),
     meaning(
+        27,
         "the limit of substeps is used up before tau is reached",
         "estimated error so far, of the scaled start",
         "raise the limit, raise m, raise tol, or shorten tau",
     ),
     meaning(
+        28,
         "eleven step lengths were rejected in one substep",
         "error allowed, of the scaled start",
         "raise tol, raise m, or take the Taylor solver",
     ),
-    meaning("the small exponential of a substep has no plan", "its argument", "shorten tau, check its units, or take the Taylor solver"),
+    meaning(
+        29,
+        "the small exponential of a substep has no plan",
+        "its argument",
+        "shorten tau, check its units, or take the Taylor solver",
+    ),
+    meaning(
+        33,
+        "the highest degree is not from 1 to 30",
+        "",
+        "take 30, or a lower one if high degrees lose digits; 20 or more costs little",
+    ),
 ];
 
 /// The library is proved to answer no other number.
-const UNKNOWN: Meaning = meaning("a number that the library does not have", "", "check that header and library belong together");
+const UNKNOWN: Meaning = meaning(0, "a number that the library does not have", "", "check that header and library belong together");
 
 impl Refusal {
     fn meaning(&self) -> &'static Meaning {
-        self.number.checked_sub(1).and_then(|i| MEANINGS.get(i as usize)).unwrap_or(&UNKNOWN)
+        MEANINGS.iter().find(|m| m.number == self.number).unwrap_or(&UNKNOWN)
     }
 
     /// What is wrong.

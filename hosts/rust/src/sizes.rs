@@ -9,6 +9,7 @@ pub const MAX_VECTORS: usize = 4;
 pub const MAX_INDEX: usize = 3;
 pub const MAX_DIMENSION: usize = 128;
 pub const MAX_SUBSTEPS: usize = 1_000_000;
+pub const MAX_DEGREE: u32 = 30;
 
 fn allowed(n: usize, entries: usize, count: usize) -> bool {
     n <= MAX_ROWS && entries <= MAX_ENTRIES && (1..=MAX_VECTORS).contains(&count)

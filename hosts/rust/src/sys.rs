@@ -23,7 +23,7 @@ macro_rules! exported {
 
 macro_rules! exported_taylor {
     ($name:ident, $index:ident, $w:ident, $w_len:ident) => {
-        exported!($name, tau: f64, $index: usize, $w: *const f64, $w_len: usize, out: *mut f64, out_len: usize, work: *mut f64,
+        exported!($name, tau: f64, degree: u32, $index: usize, $w: *const f64, $w_len: usize, out: *mut f64, out_len: usize, work: *mut f64,
             work_len: usize, value: *mut f64, s: *mut u32, plan_m: *mut u32, applications: *mut u64);
     };
 }
@@ -35,6 +35,6 @@ exported_taylor!(hazhendu_phi_action_batched, p, v, v_len);
 exported!(hazhendu_phi_combination_krylov, tau: f64, count: usize, w: *const f64, w_len: usize, tol: f64, m: usize,
     max_substeps: usize, out: *mut f64, out_len: usize, work: *mut f64, work_len: usize, value: *mut f64, substeps: *mut usize,
     matvecs: *mut usize, rejected: *mut usize);
-exported!(hazhendu_combine, tau: f64, count: usize, w: *const f64, w_len: usize, krylov: bool, tol: f64, m: usize,
+exported!(hazhendu_combine, tau: f64, degree: u32, count: usize, w: *const f64, w_len: usize, krylov: bool, tol: f64, m: usize,
     max_substeps: usize, out: *mut f64, out_len: usize, work: *mut f64, work_len: usize, value: *mut f64, first: *mut u64,
     second: *mut u64, third: *mut u64);

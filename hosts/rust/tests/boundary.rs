@@ -1,6 +1,6 @@
 //! The boundary jobs of document 01 that the calls can show.
 
-use hazhendu::{check, combine, lent, phi_action, phi_action_batched, phi_combination, phi_combination_krylov, sizes};
+use hazhendu::{check, combine, lent, phi_action, phi_action_batched, phi_combination, phi_combination_krylov, sizes, TaylorOptions};
 use hazhendu::{Cost, Error, KrylovOptions, Largest, Matrix, Report, Soaked, Solver};
 
 const EMPTY_2: Matrix = Matrix { n: 2, starts: &[0, 0, 0], columns: &[], entries: &[], mass: None };
@@ -18,33 +18,33 @@ fn number<C: std::fmt::Debug>(answer: Result<Soaked<C>, Error>) -> u32 {
 #[test]
 fn tau_of_either_zero_leaves_the_vector() {
     for tau in [0.0, -0.0] {
-        assert_eq!(phi_combination(&EMPTY_2, tau, 1, &[1.0, -2.0]).unwrap().field, [1.0, -2.0]);
+        assert_eq!(phi_combination(&EMPTY_2, tau, 1, &[1.0, -2.0], TaylorOptions::default()).unwrap().field, [1.0, -2.0]);
     }
 }
 
 #[test]
 fn shift_is_taken_where_it_costs_less() {
-    let at_1 = phi_combination(&PAIR, 1.0, 1, &[1.0, -2.0]).unwrap().cost;
+    let at_1 = phi_combination(&PAIR, 1.0, 1, &[1.0, -2.0], TaylorOptions::default()).unwrap().cost;
     assert_eq!((at_1.s, at_1.m, at_1.mu, at_1.applications), (3, 30, 0.0, 90));
-    let at_10 = phi_combination(&PAIR, 10.0, 1, &[1.0, -2.0]).unwrap().cost;
+    let at_10 = phi_combination(&PAIR, 10.0, 1, &[1.0, -2.0], TaylorOptions::default()).unwrap().cost;
     assert_eq!(at_10.mu, -20.0);
     assert_eq!(at_10.applications, u64::from(at_10.s) * u64::from(at_10.m));
 }
 
 #[test]
 fn four_vectors_and_no_more() {
-    assert_eq!(number(phi_combination(&ONE, 1.0, 4, &[1.0; 4])), 0);
-    assert_eq!(number(phi_combination(&ONE, 1.0, 5, &[1.0; 5])), 12);
-    assert_eq!(number(phi_combination(&ONE, 1.0, 0, &[])), 12);
+    assert_eq!(number(phi_combination(&ONE, 1.0, 4, &[1.0; 4], TaylorOptions::default())), 0);
+    assert_eq!(number(phi_combination(&ONE, 1.0, 5, &[1.0; 5], TaylorOptions::default())), 12);
+    assert_eq!(number(phi_combination(&ONE, 1.0, 0, &[], TaylorOptions::default())), 12);
 }
 
 #[test]
 fn phi_3_and_no_higher() {
-    assert_eq!(number(phi_action(&ONE, 1.0, 3, &[3.0])), 0);
-    assert_eq!(number(phi_action(&ONE, 1.0, 4, &[3.0])), 13);
-    assert_eq!(number(phi_action_batched(&ONE, 1.0, 3, &[3.0])), 0);
-    assert_eq!(number(phi_action_batched(&ONE, 1.0, 4, &[3.0])), 13);
-    assert_eq!(number(phi_action_batched(&ONE, 1.0, usize::MAX, &[3.0])), 13);
+    assert_eq!(number(phi_action(&ONE, 1.0, 3, &[3.0], TaylorOptions::default())), 0);
+    assert_eq!(number(phi_action(&ONE, 1.0, 4, &[3.0], TaylorOptions::default())), 13);
+    assert_eq!(number(phi_action_batched(&ONE, 1.0, 3, &[3.0], TaylorOptions::default())), 0);
+    assert_eq!(number(phi_action_batched(&ONE, 1.0, 4, &[3.0], TaylorOptions::default())), 13);
+    assert_eq!(number(phi_action_batched(&ONE, 1.0, usize::MAX, &[3.0], TaylorOptions::default())), 13);
 }
 
 #[test]
@@ -93,22 +93,28 @@ fn m_of_128_on_200_rows_is_accepted_and_129_is_not() {
 #[test]
 fn first_row_start_of_1() {
     let late = Matrix::new(1, &[1, 2], &[0, 0], &[5.0, 2.0]);
-    assert_eq!(phi_action(&late, 1.0, 0, &[3.0]).unwrap().field, phi_action(&ONE, 1.0, 0, &[3.0]).unwrap().field);
-    assert_eq!(number(phi_combination(&late.with_mass(&[4.0]), 1.0, 1, &[3.0])), 9);
+    assert_eq!(
+        phi_action(&late, 1.0, 0, &[3.0], TaylorOptions::default()).unwrap().field,
+        phi_action(&ONE, 1.0, 0, &[3.0], TaylorOptions::default()).unwrap().field
+    );
+    assert_eq!(number(phi_combination(&late.with_mass(&[4.0]), 1.0, 1, &[3.0], TaylorOptions::default())), 9);
 }
 
 #[test]
 fn one_row_more_than_a_million() {
     let n = sizes::MAX_ROWS + 1;
     let starts = vec![0; n + 1];
-    assert_eq!(number(phi_combination(&Matrix::new(n, &starts, &[], &[]), 1.0, 1, &vec![0.0; n])), 3);
-    assert_eq!(number(phi_combination(&Matrix::new(n - 1, &starts[1..], &[], &[]), 0.0, 1, &vec![0.0; n - 1])), 0);
+    assert_eq!(number(phi_combination(&Matrix::new(n, &starts, &[], &[]), 1.0, 1, &vec![0.0; n], TaylorOptions::default())), 3);
+    assert_eq!(
+        number(phi_combination(&Matrix::new(n - 1, &starts[1..], &[], &[]), 0.0, 1, &vec![0.0; n - 1], TaylorOptions::default())),
+        0
+    );
 }
 
 #[test]
 fn a_mass_divides_the_rows() {
     // Entry 2, mass 4: exp(-0.5).
-    let field = phi_combination(&ONE.with_mass(&[4.0]), 1.0, 1, &[1.0]).unwrap().field;
+    let field = phi_combination(&ONE.with_mass(&[4.0]), 1.0, 1, &[1.0], TaylorOptions::default()).unwrap().field;
     assert!((field[0] - (-0.5f64).exp()).abs() < 1e-15);
 }
 
@@ -127,17 +133,27 @@ fn of_rows_with_one_sum_the_first_is_named() {
     assert_eq!(check(&EMPTY_2).unwrap(), Largest { norm: 0.0, row: 0 });
 }
 
+/// (2 -1; -1 2) at time 1: 3 x 30 without a shift; up to 29 the shifted plan is cheaper, 4 x 25.
+#[test]
+fn a_lower_degree_may_bring_the_shift() {
+    let a = Matrix::new(2, &[0, 2, 4], &[0, 1, 0, 1], &[2.0, -1.0, -1.0, 2.0]);
+    let plan = |degree| phi_combination(&a, 1.0, 1, &[1.0, -2.0], TaylorOptions { degree }).unwrap().cost;
+    assert_eq!((plan(30).s, plan(30).m, plan(30).mu), (3, 30, 0.0));
+    assert_eq!((plan(29).s, plan(29).m, plan(29).mu), (4, 25, -2.0));
+    assert_eq!(plan(25), plan(29));
+}
+
 #[test]
 fn combine_is_the_call_of_its_solver() {
     let (tau, w) = (0.75, [1.0, 2.0, 3.0, 4.0]);
-    let taylor = phi_combination(&PAIR, tau, 2, &w).unwrap();
-    let soaked = combine(Solver::Taylor, &PAIR, tau, 2, &w).unwrap();
+    let taylor = phi_combination(&PAIR, tau, 2, &w, TaylorOptions::default()).unwrap();
+    let soaked = combine(Solver::default(), &PAIR, tau, 2, &w).unwrap();
     assert_eq!((soaked.field, soaked.cost), (taylor.field, Cost::Taylor(taylor.cost)));
     let krylov = phi_combination_krylov(&PAIR, tau, 2, &w, options(2)).unwrap();
     let soaked = combine(Solver::Krylov(options(2)), &PAIR, tau, 2, &w).unwrap();
     assert_eq!((soaked.field, soaked.cost), (krylov.field, Cost::Krylov(krylov.cost)));
     assert_eq!(number(combine(Solver::Krylov(KrylovOptions { tol: 1.0, ..options(2) }), &PAIR, tau, 2, &w)), 18);
-    assert_eq!(number(combine(Solver::Taylor, &PAIR, -1.0, 2, &w)), 14);
+    assert_eq!(number(combine(Solver::default(), &PAIR, -1.0, 2, &w)), 14);
 }
 
 #[test]
@@ -146,14 +162,14 @@ fn functions_are_the_phi_functions() {
     let phi_1 = (z.exp() - 1.0) / z;
     let phi_2 = (phi_1 - 1.0) / z;
     let phi_3 = (phi_2 - 0.5) / z;
-    let batch = phi_action_batched(&ONE, 0.75, 3, &[3.0]).unwrap();
+    let batch = phi_action_batched(&ONE, 0.75, 3, &[3.0], TaylorOptions::default()).unwrap();
     for (got, phi) in batch.field.iter().zip([z.exp(), phi_1, phi_2, phi_3]) {
         assert!((got - 3.0 * phi).abs() < 1e-14, "{got} for {}", 3.0 * phi);
     }
     let sum = z.exp() + 0.75 * 2.0 * phi_1 + 0.75f64.powi(2) * 3.0 * phi_2 + 0.75f64.powi(3) * 4.0 * phi_3;
-    for solver in [Solver::Taylor, Solver::Krylov(options(30))] {
+    for solver in [Solver::default(), Solver::Krylov(options(30))] {
         let soaked = combine(solver, &ONE, 0.75, 4, &[1.0, 2.0, 3.0, 4.0]).unwrap();
         assert!((soaked.field[0] - sum).abs() < 1e-13);
-        assert_eq!(matches!(soaked.cost, Cost::Taylor(_)), solver == Solver::Taylor);
+        assert_eq!(matches!(soaked.cost, Cost::Taylor(_)), solver == Solver::default());
     }
 }

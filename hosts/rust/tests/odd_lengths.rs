@@ -1,6 +1,6 @@
 //! No combination of lengths and sizes panics, and none allocates beyond the library's limits.
 
-use hazhendu::{check, combine, phi_action, phi_action_batched, sizes, Error, KrylovOptions, Matrix, Solver};
+use hazhendu::{check, combine, phi_action, phi_action_batched, sizes, Error, KrylovOptions, Matrix, Solver, TaylorOptions};
 
 const ODD: [usize; 10] = [0, 1, 2, 3, 5, 129, 1_000_001, usize::MAX / 8, usize::MAX - 1, usize::MAX];
 
@@ -23,9 +23,9 @@ fn every_odd_size_is_answered() {
                 for a in [bare, bare.with_mass(&numbers[..len]), bare.with_mass(&[])] {
                     told(check(&a));
                     for count in ODD {
-                        told(combine(Solver::Taylor, &a, 1.0, count, &numbers[..len]));
-                        told(phi_action(&a, 1.0, count, &numbers[..len]));
-                        told(phi_action_batched(&a, 1.0, count, &numbers[..len]));
+                        told(combine(Solver::default(), &a, 1.0, count, &numbers[..len]));
+                        told(phi_action(&a, 1.0, count, &numbers[..len], TaylorOptions::default()));
+                        told(phi_action_batched(&a, 1.0, count, &numbers[..len], TaylorOptions::default()));
                         let options = KrylovOptions { tol: 1e-6, m: count, max_substeps: n };
                         told(combine(Solver::Krylov(options), &a, 1.0, len, &numbers[..len]));
                     }

@@ -1,6 +1,6 @@
 //! Each refusal, its double, and what it leaves.
 
-use hazhendu::{lent, phi_action, phi_combination, phi_combination_krylov, sizes, KrylovOptions, Matrix, Refusal};
+use hazhendu::{lent, phi_action, phi_combination, phi_combination_krylov, sizes, KrylovOptions, Matrix, Refusal, Solver, TaylorOptions};
 
 const ONE: Matrix = Matrix { n: 1, starts: &[0, 1], columns: &[0], entries: &[2.0], mass: None };
 /// Eight bodies in a row; the last one loses heat.
@@ -31,7 +31,7 @@ fn expect<T: std::fmt::Debug>(answer: Result<T, Refusal>, number: u32, value: f6
 fn taylor(a: Matrix, tau: f64, count: usize, w: &[f64]) -> Result<hazhendu::Plan, Refusal> {
     let mut out = vec![MARK; a.n.min(8)];
     let mut work = vec![MARK; 64];
-    let answer = lent::phi_combination(&a, tau, count, w, &mut out, &mut work);
+    let answer = lent::phi_combination(&a, tau, count, w, TaylorOptions::default(), &mut out, &mut work);
     if answer.is_err() {
         assert!(out.iter().chain(&work).all(|x| *x == MARK));
     }
@@ -83,14 +83,14 @@ fn mass() {
 fn job() {
     expect(taylor(ONE, 1.0, 0, &[]), 12, 0.0);
     expect(taylor(ONE, 1.0, 5, &[1.0; 5]), 12, 5.0);
-    expect(lent::phi_action(&ONE, 1.0, 4, &[1.0], &mut [MARK], &mut [MARK; 9]), 13, 4.0);
+    expect(lent::phi_action(&ONE, 1.0, 4, &[1.0], TaylorOptions::default(), &mut [MARK], &mut [MARK; 9]), 13, 4.0);
     for tau in [-1.0, f64::NAN, f64::INFINITY] {
         expect(taylor(ONE, tau, 1, &[1.0]), 14, tau);
     }
-    expect(lent::phi_combination(&ONE, 1.0, 1, &[1.0], &mut [MARK; 3], &mut [MARK; 3]), 15, 3.0);
-    expect(lent::phi_action_batched(&ONE, 1.0, 3, &[1.0], &mut [MARK; 3], &mut [MARK; 9]), 15, 3.0);
+    expect(lent::phi_combination(&ONE, 1.0, 1, &[1.0], TaylorOptions::default(), &mut [MARK; 3], &mut [MARK; 3]), 15, 3.0);
+    expect(lent::phi_action_batched(&ONE, 1.0, 3, &[1.0], TaylorOptions::default(), &mut [MARK; 3], &mut [MARK; 9]), 15, 3.0);
     expect(taylor(ONE, 1.0, 2, &[1.0; 3]), 16, 3.0);
-    expect(lent::phi_action(&ONE, 1.0, 0, &[], &mut [MARK], &mut [MARK; 9]), 16, 0.0);
+    expect(lent::phi_action(&ONE, 1.0, 0, &[], TaylorOptions::default(), &mut [MARK], &mut [MARK; 9]), 16, 0.0);
     expect(taylor(ONE, 1.0, 2, &[1.0, f64::NEG_INFINITY]), 17, f64::NEG_INFINITY);
     expect(taylor(ONE, 1e200, 2, &[1.0, 1e200]), 21, f64::INFINITY);
     expect(taylor(ONE, 1e10, 2, &[1.0, 5e-324]), 22, f64::NAN);
@@ -100,8 +100,10 @@ fn job() {
 fn actions(v: &[f64]) -> [Result<hazhendu::Plan, Refusal>; 2] {
     let chain = Matrix { n: 3, starts: &[0, 1, 3, 4], columns: &[0, 0, 1, 2], entries: &[1.0, -1.0, 2.0, 0.5], mass: None };
     let (mut one, mut batch, mut work, mut other) = ([MARK; 3], [MARK; 9], [MARK; 16], [MARK; 16]);
-    let answers =
-        [lent::phi_action(&chain, 1.0, 1, v, &mut one, &mut work), lent::phi_action_batched(&chain, 1.0, 2, v, &mut batch, &mut other)];
+    let answers = [
+        lent::phi_action(&chain, 1.0, 1, v, TaylorOptions::default(), &mut one, &mut work),
+        lent::phi_action_batched(&chain, 1.0, 2, v, TaylorOptions::default(), &mut batch, &mut other),
+    ];
     let untouched = |answer: &Result<_, _>, slices: [&[f64]; 2]| answer.is_ok() || slices.iter().all(|s| s.iter().all(|x| *x == MARK));
     assert!(untouched(&answers[0], [&one, &work]) && untouched(&answers[1], [&batch, &other]));
     answers
@@ -130,6 +132,23 @@ fn a_field_is_tested_as_the_vectors_of_a_combination() {
 }
 
 #[test]
+fn degrees() {
+    let up_to = |degree, out: &mut [f64]| lent::phi_action(&ONE, 1.0, 0, &[1.0], TaylorOptions { degree }, out, &mut [MARK; 9]);
+    for degree in [0, 31, u32::MAX] {
+        expect(up_to(degree, &mut [MARK]), 33, f64::NAN);
+        // behind 14, in front of 15
+        expect(up_to(degree, &mut [MARK; 3]), 33, f64::NAN);
+        expect(lent::phi_combination(&ONE, -1.0, 1, &[1.0], TaylorOptions { degree }, &mut [MARK; 3], &mut [MARK; 3]), 14, -1.0);
+        expect(lent::combine(Solver::Taylor(TaylorOptions { degree }), &ONE, 1.0, 1, &[1.0], &mut [MARK], &mut [MARK; 3]), 33, f64::NAN);
+    }
+    // the argument is (1 * 2 + 2) * 2, and no row is admissible up to degree 1
+    expect(up_to(1, &mut [MARK]), 25, 8.0);
+    for degree in 3..=30 {
+        assert!((1..=degree).contains(&up_to(degree, &mut [MARK]).unwrap().m));
+    }
+}
+
+#[test]
 fn options() {
     for tol in [0.0, 1.0, -1.0, f64::NAN, f64::INFINITY] {
         expect(krylov(ONE, 1.0, 1, &[1.0], tol, 30, 10), 18, tol);
@@ -144,8 +163,8 @@ fn schedule_and_memory() {
     expect(taylor(steep, 1e200, 1, &[1.0]), 24, f64::INFINITY);
     expect(krylov(steep, 1e200, 1, &[1.0], 1e-10, 30, 10), 24, f64::INFINITY);
     expect(taylor(ONE, 1e12, 1, &[1.0]), 25, 4e12 + 4.0);
-    expect(lent::phi_combination(&ONE, 1.0, 1, &[1.0], &mut [MARK], &mut [MARK; 2]), 26, f64::NAN);
-    expect(lent::phi_action(&ONE, 1.0, 0, &[1.0], &mut [MARK], &mut [MARK; 8]), 26, f64::NAN);
+    expect(lent::phi_combination(&ONE, 1.0, 1, &[1.0], TaylorOptions::default(), &mut [MARK], &mut [MARK; 2]), 26, f64::NAN);
+    expect(lent::phi_action(&ONE, 1.0, 0, &[1.0], TaylorOptions::default(), &mut [MARK], &mut [MARK; 8]), 26, f64::NAN);
 }
 
 #[test]
@@ -197,8 +216,8 @@ fn no_inner_plan_leaves_the_start() {
 
 #[test]
 fn refusals_before_the_run_leave_no_state() {
-    assert!(phi_combination(&ONE, -1.0, 1, &[1.0]).unwrap_err().state().is_none());
-    assert!(phi_action(&ONE, 1.0, 4, &[1.0]).unwrap_err().state().is_none());
+    assert!(phi_combination(&ONE, -1.0, 1, &[1.0], TaylorOptions::default()).unwrap_err().state().is_none());
+    assert!(phi_action(&ONE, 1.0, 4, &[1.0], TaylorOptions::default()).unwrap_err().state().is_none());
 }
 
 #[test]

@@ -2,7 +2,8 @@
 
 use crate::failure::Failure;
 use crate::model::Files;
-use hazhendu::{KrylovOptions, Solver};
+use hazhendu::sizes::MAX_DEGREE;
+use hazhendu::{KrylovOptions, Solver, TaylorOptions};
 use std::ffi::OsString;
 use std::path::PathBuf;
 use std::str::FromStr;
@@ -26,6 +27,7 @@ temperatures at the start (K), w_1 = q / C (K/s), and A the conductances (W/K).
                    blank lines and lines that begin with # or % are skipped
   --mass FILE      one number above 0 for each row, in the same form
   --solver NAME    taylor (if not given) or krylov
+  --degree N       taylor: the highest degree of a sweep, 1 to 30 (30)
   --tol X          krylov: accuracy relative to the norm of the start (1e-10)
   --m N            krylov: columns of a substep, at most 128 (30)
   --limit N        krylov: most substeps, at most 1000000 (100000)
@@ -43,10 +45,10 @@ the standard error. A call of the library cannot be interrupted and tells nothin
 on the way: on a terminal the size of the job is told before it and the time it
 took after it, and there is no progress between.
 
-Status: 0; 1 to 22 or 24 to 29, the number of the library's refusal, with what is wrong and
-what to change; 64 wrong usage; 65 a file with wrong contents, as FILE:LINE;
-66 a file that cannot be read; 71 no memory; 74 the field or plot cannot be
-written (without a word if a pipe was closed).
+Status: 0; 1 to 22, 24 to 29 or 33, the number of the library's refusal, with
+what is wrong and what to change; 64 wrong usage; 65 a file with wrong contents,
+as FILE:LINE; 66 a file that cannot be read; 71 no memory; 74 the field or plot
+cannot be written (without a word if a pipe was closed).
 ";
 
 #[derive(Debug)]
@@ -75,6 +77,7 @@ struct Given {
     mass: Option<PathBuf>,
     tau: Option<f64>,
     solver: Option<String>,
+    degree: Option<u32>,
     tol: Option<f64>,
     m: Option<usize>,
     limit: Option<usize>,
@@ -117,6 +120,7 @@ impl Given {
             "--output" => once(name, &mut self.output, value()?.into())?,
             "--plot" => once(name, &mut self.plot, value()?.into())?,
             "--tau" => once(name, &mut self.tau, read(name, value()?, "a number")?)?,
+            "--degree" => once(name, &mut self.degree, read(name, value()?, "a whole number that fits")?)?,
             "--tol" => once(name, &mut self.tol, read(name, value()?, "a number")?)?,
             "--m" => once(name, &mut self.m, read(name, value()?, "a whole number that fits")?)?,
             "--limit" => once(name, &mut self.limit, read(name, value()?, "a whole number that fits")?)?,
@@ -134,11 +138,12 @@ impl Given {
             max_substeps: self.limit.unwrap_or(usual.max_substeps),
         };
         match self.solver.as_deref() {
+            Some("krylov") if self.degree.is_some() => Err(Failure::Usage("--degree is for --solver taylor".into())),
             Some("krylov") => Ok(Solver::Krylov(options)),
             Some("taylor") | None if self.tol.is_some() || self.m.is_some() || self.limit.is_some() => {
                 Err(Failure::Usage("--tol, --m and --limit are for --solver krylov".into()))
             }
-            Some("taylor") | None => Ok(Solver::Taylor),
+            Some("taylor") | None => Ok(Solver::Taylor(TaylorOptions { degree: self.degree.unwrap_or(MAX_DEGREE) })),
             Some(other) => Err(Failure::Usage(format!("--solver {other:?}: taylor or krylov"))),
         }
     }

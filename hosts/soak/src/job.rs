@@ -57,6 +57,7 @@ impl<'a> Job<'a> {
             16 => self.misfit().map(|i| self.model.length_told(&self.vectors[i])),
             17 => self.vectors.iter().find_map(|vector| vector.first(|x| !x.is_finite())),
             18 => Some("--tol".into()),
+            33 => Some("--degree".into()),
             19 => Some("--limit".into()),
             20 => Some("--m or --limit".into()),
             21 | 22 => Some("--tau and the vectors from the second on".into()),

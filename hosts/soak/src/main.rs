@@ -75,7 +75,7 @@ fn soak(request: &Request) -> Result<(), Failure> {
 
 fn solver_name(request: &Request) -> &'static str {
     match request.solver {
-        Solver::Taylor => "taylor",
+        Solver::Taylor(_) => "taylor",
         Solver::Krylov(_) => "krylov",
     }
 }

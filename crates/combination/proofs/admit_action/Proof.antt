@@ -12,7 +12,7 @@ returns c =
     let t = p .before .before in
     let f = t .before .before in
     let field = f .and-then .ensures _ _ (f .before .before .check-lengths .ensures) (f .before .check-finite .ensures) in
-    let checked = p .and-then3 .ensures _ _ (t .before .check-index .ensures) (p .before .and-then2 .ensures _ _ (t .check-time .ensures) field) in
+    let checked = p .and-then3 .ensures _ _ (t .before .check-index .ensures) (p .before .and-then2 .ensures _ _ (t .check-plan .ensures) field) in
     let eta = rw (c .before .before .before .sup .ensures) at (c .before .before .eta-scaling .ensures) in
     rw (c .before .one-column .ensures, eta, append-assoc, append-assoc, append-assoc) at (c .plan-job .ensures _ checked)
 

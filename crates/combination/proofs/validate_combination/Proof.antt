@@ -10,25 +10,25 @@ use Rattle.combination.proofs.validate_combination.Tie as tie
 
 returns : tie.Need-returns
 unfolding vector-checks
-returns c = search refused-up
+returns c ts e = search refused-up
 
 returns-2 : tie.Need-returns-2
 unfolding vector-checks
-returns-2 c = search (sound-on, refused-up)
+returns-2 c ts e = search (sound-on, refused-up)
 
 mul-check-lengths : tie.Need-mul-check-lengths
 mul-check-lengths c =
-    let s = c .before .before .before .before .before .before .before in
+    let s = c .before .before .before .before .before .before in
     let h : s .args .count * s .args .n ≤ 4000000 = search vectors-fit in
     omega (arith, h)
 
 returns-3 : tie.Need-returns-3
 unfolding vector-checks
-returns-3 c = search (sound-on, refused-up)
+returns-3 c ts e = search (sound-on, refused-up)
 
 returns-4 : tie.Need-returns-4
 unfolding vector-checks
-returns-4 c = search sound-on
+returns-4 c ts e = search sound-on
 
 pub validate-combination-spec : {M : Type 1} → statement M
 validate-combination-spec =
@@ -38,7 +38,6 @@ validate-combination-spec =
     (λ c. search needs)
     (λ c. search needs)
     returns
-    (λ c κs. search needs)
     (λ c. search needs)
     (λ c. search needs)
     returns-2

@@ -8,19 +8,19 @@ use Rattle.exports_bytes.proofs.solve.Tie as tie
 
 returns : tie.Need-returns
 unfolding told called
-returns c = rw (c .before .before .before .before .before .before .before .before .enum-told .given .1) (answered taylor-numbers _ (c .of-taylor .ensures) (c .before .before .before .before .before .phi-combination .ensures))
+returns c = rw (c .before .before .before .before .before .before .before .before .before .call .given .1) (answered taylor-numbers _ (c .of-taylor .ensures) (c .before .before .before .before .before .phi-combination .ensures))
 
 returns-2 : tie.Need-returns-2
 unfolding told called
-returns-2 c = rw (c .before .before .before .before .before .before .before .before .enum-told2 .given .1) (answered taylor-numbers _ (c .of-taylor2 .ensures) (c .before .before .before .before .before .phi-action .ensures))
+returns-2 c = rw (c .before .before .before .before .before .before .before .before .before .call2 .given .1) (answered taylor-numbers _ (c .of-taylor2 .ensures) (c .before .before .before .before .before .phi-action .ensures))
 
 returns-3 : tie.Need-returns-3
 unfolding told called
-returns-3 c = rw (c .before .before .before .before .before .before .before .before .enum-told3 .given .1) (answered taylor-numbers _ (c .of-taylor3 .ensures) (c .before .before .before .before .before .phi-action-batched .ensures))
+returns-3 c = rw (c .before .before .before .before .before .before .before .before .before .call3 .given .1) (answered taylor-numbers _ (c .of-taylor3 .ensures) (c .before .before .before .before .before .phi-action-batched .ensures))
 
 returns-4 : tie.Need-returns-4
 unfolding told called
-returns-4 c = rw (c .before .before .before .before .before .before .before .before .before .call .given .1) (answered krylov-numbers _ (c .of-krylov .ensures) (c .before .before .before .before .before .phi-combination-krylov .ensures))
+returns-4 c = rw (c .before .before .before .before .before .before .before .before .before .call4 .given .1) (answered krylov-numbers _ (c .of-krylov .ensures) (c .before .before .before .before .before .phi-combination-krylov .ensures))
 
 pub solve-spec : {M : Type 1} → statement M
 solve-spec =

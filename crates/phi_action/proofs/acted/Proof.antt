@@ -20,7 +20,7 @@ init-aug-vector-requires c κs =
     let j = c .before .before .before in
     let s = j .before .before .before .before .before .before .before .before in
     let a = s .args in
-    let h = known-action (a .g) (a .tau) (a .k) (a .v .now) _ _ _ (j .admit-action .ensures) (c .before .enum-told .given .1) in
+    let h = known-action (a .g) (a .tau) (a .cap) (a .k) (a .v .now) _ _ _ (j .admit-action .ensures) (c .before .enum-told .given .1) in
     let fits = field-fits (allowed-action (a .mass .now) (s .pre) {work = a .work .now} (a .v .now) h (j .admit-action .ensures) refl) in
     (h .whole, rw (j .admit-action .ensures) at fits, h .index)
 
@@ -30,7 +30,7 @@ run-job-requires c κs =
     let j = i .before .before .before .before in
     let s = j .before .before .before .before .before .before .before .before in
     let a = s .args in
-    let h = known-action (a .g) (a .tau) (a .k) (a .v .now) _ _ _ (j .admit-action .ensures) (i .before .before .enum-told .given .1) in
+    let h = known-action (a .g) (a .tau) (a .cap) (a .k) (a .v .now) _ _ _ (j .admit-action .ensures) (i .before .before .enum-told .given .1) in
     runs-action (a .mass .now) (s .pre) (a .v .now) h (j .admit-action .ensures) (ap length (i .init-aug-vector .ensures) ∙ length-splice 0 _ (a .work .now))
 
 returns-2 : tie.Need-returns-2
@@ -40,7 +40,7 @@ returns-2 c gs sound =
     let j = i .before .before .before .before in
     let s = j .before .before .before .before .before .before .before .before in
     let a = s .args in
-    acted-is (a .mass .now) (s .pre) gs sound (a .tau) (a .k) (a .v .now) (a .out .now) (a .work .now) (j .admit-action .ensures) (i .before .before .enum-told .given .1) (i .init-aug-vector .ensures) (r .run-job .ensures)
+    acted-is (a .mass .now) (s .pre) gs sound (a .tau) (a .cap) (a .k) (a .v .now) (a .out .now) (a .work .now) (j .admit-action .ensures) (i .before .before .enum-told .given .1) (i .init-aug-vector .ensures) (r .run-job .ensures)
 
 pub acted-spec : {M : Type 1} → statement M
 acted-spec =

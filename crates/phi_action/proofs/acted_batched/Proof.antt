@@ -37,7 +37,7 @@ returns-2 c gs sound =
     let s = i .before .before .before .before .before .before .before .before in
     let a = s .args in
     let refusal = passed-up (c .before .before .enum-told4 .given .1) (c .before .number2 .ensures) (c .reported2 .ensures) in
-    refused-batch (a .mass .now) (s .pre) gs sound (a .tau) (a .p) (a .v .now) (a .out .now) (a .work .now) _ (add-one (a .p)) (j .admit-action .ensures) refusal
+    refused-batch (a .mass .now) (s .pre) gs sound (a .tau) (a .cap) (a .p) (a .v .now) (a .out .now) (a .work .now) _ (add-one (a .p)) (j .admit-action .ensures) refusal
 
 run-batch-requires : tie.Need-run-batch-requires
 run-batch-requires c κs =
@@ -46,7 +46,7 @@ run-batch-requires c κs =
     let s = i .before .before .before .before .before .before .before .before in
     let a = s .args in
     let k = index-known (a .p) (j .before .before .enum-told .given .1) (i .check-index .ensures) in
-    let h = known-action (a .g) (a .tau) (a .p) (a .v .now) _ _ _ (j .admit-action .ensures) (c .before .before .enum-told3 .given .1) in
+    let h = known-action (a .g) (a .tau) (a .cap) (a .p) (a .v .now) _ _ _ (j .admit-action .ensures) (c .before .before .enum-told3 .given .1) in
     runs-batch (a .mass .now) (s .pre) (a .v .now) h (j .admit-action .ensures) refl (omega (arith, k))
 
 returns-3 : tie.Need-returns-3
@@ -56,7 +56,7 @@ returns-3 c gs sound =
     let i = j .before .before .before .before in
     let s = i .before .before .before .before .before .before .before .before in
     let a = s .args in
-    batch-is (a .mass .now) (s .pre) gs sound (a .tau) (a .p) (a .v .now) (a .out .now) (a .work .now) _ (add-one (a .p)) (j .admit-action .ensures) (r .before .before .before .enum-told3 .given .1) (r .run-batch .ensures)
+    batch-is (a .mass .now) (s .pre) gs sound (a .tau) (a .cap) (a .p) (a .v .now) (a .out .now) (a .work .now) _ (add-one (a .p)) (j .admit-action .ensures) (r .before .before .before .enum-told3 .given .1) (r .run-batch .ensures)
 
 pub acted-batched-spec : {M : Type 1} → statement M
 acted-batched-spec =

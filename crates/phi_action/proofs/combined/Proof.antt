@@ -13,41 +13,41 @@ use Rattle.phi_action.proofs.combined.Tie as tie
 returns : tie.Need-returns
 returns c gs sound =
     let v = c .before .before .before .before in
-    let s = v .before .before .before .before .before .before .before .before in
+    let s = v .before .before .before .before .before .before .before .before .before in
     let refusal = passed-up (c .before .before .enum-told2 .given .1) (c .before .number .ensures) (c .reported .ensures) in
-    search (refused-vectors (s .args .mass .now) (s .pre) gs sound)
+    refused-vectors (s .args .mass .now) (s .pre) gs sound (s .args .tau) (s .args .cap) (s .args .count) (s .args .w .now) (s .args .out .now) (s .args .work .now) (v .validate-combination .ensures _ (v .before .check-plan .ensures)) refusal
 
 sub-d : tie.Need-sub-d
 sub-d c =
     let v = c .before .before in
-    let s = v .before .before .before .before .before .before .before .before in
+    let s = v .before .before .before .before .before .before .before .before .before in
     let a = s .args in
-    let k = vectors-known (a .g .n) (a .tau) (a .count) (a .w .now) _ (c .enum-told .given .1) (v .validate-combination .ensures) in
+    let k = vectors-known (a .g .n) _ (a .count) (a .w .now) _ (c .enum-told .given .1) (v .validate-combination .ensures _ (v .before .check-plan .ensures)) in
     omega (arith, k .some)
 
 admit-combination-requires : tie.Need-admit-combination-requires
 admit-combination-requires c κs =
     let v = c .before .before in
-    let s = v .before .before .before .before .before .before .before .before in
+    let s = v .before .before .before .before .before .before .before .before .before in
     let a = s .args in
-    let k = vectors-known (a .g .n) (a .tau) (a .count) (a .w .now) _ (c .enum-told .given .1) (v .validate-combination .ensures) in
+    let k = vectors-known (a .g .n) _ (a .count) (a .w .now) _ (c .enum-told .given .1) (v .validate-combination .ensures _ (v .before .check-plan .ensures)) in
     (vectors-within k, s .pre .valid .few, omega (arith, k .most), s .pre .light)
 
 returns-2 : tie.Need-returns-2
 returns-2 c gs sound =
     let j = c .before .before .before .before in
     let v = j .before .before .before in
-    let s = v .before .before .before .before .before .before .before .before in
+    let s = v .before .before .before .before .before .before .before .before .before in
     let refusal = passed-up (c .before .before .enum-told4 .given .1) (c .before .number2 .ensures) (c .reported2 .ensures) in
-    search (refused-sweeps (s .args .mass .now) (s .pre) gs sound)
+    refused-sweeps (s .args .mass .now) (s .pre) gs sound (s .args .tau) (s .args .cap) (s .args .count) (s .args .w .now) (s .args .out .now) (s .args .work .now) (v .validate-combination .ensures _ (v .before .check-plan .ensures)) (j .before .enum-told .given .1) (j .admit-combination .ensures) refusal
 
 combination-start-requires : tie.Need-combination-start-requires
 combination-start-requires c κs =
     let j = c .before .before .before in
     let v = j .before .before .before in
-    let s = v .before .before .before .before .before .before .before .before in
+    let s = v .before .before .before .before .before .before .before .before .before in
     let a = s .args in
-    let k = vectors-known (a .g .n) (a .tau) (a .count) (a .w .now) _ (j .before .enum-told .given .1) (v .validate-combination .ensures) in
+    let k = vectors-known (a .g .n) _ (a .count) (a .w .now) _ (j .before .enum-told .given .1) (v .validate-combination .ensures _ (v .before .check-plan .ensures)) in
     let h = allowed-combination (a .mass .now) (s .pre) {work = a .work .now} (a .w .now) k (j .admit-combination .ensures) (c .before .enum-told3 .given .1) refl in
     (first-within k, rw (j .admit-combination .ensures) at (field-fits h))
 
@@ -55,9 +55,9 @@ run-job-requires : tie.Need-run-job-requires
 run-job-requires c κs =
     let j = c .before .before .before .before .before .before .before .before in
     let v = j .before .before .before in
-    let s = v .before .before .before .before .before .before .before .before in
+    let s = v .before .before .before .before .before .before .before .before .before in
     let a = s .args in
-    let k = vectors-known (a .g .n) (a .tau) (a .count) (a .w .now) _ (j .before .enum-told .given .1) (v .validate-combination .ensures) in
+    let k = vectors-known (a .g .n) _ (a .count) (a .w .now) _ (j .before .enum-told .given .1) (v .validate-combination .ensures _ (v .before .check-plan .ensures)) in
     let st = c .before .before .before .before in
     runs-combination (a .mass .now) (s .pre) (a .w .now) k (j .admit-combination .ensures) (st .before .before .enum-told3 .given .1) (ap length (st .combination-start .ensures) ∙ length-splice 0 _ (a .work .now))
 
@@ -67,14 +67,15 @@ returns-3 c gs sound =
     let st = r .before .before .before .before .before in
     let j = st .before .before .before .before in
     let v = j .before .before .before in
-    let s = v .before .before .before .before .before .before .before .before in
+    let s = v .before .before .before .before .before .before .before .before .before in
     let a = s .args in
-    combined-is (a .mass .now) (s .pre) gs sound (a .tau) (a .count) (a .w .now) (a .out .now) (a .work .now) (v .validate-combination .ensures) (j .before .enum-told .given .1) (j .admit-combination .ensures) (st .before .before .enum-told3 .given .1) (st .combination-start .ensures) (r .run-job .ensures)
+    combined-is (a .mass .now) (s .pre) gs sound (a .tau) (a .cap) (a .count) (a .w .now) (a .out .now) (a .work .now) (v .validate-combination .ensures _ (v .before .check-plan .ensures)) (j .before .enum-told .given .1) (j .admit-combination .ensures) (st .before .before .enum-told3 .given .1) (st .combination-start .ensures) (r .run-job .ensures)
 
 pub combined-spec : {M : Type 1} → statement M
 combined-spec =
     tie.close
     (tie.spec
+    (λ c κs. search needs)
     (λ c κs. search needs)
     (λ c. search needs)
     (λ c. search needs)

@@ -13,37 +13,38 @@ use Rattle.phi_krylov.proofs.combined.Tie as tie
 returns : tie.Need-returns
 returns c gs sound =
     let v = c .before .before .before .before in
-    let s = v .before .before .before .before .before .before .before .before in
+    let s = v .before .before .before .before .before .before .before .before .before in
     let refusal = passed-up (c .before .before .enum-told2 .given .1) (c .before .number .ensures) (c .reported .ensures) in
-    search (refused-vectors (s .args .mass .now) (s .pre) gs sound)
+    refused-vectors (s .args .mass .now) (s .pre) gs sound (s .args .tau) (s .args .count) (s .args .w .now) (s .args .o) (s .args .out .now) (s .args .work .now) (v .validate-combination .ensures _ (v .before .check-time .ensures)) refusal
 
 sub-d : tie.Need-sub-d
 sub-d c =
-    let k = vectors-known _ _ _ _ _ (c .enum-told .given .1) (c .before .before .validate-combination .ensures) in
+    let k = vectors-known _ _ _ _ _ (c .enum-told .given .1) (c .before .before .validate-combination .ensures _ (c .before .before .before .check-time .ensures)) in
     omega (arith, k .some)
 
 add-clamp-m : tie.Need-add-clamp-m
 add-clamp-m c =
     let v = c .before .before .before in
-    let s = v .before .before .before .before .before .before .before .before in
-    let k = vectors-known _ _ _ _ _ (c .before .enum-told .given .1) (v .validate-combination .ensures) in
+    let s = v .before .before .before .before .before .before .before .before .before in
+    let k = vectors-known _ _ _ _ _ (c .before .enum-told .given .1) (v .validate-combination .ensures _ (v .before .check-time .ensures)) in
     omega (arith, k .most, s .pre .valid .few)
 
 returns-2 : tie.Need-returns-2
 returns-2 c gs sound =
     let o = c .before .before .before .before in
     let v = o .before .before .before .before .before in
-    let s = v .before .before .before .before .before .before .before .before in
+    let s = v .before .before .before .before .before .before .before .before .before in
     let refusal = passed-up (c .before .before .enum-told4 .given .1) (c .before .number2 .ensures) (c .reported2 .ensures) in
-    search (refused-options (s .args .mass .now) (s .pre) gs sound)
+    let t = o .before .before .before in
+    refused-options (s .args .mass .now) (s .pre) gs sound (s .args .tau) (s .args .count) (s .args .w .now) (s .args .o) (s .args .out .now) (s .args .work .now) (v .validate-combination .ensures _ (v .before .check-time .ensures)) (t .enum-told .given .1) (o .before .clamp-m .ensures) (o .check-options .ensures) refusal
 
 admit-run-requires : tie.Need-admit-run-requires
 admit-run-requires c κs =
     let o = c .before .before in
     let t = o .before .before .before in
     let v = t .before .before in
-    let s = v .before .before .before .before .before .before .before .before in
-    let k = vectors-known _ _ _ _ _ (t .enum-told .given .1) (v .validate-combination .ensures) in
+    let s = v .before .before .before .before .before .before .before .before .before in
+    let k = vectors-known _ _ _ _ _ (t .enum-told .given .1) (v .validate-combination .ensures _ (v .before .check-time .ensures)) in
     let h = options-known _ _ (c .enum-told3 .given .1) (o .check-options .ensures) in
     (vectors-within k, s .pre .valid .few, omega (arith, k .most), h .0, s .pre .light)
 
@@ -53,10 +54,10 @@ returns-3 c gs sound =
     let o = j .before .before .before in
     let t = o .before .before .before in
     let v = t .before .before in
-    let s = v .before .before .before .before .before .before .before .before in
+    let s = v .before .before .before .before .before .before .before .before .before in
     let a = s .args in
     let refusal = passed-up (c .before .before .enum-told6 .given .1) (c .before .number3 .ensures) (c .reported3 .ensures) in
-    refused-run (a .mass .now) (s .pre) gs sound (a .tau) (a .count) (a .w .now) (a .o) (a .out .now) (a .work .now) (v .validate-combination .ensures) (t .enum-told .given .1) (o .before .clamp-m .ensures) (o .check-options .ensures) (j .before .enum-told3 .given .1) (j .admit-run .ensures) refusal
+    refused-run (a .mass .now) (s .pre) gs sound (a .tau) (a .count) (a .w .now) (a .o) (a .out .now) (a .work .now) (v .validate-combination .ensures _ (v .before .check-time .ensures)) (t .enum-told .given .1) (o .before .clamp-m .ensures) (o .check-options .ensures) (j .before .enum-told3 .given .1) (j .admit-run .ensures) refusal
 
 start-in-requires : tie.Need-start-in-requires
 start-in-requires c κs =
@@ -64,8 +65,8 @@ start-in-requires c κs =
     let o = j .before .before .before in
     let t = o .before .before .before in
     let v = t .before .before in
-    let s = v .before .before .before .before .before .before .before .before in
-    let k = vectors-known _ _ _ _ _ (t .enum-told .given .1) (v .validate-combination .ensures) in
+    let s = v .before .before .before .before .before .before .before .before .before in
+    let k = vectors-known _ _ _ _ _ (t .enum-told .given .1) (v .validate-combination .ensures _ (v .before .check-time .ensures)) in
     let h = options-known _ _ (j .before .enum-told3 .given .1) (o .check-options .ensures) in
     start-fits (s .args .mass .now) (s .pre) (s .args .w .now) (s .args .o) k h (o .before .clamp-m .ensures) (j .admit-run .ensures) (c .before .enum-told5 .given .1)
 
@@ -76,8 +77,8 @@ run-job-requires c κs =
     let o = j .before .before .before in
     let t = o .before .before .before in
     let v = t .before .before in
-    let s = v .before .before .before .before .before .before .before .before in
-    let k = vectors-known _ _ _ _ _ (t .enum-told .given .1) (v .validate-combination .ensures) in
+    let s = v .before .before .before .before .before .before .before .before .before in
+    let k = vectors-known _ _ _ _ _ (t .enum-told .given .1) (v .validate-combination .ensures _ (v .before .check-time .ensures)) in
     let h = options-known _ _ (j .before .enum-told3 .given .1) (o .check-options .ensures) in
     runs-job (s .args .mass .now) (s .pre) (s .args .w .now) (s .args .o) k h (o .before .clamp-m .ensures) (j .admit-run .ensures) (i .before .before .enum-told5 .given .1) (ap length (i .start-in .ensures) ∙ length-splice _ _ (s .args .work .now))
 
@@ -89,14 +90,15 @@ returns-4 c gs sound =
     let o = j .before .before .before in
     let t = o .before .before .before in
     let v = t .before .before in
-    let s = v .before .before .before .before .before .before .before .before in
+    let s = v .before .before .before .before .before .before .before .before .before in
     let a = s .args in
-    combined-is (a .mass .now) (s .pre) gs sound (a .tau) (a .count) (a .w .now) (a .o) (a .out .now) (a .work .now) (v .validate-combination .ensures) (t .enum-told .given .1) (o .before .clamp-m .ensures) (o .check-options .ensures) (j .before .enum-told3 .given .1) (j .admit-run .ensures) (i .before .before .enum-told5 .given .1) (i .start-in .ensures) (r .run-job .ensures)
+    combined-is (a .mass .now) (s .pre) gs sound (a .tau) (a .count) (a .w .now) (a .o) (a .out .now) (a .work .now) (v .validate-combination .ensures _ (v .before .check-time .ensures)) (t .enum-told .given .1) (o .before .clamp-m .ensures) (o .check-options .ensures) (j .before .enum-told3 .given .1) (j .admit-run .ensures) (i .before .before .enum-told5 .given .1) (i .start-in .ensures) (r .run-job .ensures)
 
 pub combined-spec : {M : Type 1} → statement M
 combined-spec =
     tie.close
     (tie.spec
+    (λ c κs. search needs)
     (λ c κs. search needs)
     (λ c. search needs)
     (λ c. search needs)
