@@ -1,6 +1,6 @@
-//! Names the files of the Rust original as modules of this crate. Package `oracle` takes every file where it lies but
-//! expmv.rs, a copy below OUT_DIR in which [`DEGREE`] is replaced; package `transcribed` takes two more as copies, in
-//! which the lines of [`TRANSCRIBED`] and [`PROBES`] are replaced. SEMIFLOW gives the folder of the sources, by default `../shared/docs/src` beside the repository.
+//! Names the files of the Rust original as modules of this crate. Package `oracle` takes every file where it lies.
+//! Package `capped` takes expmv.rs as a copy below OUT_DIR in which [`DEGREE`] is replaced; package `transcribed` takes
+//! that and two more as copies, in which the lines of [`TRANSCRIBED`] and [`PROBES`] are replaced. SEMIFLOW gives the folder of the sources, by default `../shared/docs/src` beside the repository.
 
 use std::{env, fs, path::Path};
 
@@ -93,7 +93,8 @@ const PROBES: [(&str, &str, &str); 9] = [
 ];
 
 fn main() {
-    let transcribe = env::var("CARGO_PKG_NAME").unwrap() == "transcribed";
+    let package = env::var("CARGO_PKG_NAME").unwrap();
+    let transcribe = package == "transcribed";
     let sources = env::var("SEMIFLOW").unwrap_or_else(|_| concat!(env!("CARGO_MANIFEST_DIR"), "/../../../shared/docs/src").into());
     let sources = Path::new(&sources).join("crates/semiflow/src");
     let out = env::var("OUT_DIR").unwrap();
@@ -102,7 +103,8 @@ fn main() {
         let mut path = sources.join(name).with_extension("rs");
         path = path.canonicalize().unwrap_or_else(|e| panic!("{}: {e}; give the sources' folder as SEMIFLOW", path.display()));
         println!("cargo:rerun-if-changed={}", path.display());
-        let changed = name == DEGREE.0 || transcribe && (name == "phi_action_helpers" || name == "phi_krylov_arnoldi");
+        let changed =
+            package != "oracle" && name == DEGREE.0 || transcribe && (name == "phi_action_helpers" || name == "phi_krylov_arnoldi");
         if changed {
             let text = transcribed(name, fs::read_to_string(&path).unwrap());
             path = Path::new(&out).join(name).with_extension("rs");

@@ -87,7 +87,7 @@ pub fn random(kind: Kind, r: &mut Random) -> Job {
     job
 }
 
-/// Mostly one from 3 to 30: below 3 a plan has 10^5 sweeps and more, and up to 1 none fits.
+/// Mostly one from 3 to 30: up to 3 a plan has 10^5 sweeps and more, up to 2 10^8, and up to 1 none fits.
 fn degree(r: &mut Random) -> u32 {
     match r.below(20) {
         0 => r.pick(&[0, 31, u32::MAX]),

@@ -131,7 +131,7 @@ enum hazhendu_refusal {
     /* the matrix and the job together */
     /* 23 is not used: it never occurred */
     HAZHENDU_ARGUMENT_NOT_FINITE = 24, /* tau times the norm of G overflows                     2 (tau norm + 2), Krylov half of it */
-    HAZHENDU_NO_PLAN = 25,             /* Taylor: above 4,294,967,295 sweeps at every degree    2 (tau norm + 2) */
+    HAZHENDU_NO_PLAN = 25,             /* Taylor: above 4,294,967,295 sweeps up to the degree   2 (tau norm + 2) */
 
     /* the host */
     HAZHENDU_WORK_LENGTH = 26,         /* work is too short                                     NaN */

@@ -1,17 +1,17 @@
 -- The number of the check that refuses, and the checks in front of it. Assumes nothing.
 use mathlib.Core.Bool.{Bool, true, false}
-use mathlib.Core.List.{List, [], _∷_, _++_}
+use mathlib.Core.List.{List, [], _∷_, _++_, append-nil}
 use mathlib.Core.Path.{_≡_, refl, sym, ap, _∙_}
 use mathlib.Core.Logic.{_⊎_, inl, inr, ⊎-elim}
 use Prim.Native.Nat.{ℕ, zero}
 use native.Mathlib.Omega.{arith}
 use lib.Dec.{eqb}
 use lib.Ieee.{Float}
-use borrow.Author.Tests.{eqb-false}
+use borrow.Author.Tests.{eq-eqb, eqb-false}
 use Rattle.checks.specs.First.{Check, refuse, first, unless-named, before}
 use Rattle.checks.specs.declared.Checked.{Checked}
 use Rattle.checks.specs.declared.Checked.the-variants.{Sound, Refused}
-use Rattle.checks.proofs.First.{and-then, unless, first-cons, first-append}
+use Rattle.checks.proofs.First.{and-then, unless, first-cons, first-append, sound-append, sound-on, stops}
 
 -- ---- `before k xs ≡ xs` says that no check of xs is numbered k
 tail-of : {c d : Check} {cs ds : List Check} → c ∷ cs ≡ d ∷ ds → cs ≡ ds
@@ -68,3 +68,24 @@ by-itself k false y r h f = absurd (h f)
 
 pub refused-here : (k : ℕ) (b : Bool) (y : Float) (cs : List Check) {x : Float} → (Refused k x ≡ first cs → ⊥) → Refused k x ≡ first (refuse k b y ∷ cs) → (b ≡ true) × (x ≡ y)
 refused-here k b y cs h f = by-itself k b y (first cs) h (f ∙ first-cons k b y cs)
+
+-- ---- a list with one check numbered k refuses by k exactly where those in front of it pass and its condition holds, with its double
+module _ (k : ℕ) (b : Bool) (y : Float) (gs xs ys : List Check) (ng : before k gs ≡ gs) (nx : before k xs ≡ xs) (ny : before k ys ≡ ys) where
+  abbrev with-one : List Check
+  with-one = gs ++ (xs ++ (refuse k b y ∷ ys))
+
+  before-one : before k (refuse k b y ∷ ys) ≡ []
+  unfolding before
+  before-one = rw (eq-eqb k k refl) refl
+
+  in-front : before k with-one ≡ gs ++ xs
+  in-front = before-append k gs _ ng ∙ ap (λ (r : List Check). gs ++ r) (before-append k xs _ nx ∙ ap (λ (r : List Check). xs ++ r) before-one ∙ append-nil xs)
+
+  pub only-by : {x : Float} → Refused k x ≡ first with-one → (Sound ≡ first (before k with-one)) × ((b ≡ true) × (x ≡ y))
+  only-by e =
+      let g = refused-past k gs _ ng e in
+      let h = refused-past k xs _ nx (g .1) in
+      (sound-on gs xs refl (g .0) (h .0) ∙ ap first (sym in-front), refused-here k b y ys (not-by k ys ny) (h .1))
+
+  pub if-by : {x : Float} → Sound ≡ first (before k with-one) → b ≡ true → x ≡ y → Refused k x ≡ first with-one
+  if-by e h f = let s = sound-append gs xs (e ∙ ap first in-front) in sound-on gs _ refl (s .0) (sound-on xs _ refl (s .1) (stops ys h f))

@@ -16,7 +16,7 @@ pub record Call (A : Type 0) : Type 0 where
 abbrev pub ends : {A : Type 0} → A → List Float → List Float → Call A
 ends a output memory = record { answer = a; output = output; memory = memory }
 
--- refusals 1 to 26 change no lent memory
+-- refusals by a check (1 to 26 and 33) change no lent memory
 unfoldable pub unless-refused : {A : Type 0} → (ℕ → Float → A) → Checked → List Float → List Float → Call A → Call A
 unless-refused refusal (Refused k x) output memory c = ends (refusal k x) output memory
 unless-refused refusal Sound output memory c = c

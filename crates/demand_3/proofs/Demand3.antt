@@ -11,6 +11,7 @@ use lib.Ieee.{Float, nan}
 use Rattle.lists.specs.Window.{window}
 use Rattle.doubles.specs.F64.{+0}
 use Rattle.expmv.specs.Select.{degrees, thetas, decimal, degree, quotient, sweeps, cost}
+use Rattle.expmv.proofs.Rows.{degree-bounds}
 use Rattle.demand_3.specs.Taylor.{Rows}
 use borrow.Author.Tests.{eqb-false}
 use Rattle.checks.specs.First.{Check, first, before}
@@ -46,6 +47,7 @@ module _
     (g : Generator)
     (none-25 : before 25 (g .checks) ≡ g .checks)
     (none-27 : before 27 (g .checks) ≡ g .checks)
+    (none-33 : before 33 (g .checks) ≡ g .checks)
     (tau : Float)
     (count : ℕ)
     (w : List Float)
@@ -173,22 +175,32 @@ module _
       let r = refused-past 25 _ _ low-magnitude (refused-past 25 _ _ low-options (v .1) .1) in
       not-of-memory (refused-past 25 _ _ (low-bound _) (r .1) .1)
 
-  refused-25 : (c : Checked) (e : End) (need : ℕ) {x : Float} → c ≡ first checks → ((r : ℕ) (z : Float) (s : State) → e ≡ refused r z s → 26 < r)
-      → unless-refused Refusal c output memory (after-run n need memory e) .answer ≡ Refusal 25 x → ⊥
+  low-33 : before 33 checks ≡ checks
+  unfolding before krylov-checks vector-checks count-checks time-checks length-checks finite-checks option-checks run-checks magnitude-checks bound-checks memory-checks
+  low-33 = before-append 33 (g .checks) _ none-33
+
+  -- no run refuses by j, and no check does
+  refused-by-none : (j : ℕ) → ((x : Float) → Refused j x ≡ first checks → ⊥) → ((k : ℕ) → 26 < k → k < 30 → k ≡ j → ⊥) → (c : Checked) (e : End) (need : ℕ) {x : Float} → c ≡ first checks
+      → ((r : ℕ) (z : Float) (s : State) → e ≡ refused r z s → (26 < r) × (r < 30))
+      → unless-refused Refusal c output memory (after-run n need memory e) .answer ≡ Refusal j x → ⊥
   unfolding unless-refused after-run
-  refused-25 Sound (finished s) need d late f = let z : zero ≡ 1 = cc in absurd (omega (arith, z))
-  refused-25 Sound (refused k y s) need d late f = let n : k ≡ 25 = number f in absurd (omega (arith, n, late _ _ _ refl))
+  refused-by-none j h other Sound (finished s) need d late f = let z : zero ≡ 1 = cc in absurd (omega (arith, z))
+  refused-by-none j h other Sound (refused k y s) need d late f = other k (late _ _ _ refl .0) (late _ _ _ refl .1) (number f)
     where
       number : {i j : ℕ} {x y : Float} → Refusal i x ≡ Refusal j y → i ≡ j
       number g = cc
-  refused-25 (Refused k y) e need {x} d late f = checks-25 (same f ∙ d)
+  refused-by-none j h other (Refused k y) e need {x} d late f = h x (same f ∙ d)
     where
       same : {i j : ℕ} {x y : Float} → Refusal i x ≡ Refusal j y → Refused j y ≡ Refused i x
       same g = cc
 
   pub krylov-no-25 : (x : Float) → call .answer ≡ Refusal 25 x → ⊥
   unfolding phi-combination-krylov
-  krylov-no-25 x e = refused-25 (first checks) _ _ refl (λ r z s. expv-late _ tau _ (o .tol) (o .m) (o .«max_substeps») (start-of g tau count w)) e
+  krylov-no-25 x e = refused-by-none 25 (λ y. checks-25) (λ k l m n. absurd (omega (arith, l, n))) (first checks) _ _ refl (λ r z s. expv-late _ tau _ (o .tol) (o .m) (o .«max_substeps») (start-of g tau count w)) e
+
+  pub krylov-no-33 : (x : Float) → call .answer ≡ Refusal 33 x → ⊥
+  unfolding phi-combination-krylov
+  krylov-no-33 x e = refused-by-none 33 (λ y. not-by 33 checks low-33) (λ k l m n. absurd (omega (arith, m, n))) (first checks) _ _ refl (λ r z s. expv-late _ tau _ (o .tol) (o .m) (o .«max_substeps») (start-of g tau count w)) e
 
   pub zeros-idle : Sound ≡ first checks → Zeros (start-of g tau count w) → call .answer ≡ Soaked (record { matvecs = 0; substeps = 0; rejected = 0; «est_error» = +0 })
   unfolding phi-combination-krylov unless-refused after-run idle
@@ -206,21 +218,22 @@ one-each b k x = refl
 -- the rows
 the-rows : Rows
 unfolding degrees thetas decimal sweeps quotient cost degree
-the-rows = record { degrees-are = refl; thetas-are = refl; fits = fits-is; sweeps-are = λ arg j. refl; costs = λ arg j. refl }
+the-rows = record { degrees-are = refl; thetas-are = refl; fits = fits-is; all-at-30 = λ j l. degree-bounds j l .1; sweeps-are = λ arg j. refl; costs = λ arg j. refl }
 
--- ---- all four calls, of a generator none of whose checks is numbered 25 or 27, and whose norm is in range where they pass
-pub demand-3-of : (g : Generator) → (Sound ≡ first (g .checks) → out-of-range (row-sum-norm (g .matrix)) ≡ false) → before 25 (g .checks) ≡ g .checks → before 27 (g .checks) ≡ g .checks → (tau : Float) (output memory : List Float) → Demand3 g tau output memory
-demand-3-of g ranged-norm none-25 none-27 tau output memory =
+-- ---- all four calls, of a generator none of whose checks is numbered 17, 25, 27 or 33, and whose norm is in range where they pass
+pub demand-3-of : (g : Generator) → (Sound ≡ first (g .checks) → out-of-range (row-sum-norm (g .matrix)) ≡ false) → before 25 (g .checks) ≡ g .checks → before 27 (g .checks) ≡ g .checks → before 17 (g .checks) ≡ g .checks → before 33 (g .checks) ≡ g .checks → (tau : Float) (output memory : List Float) → Demand3 g tau output memory
+demand-3-of g ranged-norm none-25 none-27 none-17 none-33 tau output memory =
     record {
       one-product = one-each;
       rows = the-rows;
-      combination = λ cap count w. combination-claim g ranged-norm none-25 none-27 tau cap count w output memory;
-      action = λ cap k v. action-claim g ranged-norm none-25 none-27 tau cap k v output memory;
-      batch = λ cap p v. batch-claim g ranged-norm none-25 none-27 tau cap p v output memory;
-      krylov = λ count w o. krylov-claim g none-25 none-27 tau count w o output memory;
-      at-limit = λ count w o. exactly-27 g none-25 none-27 tau count w o output memory;
-      zeros = λ count w o. zeros-idle g none-25 none-27 tau count w o output memory;
-      no-25 = λ count w o. krylov-no-25 g none-25 none-27 tau count w o output memory;
+      combination = λ cap count w. combination-claim g ranged-norm none-25 none-27 none-17 none-33 tau cap count w output memory;
+      action = λ cap k v. action-claim g ranged-norm none-25 none-27 none-17 none-33 tau cap k v output memory;
+      batch = λ cap p v. batch-claim g ranged-norm none-25 none-27 none-17 none-33 tau cap p v output memory;
+      krylov = λ count w o. krylov-claim g none-25 none-27 none-33 tau count w o output memory;
+      at-limit = λ count w o. exactly-27 g none-25 none-27 none-33 tau count w o output memory;
+      zeros = λ count w o. zeros-idle g none-25 none-27 none-33 tau count w o output memory;
+      no-25 = λ count w o. krylov-no-25 g none-25 none-27 none-33 tau count w o output memory;
+      no-33 = λ count w o. krylov-no-33 g none-25 none-27 none-33 tau count w o output memory;
     }
 
 -- a matrix and a mass have the checks 1 to 11
@@ -234,5 +247,15 @@ unfolding before generator-checks matrix-checks shape-checks row-checks entry-ch
 forward-27 a none = refl
 forward-27 a (some mass) = refl
 
+forward-17 : (a : Csr) (mass : Mass) → before 17 (generator-checks a mass) ≡ generator-checks a mass
+unfolding before generator-checks matrix-checks shape-checks row-checks entry-checks sums-checks mass-checks sum-checks norm-checks
+forward-17 a none = refl
+forward-17 a (some mass) = refl
+
+forward-33 : (a : Csr) (mass : Mass) → before 33 (generator-checks a mass) ≡ generator-checks a mass
+unfolding before generator-checks matrix-checks shape-checks row-checks entry-checks sums-checks mass-checks sum-checks norm-checks
+forward-33 a none = refl
+forward-33 a (some mass) = refl
+
 pub demand-3 : (a : Csr) (mass : Mass) (tau : Float) (output memory : List Float) → Demand3 (forward a mass) tau output memory
-demand-3 a mass tau output memory = demand-3-of (forward a mass) (no-23 a mass) (forward-25 a mass) (forward-27 a mass) tau output memory
+demand-3 a mass tau output memory = demand-3-of (forward a mass) (no-23 a mass) (forward-25 a mass) (forward-27 a mass) (forward-17 a mass) (forward-33 a mass) tau output memory

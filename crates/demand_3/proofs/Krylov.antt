@@ -221,7 +221,7 @@ module _ (b : Augmented) (tau anorm tol : Float) (m limit : ℕ) (y : List Float
   expv-idle z = rw (zero-none y (zero-sup y z)) refl
 
   -- ---- a run refuses by 27, 28 or 29
-  late-by : (f : Prescale) {r : ℕ} {x : Float} {s : State} → expv-by b tau anorm tol m limit y f ≡ refused r x s → 26 < r
+  late-by : (f : Prescale) {r : ℕ} {x : Float} {s : State} → expv-by b tau anorm tol m limit y f ≡ refused r x s → (26 < r) × (r < 30)
   unfolding expv-by back
   late-by None g = let o : zero ≡ 1 = cc in absurd (omega (arith, o))
   late-by (By f) {r} {x} {s} g = go (run _ limit (started _ _)) (run-ends _ limit _) g
@@ -230,12 +230,12 @@ module _ (b : Augmented) (tau anorm tol : Float) (m limit : ℕ) (y : List Float
       number (finished t) = 0
       number (refused k z t) = k
 
-      go : (e : End) → Ends limit e → back (f .up) (norm2 (scale (f .down) y)) e ≡ refused r x s → 26 < r
+      go : (e : End) → Ends limit e → back (f .up) (norm2 (scale (f .down) y)) e ≡ refused r x s → (26 < r) × (r < 30)
       go (finished t) h k = let o : zero ≡ 1 = cc in absurd (omega (arith, o))
-      go (refused k z t) (inl h) j = omega (arith, h .0, ap number j)
-      go (refused k z t) (inr (inl h, u, v)) j = omega (arith, h, ap number j)
-      go (refused k z t) (inr (inr h, u, v)) j = omega (arith, h, ap number j)
+      go (refused k z t) (inl h) j = (omega (arith, h .0, ap number j), omega (arith, h .0, ap number j))
+      go (refused k z t) (inr (inl h, u, v)) j = (omega (arith, h, ap number j), omega (arith, h, ap number j))
+      go (refused k z t) (inr (inr h, u, v)) j = (omega (arith, h, ap number j), omega (arith, h, ap number j))
 
-  pub expv-late : {r : ℕ} {x : Float} {s : State} → expv b tau anorm tol m limit y ≡ refused r x s → 26 < r
+  pub expv-late : {r : ℕ} {x : Float} {s : State} → expv b tau anorm tol m limit y ≡ refused r x s → (26 < r) × (r < 30)
   unfolding expv
   expv-late g = late-by (pow2-scale y) g

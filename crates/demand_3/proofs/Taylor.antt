@@ -1,28 +1,29 @@
 -- The Taylor half of demand 3: what an accepted job costs, and when 25 refuses (document 01, 'What demand 3 counts'). Assumes nothing.
 use mathlib.Core.Path.{_≡_, refl, sym, ap, _∙_, subst}
-use mathlib.Core.Bool.{Bool, true, false, not, true≢false}
+use mathlib.Core.Bool.{Bool, true, false, not, _||_, true≢false}
 use mathlib.Core.List.{List, [], _∷_, _++_}
-use mathlib.Core.Logic.{⊎-elim}
+use mathlib.Core.Logic.{_⊎_, inl, inr, ⊎-elim}
 use Prim.Native.Nat.{ℕ, zero, suc, _-_, _*_, _<_}
 use native.Mathlib.Omega.{arith}
-use lib.Dec.{T, ltb}
+use lib.Dec.{T, eqb, ltb}
 use lib.ListN.{length}
 use lib.Ieee.{Float, nan, le, ofBits}
 use lib.Ieee.Bits.{is-true}
-use borrow.Author.Tests.{not-false, le-leb}
-use Rattle.doubles.specs.F64.{_⊕_, _⊗_, _⋖_, _⩽_, +0, 2f, is-finite}
+use borrow.Author.Tests.{not-false, eq-eqb, eqb-true, lt-ltb, ltb-true}
+use Rattle.lists.specs.Find.{find, exists}
+use Rattle.lists.proofs.Find.{found-at, find-before, find-holds}
+use Rattle.doubles.specs.F64.{_⊕_, _⊗_, _⋖_, _⩽_, +0, 2f, at, is-finite}
 use Rattle.doubles.proofs.Total.{le-number-left, ⋖-not, ⩽-or-⋖}
 use Rattle.doubles.proofs.Monotone.{finite-number, mul-number, add-nonneg, mul-nonneg}
 use Rattle.checks.specs.First.{Check, refuse, first, before}
 use Rattle.checks.proofs.First.{unless, first-cons, sound-cons, sound-append, sound-on, stops, passes}
-use Rattle.checks.proofs.Numbers.{before-append, not-by, refused-past, refused-here}
+use Rattle.checks.proofs.Numbers.{before-append, not-by, refused-past, refused-here, only-by, if-by}
 use Rattle.checks.specs.declared.Checked.{Checked}
 use Rattle.checks.specs.declared.Checked.the-variants.{Sound, Refused}
 use Rattle.general_operator.specs.Csr.{Csr, row-sum-norm}
 use Rattle.general_operator.proofs.Sound.{or-false}
 use Rattle.generator_action.specs.Generator.{Generator}
 use Rattle.expmv.specs.Select.{select-s-m, admissible, degree, quotient}
-use Rattle.expmv.proofs.Rows.{degree-bounds}
 use Rattle.expmv.specs.declared.Selected.{Selected}
 use Rattle.expmv.specs.declared.Selected.the-variants.{NoRow, Row}
 use Rattle.expmv.proofs.Least as Least
@@ -36,12 +37,12 @@ use Rattle.phi_shift.specs.declared.PlanAnswer.the-variants.{NoPlan, Plan}
 use Rattle.phi_shift.proofs.Chosen.{plan-chosen, plan-bounded, chosen-least}
 use Rattle.combination.specs.Call.{Call, unless-refused}
 use Rattle.combination.specs.Combination.{combination-operator, action-operator}
-use Rattle.combination.specs.Checks.{no-row, out-of-range, count-checks, index-checks, time-checks, degree-checks, plan-checks, length-checks, finite-checks, magnitude-checks, schedule-checks, memory-checks, vector-checks, sweep-checks, job-checks, taylor-need}
+use Rattle.combination.specs.Checks.{no-row, out-of-range, count-checks, index-checks, time-checks, degree-checks, plan-checks, length-checks, not-finite-at, finite-checks, magnitude-checks, schedule-checks, memory-checks, vector-checks, sweep-checks, job-checks, taylor-need}
 use Rattle.phi_action.specs.declared.TaylorReport.{TaylorReport}
 use Rattle.phi_action.specs.declared.TaylorAnswer.{TaylorAnswer}
 use Rattle.phi_action.specs.declared.TaylorAnswer.the-variants.{Refusal, Soaked}
 use Rattle.phi_action.specs.Calls.{Fields, after-plan, combination-checks, phi-combination, action-checks, phi-action, phi-action-batched}
-use Rattle.demand_3.specs.Taylor.{norm-of, row-fits, TaylorCost, NoRowFits, Exactly25, TaylorClaim}
+use Rattle.demand_3.specs.Taylor.{norm-of, row-fits, TaylorCost, NoRowFits, Exactly25, DegreeRefused, Exactly33, ValueRefused, Exactly17, TaylorClaim}
 use Rattle.demand_3.specs.Demand3.{start-of, operator-of, action-start, action-of}
 use Rattle.demand_3.proofs.Products.{Made, one-made, batch-made}
 
@@ -202,10 +203,10 @@ module _ (gs xs ys : List Check) (tau : Float) (cap : ℕ) (norm : Float) (memor
       has-run NoPlan h e = absurd (omega (arith, h refl))
       has-run (Plan p) h e = let z : zero ≡ 1 = cc in absurd (omega (arith, z))
 
-      refusal-of : (c : Checked) {x : Float} → c ≡ first in-order → call c .answer ≡ Refusal 25 x → Refused 25 x ≡ first in-order
+      refusal-of : (c : Checked) {j : ℕ} {x : Float} → c ≡ first in-order → call c .answer ≡ Refusal j x → Refused j x ≡ first in-order
       unfolding unless-refused
       refusal-of Sound e f = absurd (has-run _ (has-plan tau cap q norm (planned e)) f)
-      refusal-of (Refused k y) {x} e f = same f ∙ e
+      refusal-of (Refused k y) {j} {x} e f = same f ∙ e
         where
           same : {i j : ℕ} {x y : Float} → Refusal i x ≡ Refusal j y → Refused j y ≡ Refused i x
           same g = cc
@@ -213,6 +214,11 @@ module _ (gs xs ys : List Check) (tau : Float) (cap : ℕ) (norm : Float) (memor
       refuses : {x : Float} → NoRowFits in-order tau cap norm x → call (first in-order) .answer ≡ Refusal 25 x
       unfolding unless-refused
       refuses h = rw (← (if-25 h)) refl
+
+      -- the refusals of the call are those of its list
+      pub by-list : (cs : List Check) → cs ≡ in-order → (j : ℕ) (x : Float) → (call (first cs) .answer ≡ Refusal j x → Refused j x ≡ first cs) × (Refused j x ≡ first cs → call (first cs) .answer ≡ Refusal j x)
+      unfolding unless-refused
+      by-list cs e j x = rw e (refusal-of (first in-order) refl, λ f. rw (← f) refl)
 
       pub exactly-25 : (cs : List Check) → cs ≡ in-order → Exactly25 (call (first cs)) cs tau cap norm
       exactly-25 cs e x = rw e ((λ f. only-25 (refusal-of (first in-order) refl f)), refuses)
@@ -228,12 +234,72 @@ module _ (gs xs ys : List Check) (tau : Float) (cap : ℕ) (norm : Float) (memor
           go Sound d f = absurd (has-run _ (has-plan tau cap q norm (planned (d ∙ ap first e))) f)
           go (Refused k y) d f = let n : k ≡ 27 = number f in not-by 27 cs low (subst (λ (i : ℕ). Refused i y ≡ first cs) n d)
 
+-- ---- 33 and 17
+-- what a call answers is what its list does
+abbrev ByList : Call TaylorAnswer → List Check → Type 0
+ByList c cs = (j : ℕ) (x : Float) → (c .answer ≡ Refusal j x → Refused j x ≡ first cs) × (Refused j x ≡ first cs → c .answer ≡ Refusal j x)
+
+outside : (cap : ℕ) → (eqb cap 0 || ltb 30 cap) ≡ true → (cap ≡ 0) ⊎ (30 < cap)
+outside cap e = go (eqb cap 0) (ltb 30 cap) refl refl e
+  where
+    go : (a b : Bool) → eqb cap 0 ≡ a → ltb 30 cap ≡ b → (a || b) ≡ true → (cap ≡ 0) ⊎ (30 < cap)
+    go true b p q e = inl (eqb-true cap 0 p)
+    go false true p q e = inr (ltb-true 30 cap q)
+    go false false p q e = absurd (true≢false (sym e))
+
+refused-outside : (cap : ℕ) → (cap ≡ 0) ⊎ (30 < cap) → (eqb cap 0 || ltb 30 cap) ≡ true
+refused-outside cap (inl z) = rw (eq-eqb cap 0 z) refl
+refused-outside cap (inr l) = rw (lt-ltb 30 cap l) (or-true (eqb cap 0))
+  where
+    or-true : (b : Bool) → (b || true) ≡ true
+    or-true true = refl
+    or-true false = refl
+
+module _ (cs gs xs ys : List Check) (cap : ℕ) (c : Call TaylorAnswer) (listed : ByList c cs) where
+  exactly-33 : cs ≡ gs ++ (xs ++ (refuse 33 (eqb cap 0 || ltb 30 cap) nan ∷ ys)) → before 33 gs ≡ gs → before 33 xs ≡ xs → before 33 ys ≡ ys → Exactly33 c cs cap
+  exactly-33 e ng nx ny x = (
+    (λ f. let h = only-by 33 _ nan gs xs ys ng nx ny (listed 33 x .0 f ∙ ap first e) in record { earlier = h .0 ∙ ap (λ (r : List Check). first (before 33 r)) (sym e); outside = outside cap (h .1 .0); told = h .1 .1 }),
+    (λ r. listed 33 x .1 (if-by 33 _ nan gs xs ys ng nx ny (r .earlier ∙ ap (λ (l : List Check). first (before 33 l)) e) (refused-outside cap (r .outside)) (r .told) ∙ ap first (sym e))),
+  )
+
+not-true : (b : Bool) → not b ≡ true → b ≡ false
+not-true true e = absurd (true≢false (sym e))
+not-true false e = refl
+
+module _ (cs gs xs ys : List Check) (v : List Float) (c : Call TaylorAnswer) (listed : ByList c cs) where
+  abbrev bad : ℕ → Bool
+  bad i = not (is-finite (at v i))
+
+  exactly-17 : cs ≡ gs ++ (xs ++ (refuse 17 (exists bad (length v)) (at v (find bad (length v))) ∷ ys)) → before 17 gs ≡ gs → before 17 xs ≡ xs → before 17 ys ≡ ys → Exactly17 c cs v
+  unfolding exists
+  exactly-17 e ng nx ny x = (only, only-if)
+    where
+      only : c .answer ≡ Refusal 17 x → ValueRefused cs v x
+      only f =
+          let h = only-by 17 _ _ gs xs ys ng nx ny (listed 17 x .0 f ∙ ap first e) in
+          let l = ltb-true (find bad (length v)) (length v) (h .1 .0) in
+          record {
+            earlier = h .0 ∙ ap (λ (r : List Check). first (before 17 r)) (sym e);
+            place = find bad (length v);
+            below = l;
+            not-finite = not-true _ (find-holds bad (length v) l);
+            finite-before = λ j m. not-false _ (find-before bad (length v) j m);
+            told = h .1 .1;
+          }
+
+      only-if : ValueRefused cs v x → c .answer ≡ Refusal 17 x
+      only-if r =
+          let p = found-at {p = bad} (record { none = λ j m. ap not (r .finite-before j m) }) (length v) (r .below) (ap not (r .not-finite)) in
+          listed 17 x .1 (if-by 17 _ _ gs xs ys ng nx ny (r .earlier ∙ ap (λ (l : List Check). first (before 17 l)) e) (rw (← p) (lt-ltb _ _ (r .below))) (r .told ∙ ap (at v) p) ∙ ap first (sym e))
+
 -- ---- the three calls
 module _
     (g : Generator)
     (ranged-norm : Sound ≡ first (g .checks) → out-of-range (row-sum-norm (g .matrix)) ≡ false)
     (none-25 : before 25 (g .checks) ≡ g .checks)
     (none-27 : before 27 (g .checks) ≡ g .checks)
+    (none-17 : before 17 (g .checks) ≡ g .checks)
+    (none-33 : before 33 (g .checks) ≡ g .checks)
     (tau : Float) where
   abbrev norm : Float
   norm = row-sum-norm (g .matrix)
@@ -271,9 +337,28 @@ module _
     unfolding phi-combination
     combination-no-27 = never-27 _ _ between tau cap norm _ _ ranged-norm none-25 low-count low-between _ _ output memory _ combination-in-order low-combination
 
-    pub combination-claim : TaylorClaim (phi-combination g tau cap count w output memory) (combination-checks g tau cap count w (length output) (length memory)) tau cap (operator-of g tau count w) 1 (λ _. start-of g tau count w)
+    combination-listed : ByList (phi-combination g tau cap count w output memory) (combination-checks g tau cap count w (length output) (length memory))
+    unfolding phi-combination
+    combination-listed = by-list _ _ between tau cap norm _ _ ranged-norm none-25 low-count low-between _ _ output memory _ combination-in-order
+
+    -- behind 33, and behind 17
+    abbrev of-lengths : List Check
+    of-lengths = length-checks (length output) (g .matrix .n) (length w) (count * g .matrix .n)
+
+    abbrev of-sweeps : List Check
+    of-sweeps = sweep-checks (g .matrix .n) tau cap (count - 1) w norm (length memory) (taylor-need (g .matrix .n) (count - 1) (g .stored))
+
+    combination-33 : Exactly33 (phi-combination g tau cap count w output memory) (combination-checks g tau cap count w (length output) (length memory)) cap
+    unfolding before combination-checks vector-checks plan-checks count-checks time-checks degree-checks length-checks finite-checks sweep-checks magnitude-checks schedule-checks memory-checks
+    combination-33 = exactly-33 _ (g .checks) (count-checks count ++ time-checks tau) (of-lengths ++ (finite-checks w ++ of-sweeps)) cap (phi-combination g tau cap count w output memory) combination-listed refl none-33 refl refl
+
+    combination-17 : Exactly17 (phi-combination g tau cap count w output memory) (combination-checks g tau cap count w (length output) (length memory)) w
+    unfolding before combination-checks vector-checks plan-checks count-checks time-checks degree-checks length-checks finite-checks not-finite-at sweep-checks magnitude-checks schedule-checks memory-checks
+    combination-17 = exactly-17 _ (g .checks) (count-checks count ++ (plan-checks tau cap ++ of-lengths)) of-sweeps w (phi-combination g tau cap count w output memory) combination-listed refl none-17 refl refl
+
+    pub combination-claim : TaylorClaim (phi-combination g tau cap count w output memory) (combination-checks g tau cap count w (length output) (length memory)) tau cap w (operator-of g tau count w) 1 (λ _. start-of g tau count w)
     unfolding combination-operator
-    combination-claim = record { accepted = combination-cost; no-plan = combination-25; no-limit = combination-no-27 }
+    combination-claim = record { accepted = combination-cost; no-degree = combination-33; no-value = combination-17; no-plan = combination-25; no-limit = combination-no-27 }
 
   module _ (cap k : ℕ) (v output memory : List Float) where
     low-index : before 25 (index-checks k) ≡ index-checks k
@@ -319,10 +404,32 @@ module _
         → unless-refused Refusal (first (action-checks g tau cap k v (length output) wanted (length memory))) output memory (after-plan (taylor-need (g .matrix .n) 3 (g .stored)) tau norm output memory (sweep-plan cap tau (g .matrix) norm) run) .answer ≡ Refusal 27 x → ⊥
     action-no-27 wanted run = never-27 (g .checks) (index-checks k) (of-field wanted) tau cap norm _ _ ranged-norm none-25 low-index (low-field wanted) _ run output memory _ (action-in-order wanted) (low-action wanted)
 
-    pub action-claim : TaylorClaim (phi-action g tau cap k v output memory) (action-checks g tau cap k v (length output) (g .matrix .n) (length memory)) tau cap (action-of g v) 1 (λ _. action-start g v k)
-    unfolding phi-action action-operator
-    action-claim = record { accepted = action-cost; no-plan = action-exactly (g .matrix .n) _; no-limit = action-no-27 (g .matrix .n) _ }
+    -- of an output of `wanted` values, whatever is run
+    module _ (wanted : ℕ) (run : SweepPlan → Fields) where
+      abbrev acted : Call TaylorAnswer
+      acted = unless-refused Refusal (first (action-checks g tau cap k v (length output) wanted (length memory))) output memory (after-plan (taylor-need (g .matrix .n) 3 (g .stored)) tau norm output memory (sweep-plan cap tau (g .matrix) norm) run)
 
-    pub batch-claim : TaylorClaim (phi-action-batched g tau cap k v output memory) (action-checks g tau cap k v (length output) (suc k * g .matrix .n) (length memory)) tau cap (action-of g v) (suc k) (action-start g v)
+      action-listed : ByList acted (action-checks g tau cap k v (length output) wanted (length memory))
+      action-listed = by-list (g .checks) (index-checks k) (of-field wanted) tau cap norm _ _ ranged-norm none-25 low-index (low-field wanted) _ run output memory _ (action-in-order wanted)
+
+      abbrev of-plan-and-host : List Check
+      of-plan-and-host = schedule-checks cap norm tau ++ memory-checks (length memory) (taylor-need (g .matrix .n) 3 (g .stored))
+
+      abbrev of-v-lengths : List Check
+      of-v-lengths = length-checks (length output) wanted (length v) (g .matrix .n)
+
+      action-33 : Exactly33 acted (action-checks g tau cap k v (length output) wanted (length memory)) cap
+      unfolding before action-checks job-checks plan-checks index-checks time-checks degree-checks length-checks finite-checks schedule-checks memory-checks
+      action-33 = exactly-33 _ (g .checks) (index-checks k ++ time-checks tau) (of-v-lengths ++ (finite-checks v ++ of-plan-and-host)) cap acted action-listed refl none-33 refl refl
+
+      action-17 : Exactly17 acted (action-checks g tau cap k v (length output) wanted (length memory)) v
+      unfolding before action-checks job-checks plan-checks index-checks time-checks degree-checks length-checks finite-checks not-finite-at schedule-checks memory-checks
+      action-17 = exactly-17 _ (g .checks) (index-checks k ++ (plan-checks tau cap ++ of-v-lengths)) of-plan-and-host v acted action-listed refl none-17 refl refl
+
+    pub action-claim : TaylorClaim (phi-action g tau cap k v output memory) (action-checks g tau cap k v (length output) (g .matrix .n) (length memory)) tau cap v (action-of g v) 1 (λ _. action-start g v k)
+    unfolding phi-action action-operator
+    action-claim = record { accepted = action-cost; no-degree = action-33 (g .matrix .n) _; no-value = action-17 (g .matrix .n) _; no-plan = action-exactly (g .matrix .n) _; no-limit = action-no-27 (g .matrix .n) _ }
+
+    pub batch-claim : TaylorClaim (phi-action-batched g tau cap k v output memory) (action-checks g tau cap k v (length output) (suc k * g .matrix .n) (length memory)) tau cap v (action-of g v) (suc k) (action-start g v)
     unfolding phi-action-batched action-operator
-    batch-claim = record { accepted = batch-cost; no-plan = action-exactly (suc k * g .matrix .n) _; no-limit = action-no-27 (suc k * g .matrix .n) _ }
+    batch-claim = record { accepted = batch-cost; no-degree = action-33 (suc k * g .matrix .n) _; no-value = action-17 (suc k * g .matrix .n) _; no-plan = action-exactly (suc k * g .matrix .n) _; no-limit = action-no-27 (suc k * g .matrix .n) _ }

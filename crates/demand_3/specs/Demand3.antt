@@ -59,13 +59,14 @@ pub record Demand3 (g : Generator) (tau : Float) (output memory : List Float) : 
   pub one-product : (b : Augmented) (k : Scales) (x : List Float) → OneProduct b k x
   -- the rows that a plan is chosen of
   pub rows : Rows
-  -- Taylor: the products are exactly s × m for each function, the least of all rows that are admissible up to the cap; 25 exactly where none is
+  -- Taylor: the products are exactly s × m for each function, the least of all rows that are admissible up to the cap; 25 exactly where none is, 33 exactly for a
+  -- cap that is not 1 to 30, 17 exactly for a value that is not finite
   pub combination : (cap count : ℕ) (w : List Float)
-      → TaylorClaim (phi-combination g tau cap count w output memory) (combination-checks g tau cap count w (length output) (length memory)) tau cap (operator-of g tau count w) 1 (λ _. start-of g tau count w)
+      → TaylorClaim (phi-combination g tau cap count w output memory) (combination-checks g tau cap count w (length output) (length memory)) tau cap w (operator-of g tau count w) 1 (λ _. start-of g tau count w)
   pub action : (cap k : ℕ) (v : List Float)
-      → TaylorClaim (phi-action g tau cap k v output memory) (action-checks g tau cap k v (length output) (g .matrix .n) (length memory)) tau cap (action-of g v) 1 (λ _. action-start g v k)
+      → TaylorClaim (phi-action g tau cap k v output memory) (action-checks g tau cap k v (length output) (g .matrix .n) (length memory)) tau cap v (action-of g v) 1 (λ _. action-start g v k)
   pub batch : (cap p : ℕ) (v : List Float)
-      → TaylorClaim (phi-action-batched g tau cap p v output memory) (action-checks g tau cap p v (length output) (suc p * g .matrix .n) (length memory)) tau cap (action-of g v) (suc p) (action-start g v)
+      → TaylorClaim (phi-action-batched g tau cap p v output memory) (action-checks g tau cap p v (length output) (suc p * g .matrix .n) (length memory)) tau cap v (action-of g v) (suc p) (action-start g v)
   -- Krylov: the counts are those of what the run did, and bounded; the rounded sum of its steps is 1 at the last; 27 exactly at the limit
   pub krylov : (count : ℕ) (w : List Float) (o : KrylovPhiOptions) {r : KrylovPhiReport} → phi-combination-krylov g tau count w o output memory .answer ≡ Soaked r
       → KrylovCost (g .matrix .n) (clamped (o .m) (g .matrix .n + (count - 1))) (o .«max_substeps») (start-of g tau count w) (phi-combination-krylov g tau count w o output memory .output) (krylov-run g tau count w o) r
@@ -74,5 +75,6 @@ pub record Demand3 (g : Generator) (tau : Float) (output memory : List Float) : 
   -- a start of zeros gives a result, all counts 0
   pub zeros : (count : ℕ) (w : List Float) (o : KrylovPhiOptions) → Sound ≡ first (krylov-checks g tau count w o (length output) (length memory)) → Zeros (start-of g tau count w)
       → phi-combination-krylov g tau count w o output memory .answer ≡ Soaked (record { matvecs = 0; substeps = 0; rejected = 0; «est_error» = +0 })
-  -- 25 is Taylor's alone
+  -- 25 and 33 are Taylor's alone
   pub no-25 : (count : ℕ) (w : List Float) (o : KrylovPhiOptions) (x : Float) → phi-combination-krylov g tau count w o output memory .answer ≡ Refusal 25 x → ⊥
+  pub no-33 : (count : ℕ) (w : List Float) (o : KrylovPhiOptions) (x : Float) → phi-combination-krylov g tau count w o output memory .answer ≡ Refusal 33 x → ⊥

@@ -1,5 +1,6 @@
 -- The Taylor half of demand 3: what an accepted job did, and when 25 refuses (document 01, 'What demand 3 counts'). Definitions only.
 use mathlib.Core.Path.{_≡_}
+use mathlib.Core.Logic.{_⊎_}
 use mathlib.Core.Bool.{Bool, true, false, _&&_}
 use mathlib.Core.List.{List, [], _∷_}
 use Prim.Native.Nat.{ℕ, _*_, _^_, _≤_, _<_}
@@ -11,7 +12,7 @@ use Rattle.lists.specs.Window.{window}
 use Rattle.checks.specs.First.{Check, first, before}
 use Rattle.checks.specs.declared.Checked.the-variants.{Sound}
 use Rattle.general_operator.specs.Csr.{row-sum-norm}
-use Rattle.doubles.specs.F64.{if_then_else_, _⊕_, _⊗_, _⊘_, _⩽_, _⋖_, 1f, 2f, nat}
+use Rattle.doubles.specs.F64.{if_then_else_, _⊕_, _⊗_, _⊘_, _⩽_, _⋖_, 1f, 2f, nat, at, is-finite}
 use Rattle.doubles.specs.Whole.{ceil}
 use Rattle.expmv.specs.Select.{degrees, thetas, admissible, sweeps, cost}
 use Rattle.phi_action_helpers.specs.Augmented.{Augmented}
@@ -53,6 +54,7 @@ pub record Rows : Type 0 where
       ∷ theta 3998 4 ∷ theta 5139 4 ∷ theta 6411 4 ∷ theta 7803 4 ∷ theta 9305 4 ∷ theta 1091 3
       ∷ theta 1260 3 ∷ theta 1438 3 ∷ theta 2429 3 ∷ theta 3540 3 ∷ []
   pub fits : (cap : ℕ) (arg : Float) (j : ℕ) → admissible cap arg j ≡ row-fits cap arg j
+  pub all-at-30 : (j : ℕ) → j < 22 → getD degrees j 0 ≤ 30
   pub sweeps-are : (arg : Float) (j : ℕ) → sweeps arg j ≡ row-sweeps arg j
   pub costs : (arg : Float) (j : ℕ) → cost arg j ≡ row-sweeps arg j * getD degrees j 0
 
@@ -84,8 +86,31 @@ pub record NoRowFits (cs : List Check) (tau : Float) (cap : ℕ) (norm x : Float
 abbrev pub Exactly25 : Call TaylorAnswer → List Check → Float → ℕ → Float → Type 0
 Exactly25 c cs tau cap norm = (x : Float) → (c .answer ≡ Refusal 25 x → NoRowFits cs tau cap norm x) × (NoRowFits cs tau cap norm x → c .answer ≡ Refusal 25 x)
 
--- a Taylor call: what it did where it gave a result; 25; and never 27, which is of Krylov runs
-pub record TaylorClaim (c : Call TaylorAnswer) (cs : List Check) (tau : Float) (cap : ℕ) (b : Augmented) (runs : ℕ) (start : ℕ → List Float) : Type 0 where
+-- 33 refuses with x (document 02, N7): no check in front of it holds, and the highest degree is not 1 to 30; x is NaN
+pub record DegreeRefused (cs : List Check) (cap : ℕ) (x : Float) : Type 0 where
+  pub earlier : Sound ≡ first (before 33 cs)
+  pub outside : (cap ≡ 0) ⊎ (30 < cap)
+  pub told : x ≡ nan
+
+abbrev pub Exactly33 : Call TaylorAnswer → List Check → ℕ → Type 0
+Exactly33 c cs cap = (x : Float) → (c .answer ≡ Refusal 33 x → DegreeRefused cs cap x) × (DegreeRefused cs cap x → c .answer ≡ Refusal 33 x)
+
+-- 17 refuses with x (document 01; of an action document 02, N2): no check in front of it holds, and x is the first value that is not finite
+pub record ValueRefused (cs : List Check) (values : List Float) (x : Float) : Type 0 where
+  pub earlier : Sound ≡ first (before 17 cs)
+  pub place : ℕ
+  pub below : place < length values
+  pub not-finite : is-finite (at values place) ≡ false
+  pub finite-before : (j : ℕ) → j < place → is-finite (at values j) ≡ true
+  pub told : x ≡ at values place
+
+abbrev pub Exactly17 : Call TaylorAnswer → List Check → List Float → Type 0
+Exactly17 c cs values = (x : Float) → (c .answer ≡ Refusal 17 x → ValueRefused cs values x) × (ValueRefused cs values x → c .answer ≡ Refusal 17 x)
+
+-- a Taylor call on these vectors: what it did where it gave a result; 33, 17 and 25; and never 27, which is of Krylov runs
+pub record TaylorClaim (c : Call TaylorAnswer) (cs : List Check) (tau : Float) (cap : ℕ) (vectors : List Float) (b : Augmented) (runs : ℕ) (start : ℕ → List Float) : Type 0 where
   pub accepted : {r : TaylorReport} → c .answer ≡ Soaked r → TaylorCost tau cap b runs start (c .output) r
+  pub no-degree : Exactly33 c cs cap
+  pub no-value : Exactly17 c cs vectors
   pub no-plan : Exactly25 c cs tau cap (norm-of b)
   pub no-limit : (x : Float) → c .answer ≡ Refusal 27 x → ⊥

@@ -2,7 +2,7 @@
 use mathlib.Core.Path.{_≡_, refl}
 use mathlib.Core.Bool.{false}
 use lib.Ieee.{nan, inf}
-use Rattle.doubles.specs.F64.{bits, +0}
+use Rattle.doubles.specs.F64.{bits, nat, +0}
 use Rattle.expmv.specs.declared.Selected.the-variants.{NoRow, Row}
 use Rattle.expmv.specs.Select.{M-MAX, select-s-m, open-Select}
 
@@ -68,3 +68,13 @@ rounded-quotient = refl
 lower-degree : select-s-m 18 (bits 0x4024_0000_0000_0000) ≡ Row 10 18
 unfolding open-Select
 lower-degree = refl
+
+-- up to degree 2: the second row
+up-to-2 : select-s-m 2 (nat 4) ≡ Row 154978691 2
+unfolding open-Select
+up-to-2 = refl
+
+-- up to degree 1 no row
+up-to-1 : select-s-m 1 (nat 4) ≡ NoRow
+unfolding open-Select
+up-to-1 = refl

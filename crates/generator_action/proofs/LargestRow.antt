@@ -1,5 +1,5 @@
--- The row that the answer to a matrix names (document 02, N1): it is a row, its sum is the norm, every earlier sum is below the norm, and where all sums
--- are 0 it is row 0. Assumes nothing.
+-- The row that the answer to a matrix names (document 02, N1): it is a row, its sum is the norm, no sum is above the norm and every earlier one below it,
+-- and where all sums are 0 it is row 0. Assumes nothing.
 use mathlib.Core.Path.{_≡_, refl, sym, subst, _∙_}
 use mathlib.Core.Bool.{cond}
 use mathlib.Core.Logic.{inl, inr}
@@ -9,7 +9,7 @@ use native.Mathlib.Omega.{arith}
 use lib.Dec.{T}
 use lib.Ieee.{Float}
 use Rattle.lists.proofs.Bounds.{lt-or-le}
-use Rattle.doubles.specs.F64.{_⋖_, +0, nonneg}
+use Rattle.doubles.specs.F64.{_⋖_, _⩽_, +0, nonneg}
 use Rattle.doubles.proofs.Order.{nonneg-number}
 use Rattle.doubles.proofs.Sizes.{zero-nonneg}
 use Rattle.doubles.proofs.Total.{⩽-refl, ⋖-not}
@@ -27,6 +27,7 @@ use Rattle.generator_action.proofs.Leading.{Leading, leading-start, lea
 
 pub record FirstLargest (q : Csr) : Type 0 where
   pub below : largest-row q < q .n
+  pub most : (j : ℕ) → j < q .n → T (row-sum q j ⩽ row-sum-norm q)
   pub has : row-sum q (largest-row q) ≡ row-sum-norm q
   pub earlier : (j : ℕ) → j < largest-row q → T (row-sum q j ⋖ row-sum-norm q)
 
@@ -55,6 +56,7 @@ module _ (q : Csr) (p : (i : ℕ) → i < q .n → T (nonneg (row-sum q i))) (so
       let e = leading-end (l .leads) refl some in
       record {
         below = rw (← e .1) (omega (arith, l .leads .low));
+        most = λ j h. rw (← e .0) (l .leads .most j h);
         has = rw (← e .1) (l .leads .has some ∙ e .0);
         earlier = λ j h. rw (← e .0) (l .leads .first j (rw (← e .1) at h));
       }

@@ -52,10 +52,20 @@ find-before-by p m true e h k l = absurd (omega arith)
 find-before-by p m false e h zero l = e
 find-before-by p m false e h (suc k) l = h k (le-of-suc-le-suc l)
 
-find-before : (p : ℕ → Bool) (n k : ℕ) → k < find p n → p k ≡ false
+pub find-before : (p : ℕ → Bool) (n k : ℕ) → k < find p n → p k ≡ false
 unfolding find
 find-before p zero k l = absurd (omega arith)
 find-before p (suc n) k l = find-before-by p (find (λ j. p (suc j)) n) (p 0) refl (λ j m. find-before (λ i. p (suc i)) n j m) k l
+
+-- at the index found it passes
+find-holds-by : (p : ℕ → Bool) (n m : ℕ) (b : Bool) → p 0 ≡ b → (m < n → p (suc m) ≡ true) → elim b [ true ↦ 0 | false ↦ suc m ] < suc n → p (elim b [ true ↦ 0 | false ↦ suc m ]) ≡ true
+find-holds-by p n m true e h l = e
+find-holds-by p n m false e h l = h (le-of-suc-le-suc l)
+
+pub find-holds : (p : ℕ → Bool) (n : ℕ) → find p n < n → p (find p n) ≡ true
+unfolding find
+find-holds p zero l = absurd (omega arith)
+find-holds p (suc n) l = find-holds-by p n (find (λ j. p (suc j)) n) (p 0) refl (λ h. find-holds (λ i. p (suc i)) n h) l
 
 -- the test passes nowhere below n
 pub none-below : (p : ℕ → Bool) (n : ℕ) → exists p n ≡ false → (k : ℕ) → k < n → p k ≡ false

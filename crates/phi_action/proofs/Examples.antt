@@ -79,7 +79,7 @@ time-first : phi-combination (forward laplace none) nan 31 1 (+0 ∷ +0 ∷ []) 
 unfolding open-Calls
 time-first = refl
 
--- up to 1 no row is admissible, whatever the job: the argument is at least 4
+-- up to 1 no row is admissible, not even at time 0, where the argument is 4
 degree-1 : phi-action (forward laplace none) +0 1 0 (+0 ∷ +0 ∷ []) (nat 7 ∷ nat 7 ∷ []) (replicate 12 (nat 9)) ≡ ends (Refusal 25 (nat 4)) (nat 7 ∷ nat 7 ∷ []) (replicate 12 (nat 9))
 unfolding open-Calls
 degree-1 = refl

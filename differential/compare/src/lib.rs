@@ -2,7 +2,7 @@
 
 pub mod reference;
 
-use jobs::{Answer, Call, Job};
+use jobs::{Answer, Call, Job, DEGREE};
 
 /// What the Rust answers.
 pub struct Expected {
@@ -44,9 +44,10 @@ pub fn expected(job: &Job, cost: u64) -> Option<Expected> {
     Some(Expected { answer, transcribed, paths })
 }
 
-/// The answer of the Rust as it is.
+/// The answer of the Rust as it is; up to a lower degree than `M_MAX`, of the Rust with that number for it.
 fn unaltered(job: &Job) -> Answer {
-    reference::answer(job, |j| oracle::answer(j, u64::MAX)).expect("an answer at any cost")
+    let rust = |j: &Job| if j.degree == DEGREE { oracle::answer(j, u64::MAX) } else { capped::answer(j, u64::MAX) };
+    reference::answer(job, rust).expect("an answer at any cost")
 }
 
 /// Where the Rust with its own libm differs from the transcribed.

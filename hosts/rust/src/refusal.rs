@@ -84,9 +84,9 @@ const MEANINGS: [Meaning; 29] = [
     meaning(24, "tau times the norm of the generator is not finite", "the schedule's argument", "shorten tau, or check its units"),
     meaning(
         25,
-        "Taylor has no plan: it would need more than 4,294,967,295 sweeps",
+        "Taylor has no plan up to the highest degree: it would need more than 4,294,967,295 sweeps",
         "the schedule's argument",
-        "shorten tau, check its units, raise the highest degree, or take the Krylov solver",
+        "raise the highest degree if it is low, shorten tau, check its units, or take the Krylov solver",
     ),
     meaning(26, "the working memory is too short", "", "lend as many doubles as the size functions say"),
     meaning(
@@ -111,7 +111,7 @@ const MEANINGS: [Meaning; 29] = [
         33,
         "the highest degree is not from 1 to 30",
         "",
-        "take 30, or a lower one if high degrees lose digits; 20 or more costs little",
+        "take 30, or a lower one if high degrees lose digits: 25 costs about 1.2 times the products of 30, 20 about 1.6 times",
     ),
 ];
 

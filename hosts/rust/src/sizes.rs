@@ -1,7 +1,7 @@
 //! The library's limits, and how much memory a job needs, in doubles.
 //!
-//! A job beyond a limit is refused (3, 12, 13 or 20) before the memory is looked at, so that it needs none: these functions
-//! give 0 for it, and no sum here overflows.
+//! A job beyond a limit of rows, entries, vectors, index or dimension is refused (3, 12, 13 or 20) before the memory is looked
+//! at, so that it needs none: these functions give 0 for it, and no sum here overflows.
 
 pub const MAX_ROWS: usize = 1_000_000;
 pub const MAX_ENTRIES: usize = 16_777_216;

@@ -12,8 +12,8 @@ pub const HELP: &str = "\
 soak: temperatures of a thermal model after a time, by the proved library hazhendu
 
   soak MATRIX --tau T --vector FILE [--vector FILE ...] [--mass FILE]
-       [--solver taylor|krylov] [--tol X] [--m N] [--limit N]
-       [--output FILE] [--plot FILE.svg]
+       [--solver taylor|krylov] [--degree N] [--tol X] [--m N]
+       [--limit N] [--output FILE] [--plot FILE.svg]
   soak check MATRIX [--mass FILE]
 
 computes the sum over k of T^k phi_k(T G) w_k, where G = -A, or -A with each row

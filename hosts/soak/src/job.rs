@@ -5,8 +5,8 @@ use crate::failure::Failure;
 use crate::memory::joined;
 use crate::model::Model;
 use crate::vector::Vector;
-use hazhendu::sizes::MAX_VECTORS;
-use hazhendu::{combine, shortest, Cost, Refusal, Soaked};
+use hazhendu::sizes::{MAX_DEGREE, MAX_VECTORS};
+use hazhendu::{combine, shortest, Cost, Refusal, Soaked, Solver};
 
 pub struct Job<'a> {
     request: &'a Request,
@@ -49,6 +49,14 @@ impl<'a> Job<'a> {
         self.vectors.iter().position(|vector| vector.numbers.len() != self.model.matrix().n)
     }
 
+    /// The highest degree, where it is lower than it may be.
+    fn degree(&self) -> String {
+        match self.request.solver {
+            Solver::Taylor(options) if options.degree < MAX_DEGREE => format!(", --degree {}", options.degree),
+            _ => String::new(),
+        }
+    }
+
     /// Where a refusal has its cause.
     fn place(&self, refusal: Refusal) -> Option<String> {
         match refusal.number {
@@ -61,7 +69,8 @@ impl<'a> Job<'a> {
             19 => Some("--limit".into()),
             20 => Some("--m or --limit".into()),
             21 | 22 => Some("--tau and the vectors from the second on".into()),
-            24 | 25 => Some(format!("--tau {} and {}", shortest(self.request.tau), self.request.files.matrix.display())),
+            25 => Some(format!("--tau {}, {}{}", shortest(self.request.tau), self.request.files.matrix.display(), self.degree())),
+            24 => Some(format!("--tau {} and {}", shortest(self.request.tau), self.request.files.matrix.display())),
             27 => Some("--limit".into()),
             _ => self.model.place(refusal),
         }
