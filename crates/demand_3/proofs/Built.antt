@@ -16,7 +16,7 @@ use Rattle.vectors.specs.Vectors.{dot, axpy, scale}
 use Rattle.arnoldi.specs.Basis.{Setting, dim, Columns, Rest, Breakdown, Basis, breakdown, full, norm2, apply, lessen, orthogonal, rest, extend, arnoldi-step, close, first-column, arnoldi}
 use Rattle.arnoldi.proofs.GramSchmidt.{orthogonal-ext}
 use Rattle.phi_krylov_arnoldi.specs.Run.{columns-of}
-use Rattle.demand_3.specs.Krylov.{euclidean, left-of, Built, Based}
+use Rattle.demand_3.specs.Krylov.{euclidean, left-of, Built, Based, Begun}
 
 -- what is left of a product does not depend on h
 z-only : (v : ℕ → List Float) (n j i : ℕ) (r r' : Rest) → r .z ≡ r' .z → orthogonal v n j i r .z ≡ orthogonal v n j i r' .z
@@ -106,6 +106,27 @@ close-based p (out b) h =
 close-based p (on b) h =
     let n : length (map (apply p) (b .v)) - 1 ≡ p .m = omega (arith, length-map (b .v) (apply p), h .0) in
     (built p (p .m) (b .v) h, ap norm2 (sym (mapped (apply p) (b .v) (p .m) (omega (arith, h .0))) ∙ ap (λ (i : ℕ). getD (map (apply p) (b .v)) i []) (sym n)))
+
+-- ---- its first column
+extend-first : (p : Setting) (x : List Float) (j : ℕ) (b : Columns) (r : Rest) (hn : Float) (t : Bool) → (0 < length (b .v)) × (getD (b .v) 0 [] ≡ x)
+    → Kept (λ (_ : ℕ) (c : Columns). (0 < length (c .v)) × (getD (c .v) 0 [] ≡ x)) (λ (_ : ℕ) (e : Breakdown). getD (e .columns .v) 0 [] ≡ x) (j + 1) (extend p j b r hn t)
+unfolding extend
+extend-first p x j b r hn true h = h .1
+extend-first p x j b r hn false h =
+    let z = scale (1f ⊘ hn) (r .z) in
+    (omega (arith, length-append (b .v) (z ∷ []), h .0), List·getD-append (b .v) (z ∷ []) [] 0 (h .0) ∙ h .1)
+
+close-first : (p : Setting) (x : List Float) (n : ℕ) (o : Turn Columns Breakdown)
+    → Kept (λ (_ : ℕ) (c : Columns). (0 < length (c .v)) × (getD (c .v) 0 [] ≡ x)) (λ (_ : ℕ) (e : Breakdown). getD (e .columns .v) 0 [] ≡ x) n o → getD (columns-of (close p o)) 0 [] ≡ x
+unfolding close
+close-first p x n (out b) h = h
+close-first p x n (on b) h = h .1
+
+pub own-first : (p : Setting) (y : List Float) (beta : Float) → Begun (arnoldi p y beta) beta y
+unfolding arnoldi arnoldi-step first-column
+own-first p y beta =
+    close-first p (scale (1f ⊘ beta) y) (0 + p .m) (walk (arnoldi-step p beta) (p .m) 0 (on (first-column p y beta)))
+    (walk-keeps _ _ (arnoldi-step p beta) (λ j b h. extend-first p (scale (1f ⊘ beta) y) j b _ _ _ h) (λ i j e l h. h) (p .m) 0 (on (first-column p y beta)) (omega arith, refl))
 
 pub own-based : (p : Setting) (y : List Float) (beta : Float) → Based p (arnoldi p y beta) (map (apply p) (columns-of (arnoldi p y beta)))
 unfolding arnoldi arnoldi-step first-column

@@ -28,8 +28,8 @@ use Rattle.trial_steps.specs.Trials.{Trying, Tried, accepted, stuck, local-erro
 use Rattle.phi_krylov_arnoldi.specs.Run.{State, End, finished, refused, applied-of, columns-of, advance, unfinished, standing, settle, substep, spent, run, first-length, started}
 use Rattle.demand_3.specs.Trace.{Accepted, Attempt, accepted-in, made, trace, lengths, tried-on, attempts}
 use Rattle.lists.proofs.Walk.{Kept, walk-keeps}
-use Rattle.demand_3.specs.Krylov.{Each, Within, Step, Short, Landed, Based, Unended, Steps}
-use Rattle.demand_3.proofs.Built.{own-based}
+use Rattle.demand_3.specs.Krylov.{Each, Within, Step, Short, Landed, Begun, Based, Unended, Steps}
+use Rattle.demand_3.proofs.Built.{own-first, own-based}
 use Rattle.demand_3.proofs.Counts.{each-append, last, reached, Normed, basis-of, trials-of}
 
 pub clear-of : (t : Float) → T (+0 ⋖ t) → T (nonneg t)
@@ -330,12 +330,12 @@ unended y (a ∷ l) h = h
 
 settle-steps : (p : Setting) (s : State) (b : Basis) (later : Turn State End → List Accepted) → ((e : End) → later (out e) ≡ []) → ((o : Turn State End) → Timed o → Normed (reached o) → Steps p (reached o .control .time) (reached o .y) (later o))
     → (h : Timely s) (l : T (s .control .time ⋖ 1f)) (o : Turn Trying Tried) → Trials (1f ⊖ s .control .time) (rest-step (h .time) l .0) (rest-step (h .time) l .1) 11 o
-    → Normed s → Each Short (tried-on p s b) → Lands (s .control .time) (tried-on p s b) o → Based p b (map (apply p) (columns-of b))
+    → Normed s → Each Short (tried-on p s b) → Lands (s .control .time) (tried-on p s b) o → Begun b (s .control .beta) (s .y) → Based p b (map (apply p) (columns-of b))
     → Steps p (s .control .time) (s .y) (accepted-in p s b o ++ later (settle p s b o))
 unfolding settle accepted-in norm2
-settle-steps p s b later none rest h l (on t) k nm sh la me = rest (out (refused 28 (p .tol) s)) (h, l) nm
-settle-steps p s b later none rest h l (out (stuck arg)) k nm sh la me = rest (out (refused 29 arg s)) (h, l) nm
-settle-steps p s b later none rest h l (out (accepted r t f err)) k nm sh la me =
+settle-steps p s b later none rest h l (on t) k nm sh la bg me = rest (out (refused 28 (p .tol) s)) (h, l) nm
+settle-steps p s b later none rest h l (out (stuck arg)) k nm sh la bg me = rest (out (refused 29 arg s)) (h, l) nm
+settle-steps p s b later none rest h l (out (accepted r t f err)) k nm sh la bg me =
     let n = advance p s (applied-of b) (columns-of b) r t f err in (
       refl,
       nm,
@@ -344,6 +344,7 @@ settle-steps p s b later none rest h l (out (accepted r t f err)) k nm sh la me 
       k,
       sh,
       la,
+      bg,
       me,
       unfold advance in follows n (unfinished n) refl refl,
       unfold advance in go n (unfinished n) (standing-timed n (unfinished n) (advance-timely p s (applied-of b) (columns-of b) r t f err h k) refl) refl,
@@ -365,7 +366,7 @@ trace-over p (suc k) e = refl
 pub trace-steps : (p : Setting) (k : ℕ) (o : Turn State End) → Timed o → Normed (reached o) → Steps p (reached o .control .time) (reached o .y) (trace p k o)
 unfolding trace made substep
 trace-steps p zero o h nm = tt
-trace-steps p (suc k) (on s) h nm = settle-steps p s (basis-of p s) (trace p k) (trace-over p k) (trace-steps p k) (h .0) (h .1) (trials-of p s) (own-trials p s (h .0) (h .1)) nm (tried-short p s (basis-of p s) (h .0) (h .1)) (own-lands p s (basis-of p s)) (own-based p (s .y) (s .control .beta))
+trace-steps p (suc k) (on s) h nm = settle-steps p s (basis-of p s) (trace p k) (trace-over p k) (trace-steps p k) (h .0) (h .1) (trials-of p s) (own-trials p s (h .0) (h .1)) nm (tried-short p s (basis-of p s) (h .0) (h .1)) (own-lands p s (basis-of p s)) (own-first p (s .y) (s .control .beta)) (own-based p (s .y) (s .control .beta))
 trace-steps p (suc k) (out e) h nm = tt
 
 -- ---- all lengths of a run

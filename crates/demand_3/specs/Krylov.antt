@@ -16,10 +16,11 @@ use Rattle.combination.specs.Call.{Call}
 use Rattle.sqrt.specs.Sqrt.{sqrt}
 use Rattle.vectors.specs.Vectors.{dot, scale}
 use Rattle.arnoldi.specs.Basis.{Setting, dim, Basis, breakdown, full, apply, orthogonal}
+use Rattle.phi_krylov_arnoldi.specs.Run.{columns-of}
 use Rattle.phi_krylov_arnoldi.specs.declared.KrylovPhiReport.{KrylovPhiReport}
 use Rattle.phi_krylov.specs.declared.KrylovAnswer.{KrylovAnswer}
 use Rattle.phi_krylov.specs.declared.KrylovAnswer.the-variants.{Refusal}
-use Rattle.demand_3.specs.Trace.{Accepted, Attempt, total, Run, accepted-by, tried-by, time-of, field-of, left-by, estimate-of}
+use Rattle.demand_3.specs.Trace.{Accepted, Attempt, total, Run, accepted-by, tried-by, time-of, field-of, left-by, estimate-of, relative}
 
 -- the norm meant: the rounded Euclidean one of all values
 abbrev pub euclidean : List Float → Float
@@ -70,6 +71,10 @@ abbrev pub Based : Setting → Basis → List (List Float) → Type 0
 Based p (breakdown b) w = Built p (b .columns .v) w × (b .hn ≡ euclidean (left-of p (b .columns .v) w (length w - 1)))
 Based p (full b avnorm) w = Built p (b .v) w × (avnorm ≡ euclidean (getD w (length w - 1) []))
 
+-- the first column is the field by its norm
+abbrev pub Begun : Basis → Float → List Float → Type 0
+Begun b norm y = getD (columns-of b) 0 [] ≡ scale (1f ⊘ norm) y
+
 -- where another substep follows, the norm is not 0
 abbrev pub Unended : List Float → List Accepted → Type 0
 Unended y [] = Unit {0}
@@ -78,7 +83,7 @@ Unended y (a ∷ l) = eq (euclidean y) +0 ≡ false
 -- each substep starts from the field that the one before it gave, at a time from +0 to below 1; its length is no NaN, above 0 and within the rounded 1 - time
 abbrev pub Steps : Setting → Float → List Float → List Accepted → Type 0
 Steps p time y [] = Unit {0}
-Steps p time y (a ∷ l) = (a .from ≡ y) × (a .norm ≡ euclidean y) × Within 1f time × T (time ⋖ 1f) × Step (1f ⊖ time) (a .t) × Each Short (a .tried) × Landed time (a .t) (a .tried) × Based p (a .basis) (a .products) × Unended (a .to) l × Steps p (time ⊕ a .t) (a .to) l
+Steps p time y (a ∷ l) = (a .from ≡ y) × (a .norm ≡ euclidean y) × Within 1f time × T (time ⋖ 1f) × Step (1f ⊖ time) (a .t) × Each Short (a .tried) × Landed time (a .t) (a .tried) × Begun (a .basis) (a .norm) (a .from) × Based p (a .basis) (a .products) × Unended (a .to) l × Steps p (time ⊕ a .t) (a .to) l
 
 -- an accepted job of n rows and dimension M: `start` are its n + d values, `output` is what it left, u is its run, r its report
 pub record KrylovCost (n M limit : ℕ) (start output : List Float) (u : Run) (r : KrylovPhiReport) : Type 0 where
@@ -96,6 +101,8 @@ pub record KrylovCost (n M limit : ℕ) (start output : List Float) (u : Run) (r
   -- no substep exactly where all values are zeros; else the rounded sum of the steps is 1, or the norm of the field reached is 0
   pub idle : (accepted-by u ≡ [] → Zeros start) × (Zeros start → accepted-by u ≡ [])
   pub reached : Zeros start ⊎ ((eq (euclidean (field-of u)) +0 ≡ true) ⊎ (time-of u ≡ 1f))
+  -- the estimate is that of the substeps, relative to the norm of the first field
+  pub estimate : r .«est_error» ≡ relative (estimate-of u) (u .field) (u .prescale)
   -- the output is the field reached
   pub fields : output ≡ window 0 n (left-by u)
 

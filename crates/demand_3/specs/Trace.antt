@@ -4,8 +4,9 @@ use Prim.Native.Nat.{ℕ, zero, suc, _+_}
 use lib.ListN.{length}
 use lib.Ieee.{Float}
 use Rattle.lists.specs.Walk.{Turn, on, out}
-use Rattle.doubles.specs.F64.{_⊕_, _⊖_, _⊗_, +0, 1f, minNum, maxNum}
-use Rattle.vectors.specs.Vectors.{scale}
+use Rattle.doubles.specs.F64.{_⊕_, _⊖_, _⊗_, _⊘_, +0, 1f, minNum, maxNum}
+use Rattle.sqrt.specs.Sqrt.{sqrt}
+use Rattle.vectors.specs.Vectors.{dot, scale}
 use Rattle.pow2.specs.Pow2.{pow2-scale}
 use Rattle.pow2.specs.declared.Prescale.{Prescale}
 use Rattle.pow2.specs.declared.Prescale.the-variants.{By, None}
@@ -104,6 +105,11 @@ scaled y (By f) = scale (f .down) y
 unfoldable pub unscaled : List Float → Prescale → List Float
 unscaled y None = y
 unscaled y (By f) = scale (f .up) y
+
+-- the estimate that a result tells, e divided by the norm of the field y; of zeros as it is
+unfoldable pub relative : Float → List Float → Prescale → Float
+relative e y None = e
+relative e y (By f) = e ⊘ sqrt (dot y y)
 
 -- a start whose values are all zeros takes no substep
 unfoldable pub allowed : ℕ → Prescale → ℕ

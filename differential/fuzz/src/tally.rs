@@ -5,8 +5,8 @@ use std::sync::atomic::{AtomicU64, Ordering::Relaxed};
 
 static COSTLY: AtomicU64 = AtomicU64::new(0);
 static LARGE: AtomicU64 = AtomicU64::new(0);
-/// By the number of the answer.
-static COMPARED: [AtomicU64; 30] = [const { AtomicU64::new(0) }; 30];
+/// By the number of the answer, which is below 64.
+static COMPARED: [AtomicU64; 64] = [const { AtomicU64::new(0) }; 64];
 
 extern "C" {
     fn atexit(last: extern "C" fn()) -> c_int;
