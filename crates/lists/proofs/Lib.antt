@@ -4,6 +4,7 @@ pub mod Loop
 pub mod Frame
 pub mod Stack
 pub mod Find
+pub mod Places
 pub mod Greatest
 pub mod Descent
 pub mod Walk

@@ -4,5 +4,6 @@ pub mod Window
 pub mod Frame
 pub mod Bounds
 pub mod Find
+pub mod Places
 pub mod Greatest
 pub mod Walk
