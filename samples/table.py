@@ -27,9 +27,9 @@ def matrix_size(path):
 
 
 def work_done(path):
-    """What stands after the solver's name, its fractions to three digits."""
+    """What stands after the solver's name, its fractions to three digits, the step lengths left out."""
     with open(path) as file:
-        line = file.read().strip().partition(": ")[2]
+        line = re.sub(r" \(.*?\)", "", file.read().strip().partition(": ")[2])
     return re.sub(r"-?\d+\.\d+(e-?\d+)?", lambda found: f"{float(found[0]):.3g}", line).replace("estimated error", "error")
 
 

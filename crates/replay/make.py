@@ -15,13 +15,13 @@ phi_0(z) = e^z, phi_k(z) = (phi_{k-1}(z) - 1/(k-1)!) / z and phi_k(0) = 1/k! (Ni
 Higham 2011), in exact fractions from published digits of e^z, rounded once to the nearest double.
 
 The form of the list. All numbers have their lowest byte first. A section is a count (4 bytes) and that many records. A
-record is 21 words of 8 bytes, the head, and the body. The words:
+record is 23 words of 8 bytes, the head, and the body. The words:
 
      0 call: combination 0, action 1, batched 2, krylov 3      1 n      2 whether there is a mass      3 tau
      4 count      5 tol      6 m, of a Taylor call the highest degree of its plan      7 limit
      8 to 13 where in the body starts, cols, vals, mass, w and the output expected end, in bytes; the body ends there
     14 the length of the working memory, in bytes      15 how many bytes of it are cleared
-    16 number      17 value      18 to 20 counts
+    16 number      17 value      18 to 20 counts      21 and 22 the shortest and the last step, 0 of a Taylor call
 
 Output and working memory hold bytes of 90 before a call, and where the answer leaves them alone.
 """
@@ -74,7 +74,7 @@ def elements(text):
     return out
 
 
-def record(job, number, value, counts, out, cleared):
+def record(job, number, value, counts, steps, out, cleared):
     """The record of a job, its fields as text; `out` is the output expected, `cleared` the bytes of memory cleared."""
     mass = job["mass"]
     parts = [
@@ -96,8 +96,8 @@ def record(job, number, value, counts, out, cleared):
         int(job.get("m", job.get("degree", 30))),
         int(job.get("limit", 0)),
     ]
-    head += ends + [8 * int(job["work"]), cleared, number, value] + counts
-    return struct.pack("<21Q", *head) + b"".join(parts)
+    head += ends + [8 * int(job["work"]), cleared, number, value] + counts + steps
+    return struct.pack("<23Q", *head) + b"".join(parts)
 
 
 def read(name):
@@ -137,7 +137,9 @@ def replayed(jobs, transcribed, rust):
         cleared = memory.count(bytes(8))
         assert memory == [bytes(8)] * cleared + [MARK] * (len(memory) - cleared), line
         counts = [int(x) for x in answer["counts"].split(",")]
-        records.append(record(job, number, int(answer["value"], 16), counts, b"".join(elements(answer["out"])), 8 * cleared))
+        steps = [int(x, 16) for x in answer["steps"].split(",")]
+        out = b"".join(elements(answer["out"]))
+        records.append(record(job, number, int(answer["value"], 16), counts, steps, out, 8 * cleared))
     return records
 
 
@@ -179,7 +181,7 @@ def published():
                 job = {"call": call, "n": 1, "starts": "0,1", "cols": "0", "vals": bits(0.0 - float(z)), "mass": "none"}
                 job |= {"tau": bits(1.0), "count": count, "w": w, "work": work, "tol": bits(1e-14), "m": 30, "limit": 100}
                 out = MARK * (length - 1) + struct.pack("<d", phi(k, z))
-                records.append(record(job, 0, 0, [0, 0, 0], out, 8 * work))
+                records.append(record(job, 0, 0, [0, 0, 0], [0, 0], out, 8 * work))
     return records
 
 

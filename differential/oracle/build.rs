@@ -59,8 +59,8 @@ const TRANSCRIBED: [(&str, &str, &str); 6] = [
     ),
 ];
 
-/// Which paths a run takes, and what it costs; no value is changed.
-const PROBES: [(&str, &str, &str); 9] = [
+/// Which paths a run takes, what it costs, and each step that it accepts; no value is changed.
+const PROBES: [(&str, &str, &str); 10] = [
     ("phi_krylov_arnoldi", "        (phi2, one_m)\n", "        { crate::probe::hit(\"error: phi2\"); (phi2, one_m) }\n"),
     (
         "phi_krylov_arnoldi",
@@ -89,6 +89,7 @@ const PROBES: [(&str, &str, &str); 9] = [
         "    for _ in 0..s {\n        w.copy_from_slice(&y);",
         "    for _ in 0..s {\n        crate::probe::spend(u64::from(deg) * (mx * mx) as u64);\n        w.copy_from_slice(&y);",
     ),
+    ("phi_krylov_arnoldi", "        elapsed += t_step;\n", "        crate::probe::step(t_step);\n        elapsed += t_step;\n"),
     ("phi_krylov_arnoldi", "        rep.rejected += 1;\n", "        crate::probe::hit(\"rejection\");\n        rep.rejected += 1;\n"),
 ];
 

@@ -39,13 +39,14 @@ static uint32_t soak_taylor(double tau, double *out, double *work, size_t work_l
 
 static uint32_t soak_krylov(double tau, size_t m, size_t max_substeps, double *out, double *work, size_t work_len)
 {
-    double value;
+    double value, shortest, last;
     size_t substeps, matvecs, rejected;
     uint32_t number = hazhendu_phi_combination_krylov(
         N, starts, N + 1, cols, ENTRIES, vals, ENTRIES, true, mass, N, tau, COUNT, w, COUNT * N, 1e-10, m, max_substeps,
-        out, N, work, work_len, &value, &substeps, &matvecs, &rejected);
+        out, N, work, work_len, &value, &substeps, &matvecs, &rejected, &shortest, &last);
     if (number == HAZHENDU_ACCEPTED)
-        printf("krylov: %zu substeps, %zu applications, %zu rejected, estimated error %.17g\n", substeps, matvecs, rejected, value);
+        printf("krylov: %zu substeps (shortest %g, last %g of tau), %zu applications, %zu rejected, estimated error %.17g\n",
+            substeps, shortest, last, matvecs, rejected, value);
     else
         printf("krylov: refused, number %u, double %g\n", number, value);
     return number;
@@ -66,13 +67,13 @@ static uint32_t check(size_t entries)
 /* The same job by either solver must give what that solver's own call gave. */
 static bool same_by_choice(bool krylov, const double *field, double *work, size_t work_len)
 {
-    double value, out[N];
+    double value, shortest, last, out[N];
     uint64_t first, second, third;
     uint32_t number = hazhendu_combine(
         N, starts, N + 1, cols, ENTRIES, vals, ENTRIES, true, mass, N, 60, HAZHENDU_MAX_DEGREE, COUNT, w, COUNT * N, krylov, 1e-10, KRYLOV_M, 100000,
-        out, N, work, work_len, &value, &first, &second, &third);
-    printf("combine: number %u, double %.17g, %llu, %llu, %llu\n", number, value, (unsigned long long)first, (unsigned long long)second,
-        (unsigned long long)third);
+        out, N, work, work_len, &value, &first, &second, &third, &shortest, &last);
+    printf("combine: number %u, double %.17g, %llu, %llu, %llu, steps %g and %g\n", number, value, (unsigned long long)first,
+        (unsigned long long)second, (unsigned long long)third, shortest, last);
     return memcmp(out, field, sizeof out) == 0;
 }
 

@@ -50,6 +50,8 @@
  *   applications          Taylor: products with G that were made, over all functions of a batch
  *   substeps, matvecs,    Krylov: substeps accepted, products with G, and lengths rejected. The counts of a refused job are 0.
  *   rejected
+ *   shortest, last        Krylov: the shortest and the last substep accepted, as parts of tau (1 is the whole soak); both 0 where none was
+ *                         taken, of a refused job and of Taylor
  *   first, second, third  hazhendu_combine: s, plan_m and applications of Taylor; substeps, matvecs and rejected of Krylov
  *
  * The result is 0, or the number of a refusal (enum hazhendu_refusal).
@@ -246,7 +248,7 @@ uint32_t hazhendu_phi_combination_krylov(
     double tol, size_t m, size_t max_substeps,
     double *out, size_t out_len,
     double *work, size_t work_len,
-    double *value, size_t *substeps, size_t *matvecs, size_t *rejected);
+    double *value, size_t *substeps, size_t *matvecs, size_t *rejected, double *shortest, double *last);
 
 /* The sum over k of tau^k phi_k(tau G) w_k, by the solver that is asked for. */
 uint32_t hazhendu_combine(
@@ -260,7 +262,7 @@ uint32_t hazhendu_combine(
     bool krylov, double tol, size_t m, size_t max_substeps,
     double *out, size_t out_len,
     double *work, size_t work_len,
-    double *value, uint64_t *first, uint64_t *second, uint64_t *third);
+    double *value, uint64_t *first, uint64_t *second, uint64_t *third, double *shortest, double *last);
 
 #ifdef __cplusplus
 }

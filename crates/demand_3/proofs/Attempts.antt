@@ -13,7 +13,7 @@ use Rattle.hess_exp.specs.HessExp.{Small, unplanned, column, hess-exp-e1}
 use Rattle.arnoldi.specs.Basis.{Setting, dim, Basis, breakdown, full}
 use Rattle.trial_steps.specs.declared.Estimate.{Estimate}
 use Rattle.trial_steps.specs.Trials.{Trying, Tried, accepted, stuck, verdict, judge, try-step, exact-step, trials}
-use Rattle.phi_krylov_arnoldi.specs.Run.{State, End, finished, refused, applied-of, columns-of, advance, unfinished, standing, settle, substep, spent, run, started}
+use Rattle.phi_krylov_arnoldi.specs.Run.{State, End, finished, refused, applied-of, columns-of, counted, advance, unfinished, standing, settle, substep, spent, run, started}
 use Rattle.demand_3.specs.Trace.{Accepted, accepted-in, made, trace, total, lengths, tried-on, attempts}
 use Rattle.trial_steps.proofs.Few.{Few, trials-few}
 use Rattle.demand_3.proofs.Counts.{last, reached, basis-of, trials-of, total-append, standing-state, spent-state}
@@ -85,7 +85,7 @@ settle-judged p s b (on t) n l h f k = ((λ e. absurd (omega (arith, e))), (λ e
 settle-judged p s b (out (stuck arg)) n l h f k = ((λ e. absurd (omega (arith, e))), (λ e. absurd (omega (arith, e))), omega (arith, h))
 settle-judged p s b (out (accepted r t g err)) n l h f k =
     let m = advance p s (applied-of b) (columns-of b) r t g err in
-    standing-judged (n + l) m (unfinished m) (unfold advance in omega (arith, h, k))
+    standing-judged (n + l) m (unfinished m) (unfold counted advance in omega (arith, h, k))
 
 walk-judged : (p : Setting) (k i : ℕ) (o : Turn State End) (n : ℕ) → Judging n o → Judging (n + length (attempts p k o)) (walk (λ _ t. substep p t) k i o)
 unfolding walk attempts substep
@@ -117,7 +117,7 @@ settle-told p s b (on t) h = sym (add-zero _)
 settle-told p s b (out (stuck arg)) h = sym (add-zero _)
 settle-told p s b (out (accepted r t f err)) h =
     let n = advance p s (applied-of b) (columns-of b) r t f err in
-    ap judged (standing-state n (unfinished n)) ∙ (unfold advance in omega (arith, h))
+    ap judged (standing-state n (unfinished n)) ∙ (unfold counted advance in omega (arith, h))
 
 walk-told : (p : Setting) (k i : ℕ) (o : Turn State End) → judged (reached (walk (λ _ t. substep p t) k i o)) ≡ judged (reached o) + total (λ a. length (a .tried)) (trace p k o)
 unfolding walk trace substep made total

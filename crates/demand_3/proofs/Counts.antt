@@ -12,9 +12,9 @@ use Rattle.doubles.specs.F64.{_⊕_, _⊖_, _⊗_, +0, 1f, maxNum}
 use Rattle.arnoldi.specs.Basis.{Setting, Basis, norm2, apply, arnoldi}
 use Rattle.trial_steps.specs.Trials.{Trying, Tried, accepted, stuck, trials}
 use Rattle.trial_steps.proofs.Few.{Few, trials-few}
-use Rattle.phi_krylov_arnoldi.specs.Run.{State, End, finished, refused, EPSILON, applied-of, columns-of, combined, advance, unfinished, standing, settle, substep, spent, run, started}
+use Rattle.phi_krylov_arnoldi.specs.Run.{State, End, finished, refused, EPSILON, applied-of, columns-of, combined, shorter, counted, advance, unfinished, standing, settle, substep, spent, run, started}
 use Rattle.phi_krylov_arnoldi.proofs.Turns.{applied-few, each-once}
-use Rattle.demand_3.specs.Trace.{Accepted, accepted-in, made, trace, total, time-after, field-after, estimate-after}
+use Rattle.demand_3.specs.Trace.{Accepted, accepted-in, made, trace, total, time-after, last-after, field-after, estimate-after}
 use Rattle.demand_3.specs.Krylov.{Each}
 
 -- the last accepted state
@@ -38,19 +38,26 @@ abbrev pub Normed : State → Type 0
 Normed s = s .control .beta ≡ norm2 (s .y)
 
 -- ---- what the substeps l add to the state s
+-- the shortest length after them, of a state that has counted k substeps
+unfoldable pub shortest-after : ℕ → Float → List Accepted → Float
+shortest-after k t [] = t
+shortest-after k t (a ∷ l) = shortest-after (suc k) (shorter k t (a .t)) l
+
 pub record Adds (anorm : Float) (s s' : State) (l : List Accepted) : Type 0 where
   pub substeps : s' .report .substeps ≡ s .report .substeps + length l
   pub matvecs : s' .report .matvecs ≡ s .report .matvecs + total (λ a. length (a .products)) l
   pub rejected : s' .report .rejected ≤ s .report .rejected + 10 * length l
   pub estimate : s' .report .«est_error» ≡ estimate-after anorm (s .report .«est_error») l
+  pub shortest : s' .report .shortest ≡ shortest-after (s .report .substeps) (s .report .shortest) l
+  pub last : s' .report .last ≡ last-after (s .report .last) l
   pub time : s' .control .time ≡ time-after (s .control .time) l
   pub field : s' .y ≡ field-after (s .y) l
   pub norm : Normed s'
 
 adds-none : (anorm : Float) (s : State) → Normed s → Adds anorm s s []
-unfolding total time-after field-after estimate-after
+unfolding total time-after field-after estimate-after shortest-after last-after
 adds-none anorm s h =
-    record { substeps = sym (add-zero _); matvecs = sym (add-zero _); rejected = omega arith; estimate = refl; time = refl; field = refl; norm = h }
+    record { substeps = sym (add-zero _); matvecs = sym (add-zero _); rejected = omega arith; estimate = refl; shortest = refl; last = refl; time = refl; field = refl; norm = h }
 
 pub total-append : (f : Accepted → ℕ) (l l' : List Accepted) → total f (l ++ l') ≡ total f l + total f l'
 unfolding total
@@ -72,12 +79,29 @@ unfolding estimate-after
 estimate-append anorm e [] l' = refl
 estimate-append anorm e (a ∷ l) l' = estimate-append anorm (e ⊕ maxNum (a .err) (anorm ⊗ EPSILON ⊗ norm2 (a .from))) l l'
 
+last-append : (t : Float) (l l' : List Accepted) → last-after t (l ++ l') ≡ last-after (last-after t l) l'
+unfolding last-after
+last-append t [] l' = refl
+last-append t (a ∷ l) l' = last-append (a .t) l l'
+
+shortest-append : (k : ℕ) (t : Float) (l l' : List Accepted) → shortest-after k t (l ++ l') ≡ shortest-after (k + length l) (shortest-after k t l) l'
+unfolding shortest-after
+shortest-append k t [] l' = ap (λ (j : ℕ). shortest-after j t l') (sym (add-zero k))
+shortest-append k t (a ∷ l) l' =
+    let u = shorter k t (a .t) in
+    shortest-append (suc k) u l l' ∙ ap (λ (j : ℕ). shortest-after j (shortest-after (suc k) u l) l') (one-on k (length l))
+  where
+    one-on : (k n : ℕ) → suc k + n ≡ k + suc n
+    one-on k n = omega arith
+
 adds-both : {anorm : Float} {s s' s'' : State} {l l' : List Accepted} → Adds anorm s s' l → Adds anorm s' s'' l' → Adds anorm s s'' (l ++ l')
 adds-both {anorm} {s} {s'} {s''} {l} {l'} a b = record {
   substeps = more (s .report .substeps) (length l) (length l') (a .substeps) (b .substeps) (length-append l l');
   matvecs = more (s .report .matvecs) (total (λ a. length (a .products)) l) (total (λ a. length (a .products)) l') (a .matvecs) (b .matvecs) (total-append _ l l');
   rejected = omega (arith, a .rejected, b .rejected, length-append l l');
   estimate = b .estimate ∙ ap (λ (x : Float). estimate-after anorm x l') (a .estimate) ∙ sym (estimate-append anorm _ l l');
+  shortest = b .shortest ∙ (λ i. shortest-after (a .substeps i) (a .shortest i) l') ∙ sym (shortest-append _ _ l l');
+  last = b .last ∙ ap (λ (x : Float). last-after x l') (a .last) ∙ sym (last-append _ l l');
   time = b .time ∙ ap (λ (x : Float). time-after x l') (a .time) ∙ sym (time-append _ l l');
   field = b .field ∙ ap (λ (x : List Float). field-after x l') (a .field) ∙ sym (field-append _ l l');
   norm = b .norm;
@@ -91,7 +115,7 @@ standing-state s true = refl
 standing-state s false = refl
 
 settle-adds : (p : Setting) (s : State) (b : Basis) (o : Turn Trying Tried) → Normed s → applied-of b ≡ length (columns-of b) → Few 11 o → Adds (p .anorm) s (reached (settle p s b o)) (accepted-in p s b o)
-unfolding settle accepted-in advance total time-after field-after estimate-after
+unfolding settle accepted-in counted advance total time-after field-after estimate-after shortest-after last-after
 settle-adds p s b (on t) h once few = adds-none (p .anorm) s h
 settle-adds p s b (out (stuck arg)) h once few = adds-none (p .anorm) s h
 settle-adds p s b (out (accepted r t f err)) h once few =
@@ -103,6 +127,8 @@ settle-adds p s b (out (accepted r t f err)) h once few =
       matvecs = omega (arith, once, length-map (columns-of b) (apply p));
       rejected = omega (arith, few);
       estimate = ap (λ (beta : Float). e ⊕ maxNum err (p .anorm ⊗ EPSILON ⊗ beta)) h;
+      shortest = refl;
+      last = refl;
       time = refl;
       field = refl;
       norm = refl;
@@ -131,6 +157,8 @@ pub record Recorded (anorm : Float) (y : List Float) (l : List Accepted) (s : St
   pub matvecs : s .report .matvecs ≡ total (λ a. length (a .products)) l
   pub rejected : s .report .rejected ≤ 10 * length l
   pub estimate : s .report .«est_error» ≡ estimate-after anorm +0 l
+  pub shortest : s .report .shortest ≡ shortest-after 0 +0 l
+  pub last : s .report .last ≡ last-after +0 l
   pub time : s .control .time ≡ time-after +0 l
   pub field : s .y ≡ field-after y l
   pub norm : s .control .beta ≡ norm2 (field-after y l)
@@ -144,6 +172,8 @@ run-recorded p limit y =
       matvecs = a .matvecs ∙ zero-add _;
       rejected = omega (arith, a .rejected);
       estimate = a .estimate;
+      shortest = a .shortest;
+      last = a .last;
       time = a .time;
       field = a .field;
       norm = a .norm ∙ ap norm2 (a .field);

@@ -202,7 +202,7 @@ module _
   unfolding phi-combination-krylov
   krylov-no-33 x e = refused-by-none 33 (λ y. not-by 33 checks low-33) (λ k l m n. absurd (omega (arith, m, n))) (first checks) _ _ refl (λ r z s. expv-late _ tau _ (o .tol) (o .m) (o .«max_substeps») (start-of g tau count w)) e
 
-  pub zeros-idle : Sound ≡ first checks → Zeros (start-of g tau count w) → call .answer ≡ Soaked (record { matvecs = 0; substeps = 0; rejected = 0; «est_error» = +0 })
+  pub zeros-idle : Sound ≡ first checks → Zeros (start-of g tau count w) → call .answer ≡ Soaked (record { matvecs = 0; substeps = 0; rejected = 0; «est_error» = +0; shortest = +0; last = +0 })
   unfolding phi-combination-krylov unless-refused after-run idle
   zeros-idle e z = rw (← e, expv-idle _ tau _ (o .tol) (o .m) (o .«max_substeps») (start-of g tau count w) z) refl
 

@@ -21,14 +21,15 @@ use Rattle.pow2.specs.declared.Prescale.the-variants.{By, None}
 use Rattle.pow2.proofs.Largest.{sup-zero, zero-sup}
 use Rattle.phi_action_helpers.specs.Augmented.{Augmented}
 use Rattle.arnoldi.specs.Basis.{Setting, norm2}
-use Rattle.phi_krylov_arnoldi.specs.Run.{State, End, finished, refused, unfinished, run, started, scaled-back, back, clamp-m, idle, expv-by, expv}
+use Rattle.phi_krylov_arnoldi.specs.Run.{State, End, finished, refused, unfinished, run, started, relative-report, scaled-back, back, clamp-m, idle, expv-by, expv}
 use Rattle.phi_krylov_arnoldi.specs.declared.KrylovPhiReport.{KrylovPhiReport}
-use Rattle.demand_3.specs.Trace.{Accepted, trace, attempts, total, time-after, field-after, estimate-after, Run, scaled, unscaled, allowed, run-by, run-of, accepted-by, time-of, field-of, estimate-of, relative}
-use Rattle.demand_3.specs.Krylov.{Each, Zeros, KrylovCost}
+use Rattle.demand_3.specs.Trace.{Accepted, trace, attempts, total, time-after, last-after, field-after, estimate-after, Run, scaled, unscaled, allowed, run-by, run-of, accepted-by, time-of, field-of, estimate-of, relative}
+use Rattle.demand_3.specs.Krylov.{Each, Zeros, Shortest, Steps, KrylovCost}
 use Rattle.demand_3.proofs.Counts.{last, Recorded, run-recorded, trace-products, trace-few}
 use Rattle.demand_3.proofs.Limit.{Ends, run-ends, not-27, always-27}
 use Rattle.demand_3.proofs.Lengths.{TimedEnd, run-timed, finished-time, norm-left, trace-steps, attempts-short, started-timed}
 use Rattle.demand_3.proofs.Attempts.{judged, run-told}
+use Rattle.demand_3.proofs.Shortest.{shortest-is}
 
 -- ---- all values are zeros exactly where there are no factors
 abbrev Finite : List Float → Type 0
@@ -71,13 +72,14 @@ module _ (p : Setting) (limit : ℕ) (y : List Float) (f : Prescale) where
 
   -- what the report of a run that finished in s says
   pub finished-cost : (start output : List Float) (s : State) {n M : ℕ} {r : KrylovPhiReport} → run p limit (started p y) ≡ finished s → p .m ≡ M
-      → r .substeps ≡ s .report .substeps → r .matvecs ≡ s .report .matvecs → r .rejected ≡ s .report .rejected → r .«est_error» ≡ relative (s .report .«est_error») y f
+      → r .substeps ≡ s .report .substeps → r .matvecs ≡ s .report .matvecs → r .rejected ≡ s .report .rejected → r .«est_error» ≡ relative (s .report .«est_error») y f → r .shortest ≡ s .report .shortest → r .last ≡ s .report .last
       → (Zeros start → ⊥) → output ≡ window 0 n (unscaled (s .y) f) → KrylovCost n M limit start output u r
   unfolding norm2
-  finished-cost start output s {n} {M} {r} e em es ea er ee z eo =
+  finished-cost start output s {n} {M} {r} e em es ea er ee ex el z eo =
       let c = subst (λ (x : End). Recorded (p .anorm) y l (last x)) e (run-recorded p limit y) in
       let j = sym (ap (λ (x : End). judged (last x)) e) ∙ run-told p limit y in
       let k : r .substeps ≡ length l = es ∙ c .substeps in
+      let steps : Steps p +0 y l = unfold started in trace-steps p limit (on (started p y)) (started-timed p y) refl in
       record {
         substeps = k;
         applications = ea ∙ c .matvecs;
@@ -86,10 +88,12 @@ module _ (p : Setting) (limit : ℕ) (y : List Float) (f : Prescale) where
         few-applications = rw (ea ∙ c .matvecs, k, ← em) (trace-products p limit (on (started p y)));
         few-rejections = rw (er, k) (c .rejected);
         short = attempts-short p limit (on (started p y)) (started-timed p y);
-        steps = unfold started in trace-steps p limit (on (started p y)) (started-timed p y) refl;
+        steps = steps;
         idle = ((λ g. absurd (no-none (some-substep s e) g)), (λ h. absurd (z h)));
         reached = inr (reached-end s e);
         estimate = ee ∙ ap (λ (x : Float). relative x y f) (c .estimate);
+        shortest = subst (Shortest l) (sym (ex ∙ c .shortest)) (shortest-is p +0 y l steps);
+        last = el ∙ c .last;
         fields = eo ∙ ap (λ (x : List Float). window 0 n (unscaled x f)) (c .field);
       }
     where
@@ -124,7 +128,7 @@ module _ (p : Setting) (limit : ℕ) (y : List Float) (f : Prescale) where
 module _ (b : Augmented) (tau anorm tol : Float) (m limit : ℕ) (y : List Float) where
   -- a start of zeros: no substep, and nothing tried
   idle-cost : {n : ℕ} {r : KrylovPhiReport} → pow2-scale y ≡ None → Finite y → r ≡ idle y .report → KrylovCost n (clamp-m m (length y)) limit y (window 0 n y) (run-by b tau anorm tol m limit y None) r
-  unfolding idle run-by scaled unscaled allowed relative trace attempts total field-after estimate-after
+  unfolding idle run-by scaled unscaled allowed relative trace attempts total field-after estimate-after last-after
   idle-cost {n} {r} e f g =
       let z : Zeros y = sup-zero y f (none-zero y e) in
       rw g
@@ -140,11 +144,13 @@ module _ (b : Augmented) (tau anorm tol : Float) (m limit : ℕ) (y : List Float
         idle = ((λ _. z), (λ _. refl));
         reached = inl z;
         estimate = refl;
+        shortest = refl;
+        last = refl;
         fields = refl;
       })
 
   cost-by : (f : Prescale) {n : ℕ} {s : State} → pow2-scale y ≡ f → Finite y → expv-by b tau anorm tol m limit y f ≡ finished s → KrylovCost n (clamp-m m (length y)) limit y (window 0 n (s .y)) (run-by b tau anorm tol m limit y f) (s .report)
-  unfolding expv-by run-by scaled unscaled allowed relative back scaled-back idle norm2
+  unfolding expv-by run-by scaled unscaled allowed relative back relative-report scaled-back idle norm2
   cost-by None {n} {s} e fin g = subst (λ (x : List Float). KrylovCost n (clamp-m m (length y)) limit y (window 0 n x) (run-by b tau anorm tol m limit y None) (s .report)) (ap (λ (x : End). last x .y) g) (idle-cost e fin (ap (λ (x : End). last x .report) (sym g)))
   cost-by (By f) {n} {s} e fin g = go (run _ limit (started _ _)) refl g
     where
@@ -160,7 +166,7 @@ module _ (b : Augmented) (tau anorm tol : Float) (m limit : ℕ) (y : List Float
       go : (x : End) → run p limit (started p y₀) ≡ x → back (f .up) (norm2 y₀) x ≡ finished s → KrylovCost n (clamp-m m (length y)) limit y (window 0 n (s .y)) (run-by b tau anorm tol m limit y (By f)) (s .report)
       go (finished t) h k =
           let q : scaled-back (f .up) (norm2 y₀) t ≡ s = ap last k in
-          finished-cost p limit y₀ (By f) y _ t h refl (ap (λ (z : State). z .report .substeps) (sym q)) (ap (λ (z : State). z .report .matvecs) (sym q)) (ap (λ (z : State). z .report .rejected) (sym q)) (ap (λ (z : State). z .report .«est_error») (sym q)) nonzero (ap (λ (z : State). window 0 n (z .y)) (sym q))
+          finished-cost p limit y₀ (By f) y _ t h refl (ap (λ (z : State). z .report .substeps) (sym q)) (ap (λ (z : State). z .report .matvecs) (sym q)) (ap (λ (z : State). z .report .rejected) (sym q)) (ap (λ (z : State). z .report .«est_error») (sym q)) (ap (λ (z : State). z .report .shortest) (sym q)) (ap (λ (z : State). z .report .last) (sym q)) nonzero (ap (λ (z : State). window 0 n (z .y)) (sym q))
       go (refused r x t) h k = let o : zero ≡ 1 = cc in absurd (omega (arith, o))
 
   pub expv-cost : {n : ℕ} {s : State} → Finite y → expv b tau anorm tol m limit y ≡ finished s → KrylovCost n (clamp-m m (length y)) limit y (window 0 n (s .y)) (run-of b tau anorm tol m limit y) (s .report)

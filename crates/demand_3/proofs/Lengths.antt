@@ -15,6 +15,7 @@ use Rattle.lists.specs.Walk.{Turn, on, out, walk}
 use Rattle.doubles.specs.F64.{_⊕_, _⊖_, _⩽_, _⋖_, +0, 1f, minNum, replaced, nonneg}
 use Rattle.doubles.proofs.Order.{nonneg-number, nonneg-sign}
 use Rattle.doubles.proofs.Total.{lt-numbers, ⩽-refl, ⩽-trans, ⩽-or-⋖, ⩽-antisymm}
+use Rattle.doubles.proofs.Extremes.{min-of-two}
 use Rattle.doubles.proofs.Time.{one-fits, sum-step, rest-good, rest-above, above-zero, zero-good}
 use Rattle.doubles.proofs.Signs.{Clear}
 use Rattle.round2.proofs.Positive.{round2-above, round2-fits}
@@ -48,20 +49,10 @@ Length x t = (t ≡ nan) ⊎ Step x t
 first-step : (next x : Float) → T (fits binary64 next) → Proposed next → Step x x → Step x (minNum next x)
 unfolding minNum replaced
 first-step next x f (inl e) w = subst (λ (z : Float). Step x (replaced z x (x ⋖ z))) (sym e) w
-first-step next x f (inr h) w = go next f h (x ⋖ next) refl
-  where
-    under : (next : Float) → T (+0 ⋖ next) → (x ⋖ next) ≡ false → T (next ⩽ x)
-    under next h e = elim (⩽-or-⋖ next x (lt-numbers +0 next h .1) (lt-numbers +0 x (w .above) .1)) [
-      | inl l ↦ l
-      | inr g ↦ absurd (true≢false (sym (is-true (x ⋖ next) g) ∙ e))
-    ]
-
-    go : (next : Float) → T (fits binary64 next) → T (+0 ⋖ next) → (b : Bool) → (x ⋖ next) ≡ b → Step x (replaced next x b)
-    go nan f h b e = w
-    go (inf s) f h true e = w
-    go (inf s) f h false e = record { fit = f; above = h; most = under (inf s) h e }
-    go (fin s m d) f h true e = w
-    go (fin s m d) f h false e = record { fit = f; above = h; most = under (fin s m d) h e }
+first-step next x f (inr h) w = elim (min-of-two next x (lt-numbers +0 next h .1) (lt-numbers +0 x (w .above) .1)) [
+  | inl m ↦ subst (Step x) (sym (m .0)) (record { fit = f; above = h; most = m .1 })
+  | inr m ↦ subst (Step x) (sym (m .0)) w
+]
 
 -- no NaN passes the test
 le-nan : (x : Float) → le x nan ≡ false

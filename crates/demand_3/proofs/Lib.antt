@@ -3,6 +3,7 @@ pub mod Counts
 pub mod Limit
 pub mod Lengths
 pub mod Attempts
+mod Shortest
 pub mod Krylov
 pub mod Products
 pub mod Taylor

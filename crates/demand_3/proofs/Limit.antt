@@ -10,7 +10,7 @@ use lib.Ieee.{Float}
 use Rattle.lists.specs.Walk.{Turn, on, out, walk}
 use Rattle.arnoldi.specs.Basis.{Setting, Basis}
 use Rattle.trial_steps.specs.Trials.{Trying, Tried, accepted, stuck}
-use Rattle.phi_krylov_arnoldi.specs.Run.{State, End, finished, refused, applied-of, columns-of, advance, unfinished, standing, settle, substep, spent, run, started}
+use Rattle.phi_krylov_arnoldi.specs.Run.{State, End, finished, refused, applied-of, columns-of, counted, advance, unfinished, standing, settle, substep, spent, run, started}
 use Rattle.lists.proofs.Walk.{Kept, walk-keeps}
 use Rattle.demand_3.proofs.Counts.{last, basis-of, trials-of}
 
@@ -37,7 +37,7 @@ settle-kept p s b (on t) i h = (inl refl, omega (arith, h .0), (λ k. h .1 (subs
 settle-kept p s b (out (stuck arg)) i h = (inr refl, omega (arith, h .0), (λ k. h .1 (subst (λ (n : ℕ). 0 < n) (h .0) k)))
 settle-kept p s b (out (accepted r t f err)) i h =
     let n = advance p s (applied-of b) (columns-of b) r t f err in
-    standing-kept i n (unfinished n) (unfold advance in omega (arith, h .0)) refl
+    standing-kept i n (unfinished n) (unfold counted advance in omega (arith, h .0)) refl
 
 substep-kept : (p : Setting) (i : ℕ) (s : State) → Going i s → Kept Going Over (i + 1) (substep p s)
 unfolding substep

@@ -72,9 +72,9 @@ pub record Demand3 (g : Generator) (tau : Float) (output memory : List Float) : 
       → KrylovCost (g .matrix .n) (clamped (o .m) (g .matrix .n + (count - 1))) (o .«max_substeps») (start-of g tau count w) (phi-combination-krylov g tau count w o output memory .output) (krylov-run g tau count w o) r
   pub at-limit : (count : ℕ) (w : List Float) (o : KrylovPhiOptions)
       → Exactly27 (phi-combination-krylov g tau count w o output memory) (krylov-checks g tau count w o (length output) (length memory)) (o .«max_substeps») (krylov-run g tau count w o)
-  -- a start of zeros gives a result, all counts 0
+  -- a start of zeros gives a result, all counts and steps 0
   pub zeros : (count : ℕ) (w : List Float) (o : KrylovPhiOptions) → Sound ≡ first (krylov-checks g tau count w o (length output) (length memory)) → Zeros (start-of g tau count w)
-      → phi-combination-krylov g tau count w o output memory .answer ≡ Soaked (record { matvecs = 0; substeps = 0; rejected = 0; «est_error» = +0 })
+      → phi-combination-krylov g tau count w o output memory .answer ≡ Soaked (record { matvecs = 0; substeps = 0; rejected = 0; «est_error» = +0; shortest = +0; last = +0 })
   -- 25 and 33 are Taylor's alone
   pub no-25 : (count : ℕ) (w : List Float) (o : KrylovPhiOptions) (x : Float) → phi-combination-krylov g tau count w o output memory .answer ≡ Refusal 25 x → ⊥
   pub no-33 : (count : ℕ) (w : List Float) (o : KrylovPhiOptions) (x : Float) → phi-combination-krylov g tau count w o output memory .answer ≡ Refusal 33 x → ⊥

@@ -20,7 +20,7 @@ use Rattle.phi_krylov_arnoldi.specs.Run.{columns-of}
 use Rattle.phi_krylov_arnoldi.specs.declared.KrylovPhiReport.{KrylovPhiReport}
 use Rattle.phi_krylov.specs.declared.KrylovAnswer.{KrylovAnswer}
 use Rattle.phi_krylov.specs.declared.KrylovAnswer.the-variants.{Refusal}
-use Rattle.demand_3.specs.Trace.{Accepted, Attempt, total, Run, accepted-by, tried-by, time-of, field-of, left-by, estimate-of, relative}
+use Rattle.demand_3.specs.Trace.{Accepted, Attempt, total, Run, last-after, accepted-by, tried-by, time-of, field-of, left-by, estimate-of, relative}
 
 -- the norm meant: the rounded Euclidean one of all values
 abbrev pub euclidean : List Float → Float
@@ -75,6 +75,16 @@ Based p (full b avnorm) w = Built p (b .v) w × (avnorm ≡ euclidean (getD w (l
 abbrev pub Begun : Basis → Float → List Float → Type 0
 Begun b norm y = getD (columns-of b) 0 [] ≡ scale (1f ⊘ norm) y
 
+-- the length of one of these substeps
+abbrev pub OneOf : Float → List Accepted → Type 0
+OneOf t [] = ⊥
+OneOf t (a ∷ l) = (t ≡ a .t) ⊎ OneOf t l
+
+-- the shortest length (document 02, N10): that of a substep, and at most that of each; of no substep +0
+abbrev pub Shortest : List Accepted → Float → Type 0
+Shortest [] t = t ≡ +0
+Shortest (a ∷ l) t = OneOf t (a ∷ l) × Each (λ b. T (t ⩽ b .t)) (a ∷ l)
+
 -- where another substep follows, the norm is not 0
 abbrev pub Unended : List Float → List Accepted → Type 0
 Unended y [] = Unit {0}
@@ -103,6 +113,9 @@ pub record KrylovCost (n M limit : ℕ) (start output : List Float) (u : Run) (r
   pub reached : Zeros start ⊎ ((eq (euclidean (field-of u)) +0 ≡ true) ⊎ (time-of u ≡ 1f))
   -- the estimate is that of the substeps, relative to the norm of the first field
   pub estimate : r .«est_error» ≡ relative (estimate-of u) (u .field) (u .prescale)
+  -- the shortest and the last length accepted, both +0 where there is none
+  pub shortest : Shortest (accepted-by u) (r .shortest)
+  pub last : r .last ≡ last-after +0 (accepted-by u)
   -- the output is the field reached
   pub fields : output ≡ window 0 n (left-by u)
 

@@ -72,6 +72,11 @@ unfoldable pub time-after : Float → List Accepted → Float
 time-after time [] = time
 time-after time (a ∷ l) = time-after (time ⊕ a .t) l
 
+-- the last length of them (document 02, N10); t where there is none
+unfoldable pub last-after : Float → List Accepted → Float
+last-after t [] = t
+last-after t (a ∷ l) = last-after (a .t) l
+
 -- the field after them
 unfoldable pub field-after : List Float → List Accepted → List Float
 field-after y [] = y

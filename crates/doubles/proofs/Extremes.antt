@@ -1,11 +1,14 @@
 -- `replaced`, of which the maximum and the minimum are made. Assumes nothing.
 use mathlib.Core.Path.{_≡_, refl, sym, ap, _∙_, subst}
-use mathlib.Core.Bool.{Bool, true, false, true≢false}
+use mathlib.Core.Bool.{Bool, true, false, not, true≢false}
+use mathlib.Core.Logic.{_⊎_, inl, inr}
 use lib.Dec.{T}
-use lib.Ieee.{Float, nan, inf, fin, ne, lt}
+use lib.Ieee.{Float, nan, inf, fin, ne, lt, isNan}
+use lib.Ieee.Bits.{is-true}
 use lib.Ieee.Compare.{nan-differs}
-use Rattle.doubles.specs.F64.{if_then_else_, _⋖_, abs, is-finite, nonneg, replaced, maxNum}
+use Rattle.doubles.specs.F64.{if_then_else_, _⩽_, _⋖_, abs, is-finite, nonneg, replaced, minNum, maxNum}
 use Rattle.doubles.proofs.Magnitude.{is-nan}
+use Rattle.doubles.proofs.Total.{⩽-or-⋖, ⋖-⩽}
 
 pub where-nan : (x y : Float) (b : Bool) → ne x x ≡ true → y ≡ replaced x y b
 unfolding replaced
@@ -53,3 +56,19 @@ nonneg-max (fin false m e) (fin s n d) h = go (fin false m e ⋖ fin false n d)
     go : (b : Bool) → T (nonneg (if b then fin false n d else fin false m e))
     go true = tt
     go false = tt
+
+replaced-number : (x y : Float) (b : Bool) → T (not (isNan x)) → replaced x y b ≡ (if b then y else x)
+unfolding replaced isNan
+replaced-number nan y b p = absurd p
+replaced-number (inf s) y b p = refl
+replaced-number (fin s m d) y b p = refl
+
+-- the minimum of two numbers is the one that is at most the other
+pub min-of-two : (x y : Float) → T (not (isNan x)) → T (not (isNan y)) → ((minNum x y ≡ x) × T (x ⩽ y)) ⊎ ((minNum x y ≡ y) × T (y ⩽ x))
+unfolding minNum
+min-of-two x y p q = rw (replaced-number x y (y ⋖ x) p) (go (y ⋖ x) refl (⩽-or-⋖ x y p q))
+  where
+    go : (b : Bool) → (y ⋖ x) ≡ b → T (x ⩽ y) ⊎ T (y ⋖ x) → (((if b then y else x) ≡ x) × T (x ⩽ y)) ⊎ (((if b then y else x) ≡ y) × T (y ⩽ x))
+    go true e h = inr (refl, ⋖-⩽ y x (subst T (sym e) tt))
+    go false e (inl l) = inl (refl, l)
+    go false e (inr g) = absurd (true≢false (sym (is-true (y ⋖ x) g) ∙ e))

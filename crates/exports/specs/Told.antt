@@ -2,6 +2,7 @@
 use mathlib.Core.Bool.{Bool, true, false}
 use Prim.Native.Nat.{ℕ}
 use lib.Ieee.{Float}
+use Rattle.doubles.specs.F64.{+0}
 use Rattle.generator_action.specs.declared.MatrixAnswer.{MatrixAnswer}
 use Rattle.generator_action.specs.declared.MatrixAnswer.the-variants as matrix
 use Rattle.phi_action.specs.declared.TaylorReport.{TaylorReport}
@@ -16,16 +17,22 @@ use Rattle.phi_krylov.specs.declared.PhiSolver.the-variants.{Taylor, Krylov}
 use Rattle.phi_krylov.specs.declared.PhiAnswer.{PhiAnswer}
 use Rattle.phi_krylov.specs.declared.PhiAnswer.the-variants as phi
 
--- 0 or the refusal's number, the double reported, and three counts
+-- 0 or the refusal's number, the double reported, three counts, and the shortest and the last accepted step
 pub record Numbers : Type 0 where
   pub number : ℕ
   pub value : Float
   pub first : ℕ
   pub second : ℕ
   pub third : ℕ
+  pub shortest : Float
+  pub last : Float
 
+abbrev pub run-numbers : ℕ → Float → ℕ → ℕ → ℕ → Float → Float → Numbers
+run-numbers k x a b c shortest last = record { number = k; value = x; first = a; second = b; third = c; shortest = shortest; last = last }
+
+-- where there are no steps
 abbrev pub numbers : ℕ → Float → ℕ → ℕ → ℕ → Numbers
-numbers k x a b c = record { number = k; value = x; first = a; second = b; third = c }
+numbers k x a b c = run-numbers k x a b c +0 +0
 
 -- of a matrix: the norm and the first row that has it; the row of a refusal is 0
 unfoldable pub matrix-numbers : MatrixAnswer → Numbers
@@ -37,10 +44,10 @@ unfoldable pub taylor-numbers : TaylorAnswer → Numbers
 taylor-numbers (taylor.Refusal k x) = numbers k x 0 0 0
 taylor-numbers (taylor.Soaked r) = numbers 0 (r .mu) (r .s) (r .m) (r .applications)
 
--- of Krylov: the estimate, the substeps, the applications and the rejections
+-- of Krylov: the estimate, the substeps, the applications, the rejections, and the two steps (document 02, N10)
 unfoldable pub krylov-numbers : KrylovAnswer → Numbers
 krylov-numbers (krylov.Refusal k x) = numbers k x 0 0 0
-krylov-numbers (krylov.Soaked r) = numbers 0 (r .«est_error») (r .substeps) (r .matvecs) (r .rejected)
+krylov-numbers (krylov.Soaked r) = run-numbers 0 (r .«est_error») (r .substeps) (r .matvecs) (r .rejected) (r .shortest) (r .last)
 
 -- of either solver: what its own call tells
 unfoldable pub phi-numbers : PhiAnswer → Numbers

@@ -14,7 +14,7 @@ ghost use Rattle.generator_action.specs.Answer.{matrix-answer};
 ghost use Rattle.phi_action.specs.Calls.{phi-combination, phi-action, phi-action-batched};
 ghost use Rattle.phi_krylov.specs.KrylovCall.{phi-combination-krylov};
 ghost use Rattle.phi_krylov.specs.Combine.{answering, combine};
-ghost use Rattle.exports.specs.Told.{numbers, matrix-numbers, taylor-numbers, krylov-numbers, phi-numbers, options, solver};
+ghost use Rattle.exports.specs.Told.{numbers, matrix-numbers, taylor-numbers, krylov-numbers, phi-numbers, run-numbers, options, solver};
 
 // The result is 0 or the refusal's number; `value` is the norm or the refusal's double.
 fn tell_matrix(answer: MatrixAnswer, value: &mut f64, row: &mut usize) -> u32
@@ -62,15 +62,17 @@ fn tell_taylor(
     }
 }
 
-// The result is 0 or the refusal's number; `value` is the estimate or the refusal's double.
+// The result is 0 or the refusal's number; `value` is the estimate or the refusal's double. A refusal has the counts and steps 0.
 fn tell_krylov(
     answer: KrylovAnswer,
     value: &mut f64,
     substeps: &mut usize,
     matvecs: &mut usize,
     rejected: &mut usize,
+    shortest: &mut f64,
+    last: &mut f64,
 ) -> u32
-    ensures { λ r. ⌜ numbers r (now (value .exit)) (now (substeps .exit)) (now (matvecs .exit)) (now (rejected .exit)) ≡ krylov-numbers answer ⌝ }
+    ensures { λ r. ⌜ run-numbers r (now (value .exit)) (now (substeps .exit)) (now (matvecs .exit)) (now (rejected .exit)) (now (shortest .exit)) (now (last .exit)) ≡ krylov-numbers answer ⌝ }
 {
     match answer {
         KrylovAnswer::Refusal(k, x) => {
@@ -78,6 +80,8 @@ fn tell_krylov(
             *substeps = 0;
             *matvecs = 0;
             *rejected = 0;
+            *shortest = 0.0;
+            *last = 0.0;
             k
         }
         KrylovAnswer::Soaked(report) => {
@@ -85,6 +89,8 @@ fn tell_krylov(
             *substeps = report.substeps;
             *matvecs = report.matvecs;
             *rejected = report.rejected;
+            *shortest = report.shortest;
+            *last = report.last;
             0
         }
     }
@@ -97,8 +103,10 @@ fn tell_phi(
     first: &mut u64,
     second: &mut u64,
     third: &mut u64,
+    shortest: &mut f64,
+    last: &mut f64,
 ) -> u32
-    ensures { λ r. ⌜ numbers r (now (value .exit)) (now (first .exit)) (now (second .exit)) (now (third .exit)) ≡ phi-numbers answer ⌝ }
+    ensures { λ r. ⌜ run-numbers r (now (value .exit)) (now (first .exit)) (now (second .exit)) (now (third .exit)) (now (shortest .exit)) (now (last .exit)) ≡ phi-numbers answer ⌝ }
 {
     match answer {
         PhiAnswer::Refusal(k, x) => {
@@ -106,6 +114,8 @@ fn tell_phi(
             *first = 0;
             *second = 0;
             *third = 0;
+            *shortest = 0.0;
+            *last = 0.0;
             k
         }
         PhiAnswer::Taylor(report) => {
@@ -113,6 +123,8 @@ fn tell_phi(
             *first = report.s as u64;
             *second = report.m as u64;
             *third = report.applications;
+            *shortest = 0.0;
+            *last = 0.0;
             0
         }
         PhiAnswer::Krylov(report) => {
@@ -120,6 +132,8 @@ fn tell_phi(
             *first = report.substeps as u64;
             *second = report.matvecs as u64;
             *third = report.rejected as u64;
+            *shortest = report.shortest;
+            *last = report.last;
             0
         }
     }
@@ -300,8 +314,10 @@ pub extern "C" fn hazhendu_phi_combination_krylov(
     substeps: &mut usize,
     matvecs: &mut usize,
     rejected: &mut usize,
+    shortest: &mut f64,
+    last: &mut f64,
 ) -> u32
-    ensures { λ r. ⌜ ends (numbers r (now (value .exit)) (now (substeps .exit)) (now (matvecs .exit)) (now (rejected .exit))) (now (out .exit)) (now (work .exit)) ≡ answering krylov-numbers (phi-combination-krylov (forward (csr n (now (starts .entry)) (now (cols .entry)) (now (vals .entry))) (given «with_mass» (now (mass .entry)))) tau count (now (w .entry)) (options tol m «max_substeps») (now (out .entry)) (now (work .entry))) ⌝ }
+    ensures { λ r. ⌜ ends (run-numbers r (now (value .exit)) (now (substeps .exit)) (now (matvecs .exit)) (now (rejected .exit)) (now (shortest .exit)) (now (last .exit))) (now (out .exit)) (now (work .exit)) ≡ answering krylov-numbers (phi-combination-krylov (forward (csr n (now (starts .entry)) (now (cols .entry)) (now (vals .entry))) (given «with_mass» (now (mass .entry)))) tau count (now (w .entry)) (options tol m «max_substeps») (now (out .entry)) (now (work .entry))) ⌝ }
 {
     let o = options(tol, m, max_substeps);
     let answer = phi_krylov::phi_combination_krylov(
@@ -318,7 +334,7 @@ pub extern "C" fn hazhendu_phi_combination_krylov(
         out,
         work,
     );
-    tell_krylov(answer, value, substeps, matvecs, rejected)
+    tell_krylov(answer, value, substeps, matvecs, rejected, shortest, last)
 }
 
 // `phi_krylov::combine`, told by `tell_phi`.
@@ -344,8 +360,10 @@ pub extern "C" fn hazhendu_combine(
     first: &mut u64,
     second: &mut u64,
     third: &mut u64,
+    shortest: &mut f64,
+    last: &mut f64,
 ) -> u32
-    ensures { λ r. ⌜ ends (numbers r (now (value .exit)) (now (first .exit)) (now (second .exit)) (now (third .exit))) (now (out .exit)) (now (work .exit)) ≡ answering phi-numbers (combine (solver krylov degree (options tol m «max_substeps»)) (forward (csr n (now (starts .entry)) (now (cols .entry)) (now (vals .entry))) (given «with_mass» (now (mass .entry)))) tau count (now (w .entry)) (now (out .entry)) (now (work .entry))) ⌝ }
+    ensures { λ r. ⌜ ends (run-numbers r (now (value .exit)) (now (first .exit)) (now (second .exit)) (now (third .exit)) (now (shortest .exit)) (now (last .exit))) (now (out .exit)) (now (work .exit)) ≡ answering phi-numbers (combine (solver krylov degree (options tol m «max_substeps»)) (forward (csr n (now (starts .entry)) (now (cols .entry)) (now (vals .entry))) (given «with_mass» (now (mass .entry)))) tau count (now (w .entry)) (now (out .entry)) (now (work .entry))) ⌝ }
 {
     let o = options(tol, m, max_substeps);
     let chosen = solver(krylov, degree, o);
@@ -363,5 +381,5 @@ pub extern "C" fn hazhendu_combine(
         out,
         work,
     );
-    tell_phi(answer, value, first, second, third)
+    tell_phi(answer, value, first, second, third, shortest, last)
 }

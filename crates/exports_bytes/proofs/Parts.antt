@@ -29,7 +29,7 @@ use Rattle.phi_action.specs.declared.TaylorAnswer.the-variants as taylor
 use Rattle.phi_krylov.specs.KrylovCall.{bound, dimension, option-checks, run-checks, krylov-need, krylov-checks, phi-combination-krylov}
 use Rattle.phi_krylov.specs.declared.KrylovAnswer.the-variants as krylov
 use Rattle.phi_krylov.specs.Combine.{answering}
-use Rattle.exports.specs.Told.{Numbers, numbers, taylor-numbers, krylov-numbers, options}
+use Rattle.exports.specs.Told.{Numbers, numbers, run-numbers, taylor-numbers, krylov-numbers, options}
 use Rattle.exports_bytes.specs.Inner.{long-told, called}
 use Rattle.exports_bytes.specs.declared.PhiCall.{PhiCall}
 use Rattle.exports_bytes.specs.declared.PhiCall.the-variants.{Combination, Action, Batch, Krylov}
@@ -220,7 +220,7 @@ abbrev pub Part : {A : Type 0} → ℕ → List A → List A → Type 0
 Part c l p = ((p ≡ l) × (c ≤ 512)) ⊎ ((512 < c) × (length l ≡ c) × (512 ≤ length p))
 
 abbrev pub retold : ℕ → ℕ → Numbers → Numbers
-retold k c t = numbers (t .number) (long-told k c (t .number) (t .value)) (t .first) (t .second) (t .third)
+retold k c t = run-numbers (t .number) (long-told k c (t .number) (t .value)) (t .first) (t .second) (t .third) (t .shortest) (t .last)
 
 abbrev pub recalled : ℕ → ℕ → Call Numbers → Call Numbers
 recalled k c q = ends (retold k c (q .answer)) (q .output) (q .memory)

@@ -12,7 +12,7 @@ use Rattle.combination.specs.Call.{Call}
 use Rattle.phi_action.specs.Calls.{phi-combination, phi-action, phi-action-batched}
 use Rattle.phi_krylov.specs.KrylovCall.{phi-combination-krylov}
 use Rattle.phi_krylov.specs.Combine.{answering}
-use Rattle.exports.specs.Told.{Numbers, numbers, taylor-numbers, krylov-numbers, options}
+use Rattle.exports.specs.Told.{Numbers, numbers, run-numbers, taylor-numbers, krylov-numbers, options}
 use Rattle.exports_bytes.specs.declared.Told.{Told}
 use Rattle.exports_bytes.specs.declared.PhiCall.{PhiCall}
 use Rattle.exports_bytes.specs.declared.PhiCall.the-variants.{Combination, Action, Batch, Krylov}
@@ -22,7 +22,7 @@ abbrev pub taylor-told : Told → Numbers
 taylor-told t = numbers (t .number) (t .value) (t .s) (t .m) (t .applications)
 
 abbrev pub krylov-told : Told → Numbers
-krylov-told t = numbers (t .number) (t .value) (t .substeps) (t .matvecs) (t .rejected)
+krylov-told t = run-numbers (t .number) (t .value) (t .substeps) (t .matvecs) (t .rejected) (t .shortest) (t .last)
 
 unfoldable pub told : PhiCall → Told → Numbers
 told (Combination degree) = taylor-told
@@ -49,6 +49,8 @@ revalued t x =
       substeps = t .substeps;
       matvecs = t .matvecs;
       rejected = t .rejected;
+      shortest = t .shortest;
+      last = t .last;
     }
 
 -- a slice of `len` bytes is cut to r: not at all, or to the `most`

@@ -14,7 +14,7 @@ ghost use Rattle.phi_action.specs.Calls.{phi-combination, phi-action, phi-actio
 ghost use Rattle.phi_krylov.specs.KrylovCall.{phi-combination-krylov};
 ghost use Rattle.phi_krylov.specs.Combine.{answering};
 ghost use Rattle.le_bytes.specs.Bytes.{numbers-of, doubles-of};
-ghost use Rattle.exports.specs.Told.{numbers, taylor-numbers, krylov-numbers, options};
+ghost use Rattle.exports.specs.Told.{numbers, run-numbers, taylor-numbers, krylov-numbers, options};
 ghost use Rattle.exports_bytes.specs.Replies.{large, replies, packed, replied};
 ghost use Rattle.exports_bytes.specs.Inner.{taylor-told, krylov-told, told, revalued, Cut, long-told, called};
 
@@ -36,6 +36,8 @@ struct Told {
     substeps: usize,
     matvecs: usize,
     rejected: usize,
+    shortest: f64,
+    last: f64,
 }
 
 // By lengths in bytes.
@@ -107,11 +109,21 @@ fn told_taylor(number: u32, value: f64, s: u32, m: u32, applications: u64) -> To
         substeps: 0,
         matvecs: 0,
         rejected: 0,
+        shortest: 0.0,
+        last: 0.0,
     }
 }
 
-fn told_krylov(number: u32, value: f64, substeps: usize, matvecs: usize, rejected: usize) -> Told
-    ensures { λ r. ⌜ krylov-told r ≡ numbers number value substeps matvecs rejected ⌝ }
+fn told_krylov(
+    number: u32,
+    value: f64,
+    substeps: usize,
+    matvecs: usize,
+    rejected: usize,
+    shortest: f64,
+    last: f64,
+) -> Told
+    ensures { λ r. ⌜ krylov-told r ≡ run-numbers number value substeps matvecs rejected shortest last ⌝ }
 {
     Told {
         number: number,
@@ -122,6 +134,8 @@ fn told_krylov(number: u32, value: f64, substeps: usize, matvecs: usize, rejecte
         substeps: substeps,
         matvecs: matvecs,
         rejected: rejected,
+        shortest: shortest,
+        last: last,
     }
 }
 
@@ -138,8 +152,16 @@ fn of_krylov(answer: KrylovAnswer) -> Told
     ensures { λ r. ⌜ krylov-told r ≡ krylov-numbers answer ⌝ }
 {
     match answer {
-        KrylovAnswer::Refusal(k, x) => told_krylov(k, x, 0, 0, 0),
-        KrylovAnswer::Soaked(r) => told_krylov(0, r.est_error, r.substeps, r.matvecs, r.rejected),
+        KrylovAnswer::Refusal(k, x) => told_krylov(k, x, 0, 0, 0, 0.0, 0.0),
+        KrylovAnswer::Soaked(r) => told_krylov(
+            0,
+            r.est_error,
+            r.substeps,
+            r.matvecs,
+            r.rejected,
+            r.shortest,
+            r.last,
+        ),
     }
 }
 
@@ -543,8 +565,10 @@ pub extern "C" fn hazhendu_phi_combination_krylov_bytes(
     substeps: &mut usize,
     matvecs: &mut usize,
     rejected: &mut usize,
+    shortest: &mut f64,
+    last: &mut f64,
 ) -> u32
-    ensures { λ r. ⌜ replies (numbers r (now (value .exit)) (now (substeps .exit)) (now (matvecs .exit)) (now (rejected .exit))) (now (out .exit)) (now (work .exit)) ≡ replied (large n (length (now (vals .entry))) (length (now (work .entry)))) (replies (numbers 255 (now (value .entry)) (now (substeps .entry)) (now (matvecs .entry)) (now (rejected .entry))) (now (out .entry)) (now (work .entry))) (answering krylov-numbers (phi-combination-krylov (forward (csr n (numbers-of (now (starts .entry))) (numbers-of (now (cols .entry))) (doubles-of (now (vals .entry)))) (given «with_mass» (doubles-of (now (mass .entry))))) tau count (doubles-of (now (w .entry))) (options tol m «max_substeps») (doubles-of (now (out .entry))) (doubles-of (now (work .entry))))) ⌝ }
+    ensures { λ r. ⌜ replies (run-numbers r (now (value .exit)) (now (substeps .exit)) (now (matvecs .exit)) (now (rejected .exit)) (now (shortest .exit)) (now (last .exit))) (now (out .exit)) (now (work .exit)) ≡ replied (large n (length (now (vals .entry))) (length (now (work .entry)))) (replies (run-numbers 255 (now (value .entry)) (now (substeps .entry)) (now (matvecs .entry)) (now (rejected .entry)) (now (shortest .entry)) (now (last .entry))) (now (out .entry)) (now (work .entry))) (answering krylov-numbers (phi-combination-krylov (forward (csr n (numbers-of (now (starts .entry))) (numbers-of (now (cols .entry))) (doubles-of (now (vals .entry)))) (given «with_mass» (doubles-of (now (mass .entry))))) tau count (doubles-of (now (w .entry))) (options tol m «max_substeps») (doubles-of (now (out .entry))) (doubles-of (now (work .entry))))) ⌝ }
 {
     let t = answer(
         PhiCall::Krylov(tol, m, max_substeps),
@@ -559,11 +583,21 @@ pub extern "C" fn hazhendu_phi_combination_krylov_bytes(
         w,
         out,
         work,
-        told_krylov(255, *value, *substeps, *matvecs, *rejected),
+        told_krylov(
+            255,
+            *value,
+            *substeps,
+            *matvecs,
+            *rejected,
+            *shortest,
+            *last,
+        ),
     );
     *value = t.value;
     *substeps = t.substeps;
     *matvecs = t.matvecs;
     *rejected = t.rejected;
+    *shortest = t.shortest;
+    *last = t.last;
     t.number
 }

@@ -17,7 +17,7 @@ use Rattle.phi_action_helpers.specs.declared.Layout.{Layout}
 use Rattle.arnoldi.specs.Basis.{Setting, norm2}
 use Rattle.arnoldi.specs.Memory.{column}
 use Rattle.arnoldi.specs.declared.Krylov.{Krylov}
-use Rattle.phi_krylov_arnoldi.specs.Run.{EPSILON, combined, advance, unfinished, standing}
+use Rattle.phi_krylov_arnoldi.specs.Run.{EPSILON, combined, counted, advance, unfinished, standing}
 use Rattle.phi_krylov_arnoldi.specs.Memory.{state-at, stepped, progress-at}
 use Rattle.phi_krylov_arnoldi.specs.declared.Control.{Control}
 use Rattle.phi_krylov_arnoldi.specs.declared.KrylovPhiReport.{KrylovPhiReport}
@@ -37,19 +37,15 @@ module _ (l : Layout) (k : Krylov) (c : Control) (r : KrylovPhiReport) (applied 
   pub step-kept : (q : ℕ) → k .y + (l .n + l .d) ≤ q → Kept 0 q +0 w₀ w
   step-kept q h = kept-by (kept-all 0 q +0 w₀) (wrote (k .y) (l .n + l .d) field w₀ w long e) (omega arith) (omega arith)
 
-  module _ (p : Setting) (next beta x : Float) (ex : next ≡ (if +0 ⋖ s .err then retry (p .m) (p .tol) (s .t) (s .err) else (1f ⊖ (c .time ⊕ s .t)))) (eb : beta ≡ norm2 (window (k .y) (l .n + l .d) w)) (em : x ≡ maxNum (s .err) (p .anorm ⊗ EPSILON ⊗ c .beta)) where
+  module _ (p : Setting) (next beta x : Float) (ex : next ≡ (if +0 ⋖ s .err then retry (p .m) (p .tol) (s .t) (s .err) else (1f ⊖ (c .time ⊕ s .t)))) (eb : beta ≡ norm2 (window (k .y) (l .n + l .d) w)) (em : x ≡ maxNum (s .err) (p .anorm ⊗ EPSILON ⊗ c .beta)) {report : KrylovPhiReport} (er : report ≡ counted r applied (s .rejections) (s .t) x) where
     abbrev pub control : Control
     control = record { time = c .time ⊕ s .t; next = next; beta = beta }
-
-    abbrev pub report : KrylovPhiReport
-    report = record { matvecs = r .matvecs + applied; substeps = r .substeps + 1; rejected = r .rejected + s .rejections; «est_error» = r .«est_error» ⊕ x }
 
     stepped-is : state-at l k control report w ≡ stepped l k c r applied s f p w₀
     unfolding advance
     stepped-is =
         let y : window (k .y) (l .n + l .d) w ≡ field = ap (window (k .y) (l .n + l .d)) e ∙ window-splice-same (k .y) (l .n + l .d) field w₀ long room in
-        let one : r .substeps + 1 ≡ suc (r .substeps) = omega arith in
-        rw (eb, ex, em, y, one, length-window (k .y) (l .n + l .d) w₀ room) refl
+        rw (eb, ex, er, em, y, length-window (k .y) (l .n + l .d) w₀ room) refl
 
     pub goes-on : unfinished (state-at l k control report w) ≡ true → progress-at l k (On control report) w ≡ standing (stepped l k c r applied s f p w₀) (unfinished (stepped l k c r applied s f p w₀))
     unfolding progress-at

@@ -15,7 +15,7 @@ use Rattle.arnoldi.proofs.Products.{Products, basis-products}
 use Rattle.arnoldi.specs.declared.Krylov.{Krylov}
 use Rattle.trial_steps.specs.Trials.{Trying, Tried, accepted, stuck}
 use Rattle.trial_steps.proofs.Few.{Few, trials-few}
-use Rattle.phi_krylov_arnoldi.specs.Run.{State, End, applied-of, columns-of, advance, unfinished, standing, settle, substep}
+use Rattle.phi_krylov_arnoldi.specs.Run.{State, End, applied-of, columns-of, counted, advance, unfinished, standing, settle, substep}
 use Rattle.phi_krylov_arnoldi.specs.Memory.{state-at, progress-at, Moderate}
 use Rattle.phi_krylov_arnoldi.specs.declared.Control.{Control}
 use Rattle.phi_krylov_arnoldi.specs.declared.KrylovPhiReport.{KrylovPhiReport}
@@ -52,7 +52,7 @@ settle-more p s b (on t) h f = tt
 settle-more p s b (out (stuck arg)) h f = tt
 settle-more p s b (out (accepted r t g err)) h f =
     let n = advance p s (applied-of b) (columns-of b) r t g err in
-    standing-more (p .m) s n (unfinished n) (unfold advance in (omega (arith, h), omega arith, omega (arith, f)))
+    standing-more (p .m) s n (unfinished n) (unfold advance counted in (omega (arith, h), omega arith, omega (arith, f)))
 
 substep-more : (p : Setting) (s : State) → More (p .m) s (substep p s)
 unfolding substep

@@ -2,13 +2,13 @@
 use mathlib.Core.Bool.{Bool, true, false, not, _&&_}
 use mathlib.Core.List.{List}
 use Prim.Native.Nat.{ℕ, suc, _+_, min}
-use lib.Dec.{ltb}
+use lib.Dec.{eqb, ltb}
 use lib.ListN.{length, replicate, getD}
 use mathlib.Core.List.{[]}
 use lib.Ieee.{Float, eq}
 use Rattle.lists.specs.Loop.{iter}
 use Rattle.lists.specs.Walk.{Turn, on, out, walk}
-use Rattle.doubles.specs.F64.{if_then_else_, _⊕_, _⊖_, _⊗_, _⊘_, _⋖_, bits, nat, +0, 1f, at, maxNum}
+use Rattle.doubles.specs.F64.{if_then_else_, _⊕_, _⊖_, _⊗_, _⊘_, _⋖_, bits, nat, +0, 1f, at, minNum, maxNum}
 use Rattle.sqrt.specs.Sqrt.{sqrt}
 use Rattle.power.specs.Power.{power, root}
 use Rattle.round2.specs.Rounded.{round2}
@@ -60,21 +60,31 @@ columns-of (full b avnorm) = b .v
 unfoldable pub combined : Float → List (List Float) → List Float → ℕ → List Float
 combined beta v f n = iter (λ i y. axpy (beta ⊗ at f i) (getD v i []) y) (length f) (replicate n +0)
 
--- the state after an accepted length: the counts of what was made are added, and the estimate
+-- the shortest accepted length, t among them (document 02, N10)
+unfoldable pub shorter : ℕ → Float → Float → Float
+shorter substeps shortest t = if eqb substeps 0 then t else minNum shortest t
+
+-- the report after an accepted length t: the counts of what was made are added, and the estimate
+unfoldable pub counted : KrylovPhiReport → ℕ → ℕ → Float → Float → KrylovPhiReport
+counted r applied rejections t err =
+    record {
+      matvecs = r .matvecs + applied;
+      substeps = suc (r .substeps);
+      rejected = r .rejected + rejections;
+      «est_error» = r .«est_error» ⊕ err;
+      shortest = shorter (r .substeps) (r .shortest) t;
+      last = t;
+    }
+
+-- the state after an accepted length
 unfoldable pub advance : Setting → State → ℕ → List (List Float) → ℕ → Float → List Float → Float → State
 advance p s applied v rejections t f err =
     let c = s .control in
-    let r = s .report in
     let y = combined (c .beta) v f (length (s .y)) in
     let time = c .time ⊕ t in
     record {
       control = record { time = time; next = if +0 ⋖ err then retry (p .m) (p .tol) t err else 1f ⊖ time; beta = norm2 y };
-      report = record {
-        matvecs = r .matvecs + applied;
-        substeps = suc (r .substeps);
-        rejected = r .rejected + rejections;
-        «est_error» = r .«est_error» ⊕ maxNum err (p .anorm ⊗ EPSILON ⊗ c .beta);
-      };
+      report = counted (s .report) applied rejections t (maxNum err (p .anorm ⊗ EPSILON ⊗ c .beta));
       y = y;
     }
 
@@ -118,7 +128,7 @@ first-length m anorm tol beta =
     round2 (1f ⊘ maxNum anorm MIN-POSITIVE ⊗ root (fact ⊗ tol ⊘ (4f ⊗ beta ⊗ maxNum anorm 1f)) m)
 
 abbrev pub empty-report : KrylovPhiReport
-empty-report = record { matvecs = 0; substeps = 0; rejected = 0; «est_error» = +0 }
+empty-report = record { matvecs = 0; substeps = 0; rejected = 0; «est_error» = +0; shortest = +0; last = +0 }
 
 -- a run starts at time +0 with all counts 0
 unfoldable pub started : Setting → List Float → State
@@ -126,11 +136,14 @@ started p y =
     let beta = norm2 y in
     record { control = record { time = +0; next = first-length (p .m) (p .anorm) (p .tol) beta; beta = beta }; report = empty-report; y = y }
 
--- the field scaled back, the estimate relative to the first norm
+-- the estimate relative to the first norm, all else as it is
+unfoldable pub relative-report : KrylovPhiReport → Float → KrylovPhiReport
+relative-report r beta₀ =
+    record { matvecs = r .matvecs; substeps = r .substeps; rejected = r .rejected; «est_error» = r .«est_error» ⊘ beta₀; shortest = r .shortest; last = r .last }
+
+-- the field scaled back, and that report
 unfoldable pub scaled-back : Float → Float → State → State
-scaled-back up beta₀ s =
-    let r = s .report in
-    record { control = s .control; report = record { matvecs = r .matvecs; substeps = r .substeps; rejected = r .rejected; «est_error» = r .«est_error» ⊘ beta₀ }; y = scale up (s .y) }
+scaled-back up beta₀ s = record { control = s .control; report = relative-report (s .report) beta₀; y = scale up (s .y) }
 
 unfoldable pub back : Float → Float → End → End
 back up beta₀ (finished s) = finished (scaled-back up beta₀ s)
@@ -160,5 +173,5 @@ expv b tau anorm tol m limit y = expv-by b tau anorm tol m limit y (pow2-scale y
 
 -- to compute: a line `unfolding open-Run` opens every definition of this file and of those below it
 unfoldable pub open-Run : Unit {0}
-unfolding combined advance unfinished settle substep spent run first-length started scaled-back back clamp-m idle expv-by expv open-Pow2 open-Trials
+unfolding combined shorter counted advance unfinished settle substep spent run first-length started relative-report scaled-back back clamp-m idle expv-by expv open-Pow2 open-Trials
 open-Run = tt

@@ -17,7 +17,7 @@ ghost use Rattle.phi_action_helpers.specs.declared.Coupling.{Coupling};
 ghost use Rattle.phi_action_helpers.specs.declared.Layout.{Layout};
 ghost use Rattle.phi_action_helpers.specs.Laid.{matrix-at, operator-at};
 ghost use Rattle.arnoldi.specs.Memory.{column, setting-at, Room};
-ghost use Rattle.phi_krylov_arnoldi.specs.Run.{first-length, combined, unfinished, standing, substep, spent, started, run, back, clamp-m, expv, expv-by};
+ghost use Rattle.phi_krylov_arnoldi.specs.Run.{first-length, combined, shorter, counted, unfinished, standing, substep, spent, started, run, relative-report, back, clamp-m, expv, expv-by};
 ghost use Rattle.phi_krylov_arnoldi.specs.declared.KrylovPhiReport.{KrylovPhiReport};
 ghost use Rattle.phi_krylov_arnoldi.specs.Memory.{products, state-at, stepped, progress-at, end-at};
 use arnoldi::BasisAnswer;
@@ -39,12 +39,15 @@ const MIN_POSITIVE: f64 = 2.2250738585072014e-308;
 
 const EPSILON: f64 = 2.220446049250313e-16;
 
-// Of a run: products with the generator, accepted substeps, rejected lengths, and the accumulated error estimate.
+// Of a run: products with the generator, accepted substeps, rejected lengths, the accumulated error estimate, and the shortest and the
+// last accepted length, both 0 where there is none.
 pub struct KrylovPhiReport {
     pub matvecs: usize,
     pub substeps: usize,
     pub rejected: usize,
     pub est_error: f64,
+    pub shortest: f64,
+    pub last: f64,
 }
 
 // The time reached, the length proposed next, and the field's norm.
@@ -109,6 +112,37 @@ fn unfinished(c: Control) -> bool
     c.time < 1.0
 }
 
+// The shortest accepted length, t among them; of none so far it is t.
+fn shorter(substeps: usize, shortest: f64, t: f64) -> f64
+    ensures { λ r. ⌜ r ≡ shorter substeps shortest t ⌝ }
+{
+    if substeps == 0 {
+        return t;
+    }
+    float::min(shortest, t)
+}
+
+// The report after an accepted length t that took `applied` products and added err to the estimate.
+fn counted(
+    r: KrylovPhiReport,
+    applied: usize,
+    rejections: usize,
+    t: f64,
+    err: f64,
+) -> KrylovPhiReport
+    requires { ⌜ (r .matvecs ≤ 1000000000) × (r .substeps ≤ 1000000) × (r .rejected ≤ 1000000000) × (applied ≤ 1000) × (rejections ≤ 10) ⌝ }
+    ensures { λ x. ⌜ x ≡ counted r applied rejections t err ⌝ }
+{
+    KrylovPhiReport {
+        matvecs: r.matvecs + applied,
+        substeps: r.substeps + 1,
+        rejected: r.rejected + rejections,
+        est_error: r.est_error + err,
+        shortest: shorter(r.substeps, r.shortest, t),
+        last: t,
+    }
+}
+
 // The state after an accepted length, `applied` products made.
 fn advance(
     work: &mut [f64],
@@ -135,12 +169,8 @@ fn advance(
         next: next_length(k.m, k.tol, s.t, s.err, time),
         beta: arnoldi::norm2(&work[y..end]),
     };
-    let report = KrylovPhiReport {
-        matvecs: r.matvecs + applied,
-        substeps: r.substeps + 1,
-        rejected: r.rejected + s.rejections,
-        est_error: r.est_error + float::max(s.err, k.anorm * EPSILON * c.beta),
-    };
+    let err = float::max(s.err, k.anorm * EPSILON * c.beta);
+    let report = counted(r, applied, s.rejections, s.t, err);
     if unfinished(control) {
         return Progress::On(control, report);
     }
@@ -258,18 +288,22 @@ fn substeps(
         substeps: 0,
         rejected: 0,
         est_error: 0.0,
+        shortest: 0.0,
+        last: 0.0,
     };
     spent(run_substeps(starts, cols, vals, vectors, work, l, b, k, limit, c, r))
 }
 
 fn relative_report(r: KrylovPhiReport, beta: f64) -> KrylovPhiReport
-    ensures { λ x. ⌜ x ≡ record { matvecs = r .matvecs; substeps = r .substeps; rejected = r .rejected; «est_error» = r .«est_error» ⊘ beta } ⌝ }
+    ensures { λ x. ⌜ x ≡ relative-report r beta ⌝ }
 {
     KrylovPhiReport {
         matvecs: r.matvecs,
         substeps: r.substeps,
         rejected: r.rejected,
         est_error: r.est_error / beta,
+        shortest: r.shortest,
+        last: r.last,
     }
 }
 
@@ -355,6 +389,8 @@ pub fn expv(
                 substeps: 0,
                 rejected: 0,
                 est_error: 0.0,
+                shortest: 0.0,
+                last: 0.0,
             },
         ),
         Prescale::By(f) => scaled_run(starts, cols, vals, vectors, work, l, b, k, limit, f),

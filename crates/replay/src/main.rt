@@ -24,13 +24,15 @@ struct Job {
     limit: usize,
 }
 
-// What a call hands back as numbers, the double as its bits.
+// What a call hands back as numbers, each double as its bits; the steps of a Taylor call are 0.
 struct Answer {
     number: u64,
     value: u64,
     first: u64,
     second: u64,
     third: u64,
+    shortest: u64,
+    last: u64,
 }
 
 // How many answers of a section were replayed, and how many differ.
@@ -47,7 +49,7 @@ fn word_at(b: &[u8], k: usize) -> u64
 }
 
 fn same_numbers(a: Answer, b: Answer) -> bool
-    ensures { λ r. ⌜ r ≡ (eqb (a .number) (b .number) && (eqb (a .value) (b .value) && (eqb (a .first) (b .first) && (eqb (a .second) (b .second) && eqb (a .third) (b .third))))) ⌝ }
+    ensures { λ r. ⌜ r ≡ (eqb (a .number) (b .number) && (eqb (a .value) (b .value) && (eqb (a .first) (b .first) && (eqb (a .second) (b .second) && (eqb (a .third) (b .third) && (eqb (a .shortest) (b .shortest) && eqb (a .last) (b .last))))))) ⌝ }
 {
     if a.number != b.number {
         return false;
@@ -61,7 +63,13 @@ fn same_numbers(a: Answer, b: Answer) -> bool
     if a.second != b.second {
         return false;
     }
-    a.third == b.third
+    if a.third != b.third {
+        return false;
+    }
+    if a.shortest != b.shortest {
+        return false;
+    }
+    a.last == b.last
 }
 
 // Whether two bit patterns lie at most `units` apart.
@@ -133,6 +141,8 @@ fn ask_combination(
         first: s as u64,
         second: m as u64,
         third: applications,
+        shortest: 0,
+        last: 0,
     }
 }
 
@@ -174,6 +184,8 @@ fn ask_action(
         first: s as u64,
         second: m as u64,
         third: applications,
+        shortest: 0,
+        last: 0,
     }
 }
 
@@ -215,6 +227,8 @@ fn ask_batched(
         first: s as u64,
         second: m as u64,
         third: applications,
+        shortest: 0,
+        last: 0,
     }
 }
 
@@ -232,6 +246,8 @@ fn ask_krylov(
     let mut substeps = 90usize;
     let mut matvecs = 90usize;
     let mut rejected = 90usize;
+    let mut shortest = 90.0f64;
+    let mut last = 90.0f64;
     let number = exports_bytes::hazhendu_phi_combination_krylov_bytes(
         job.n,
         starts,
@@ -251,6 +267,8 @@ fn ask_krylov(
         &mut substeps,
         &mut matvecs,
         &mut rejected,
+        &mut shortest,
+        &mut last,
     );
     Answer {
         number: number as u64,
@@ -258,6 +276,8 @@ fn ask_krylov(
         first: matvecs as u64,
         second: substeps as u64,
         third: rejected as u64,
+        shortest: pattern(shortest),
+        last: pattern(last),
     }
 }
 
@@ -281,7 +301,7 @@ fn ask(
 }
 
 fn job_of(head: &[u8]) -> Job
-    requires { ⌜ 168 ≤ length (now head) ⌝ }
+    requires { ⌜ 184 ≤ length (now head) ⌝ }
 {
     Job {
         call: word_at(head, 0),
@@ -297,7 +317,7 @@ fn job_of(head: &[u8]) -> Job
 }
 
 fn answer_of(head: &[u8]) -> Answer
-    requires { ⌜ 168 ≤ length (now head) ⌝ }
+    requires { ⌜ 184 ≤ length (now head) ⌝ }
 {
     Answer {
         number: word_at(head, 128),
@@ -305,6 +325,8 @@ fn answer_of(head: &[u8]) -> Answer
         first: word_at(head, 144),
         second: word_at(head, 152),
         third: word_at(head, 160),
+        shortest: word_at(head, 168),
+        last: word_at(head, 176),
     }
 }
 
@@ -321,7 +343,7 @@ fn part(b: &[u8], from: usize, to: usize) -> &[u8] {
 
 // Whether the parts of the body follow one another, and no more memory is cleared than there is.
 fn in_order(head: &[u8]) -> bool
-    requires { ⌜ 168 ≤ length (now head) ⌝ }
+    requires { ⌜ 184 ≤ length (now head) ⌝ }
 {
     if word_at(head, 64) > word_at(head, 72) {
         return false;
@@ -348,7 +370,7 @@ fn last_word(b: &[u8]) -> u64 {
 
 // A published value says nothing of the report. The last double of the output has to be at most four units in the last place from it.
 fn agrees(answer: Answer, head: &[u8], out: &[u8], wanted: &[u8], published: bool) -> bool
-    requires { ⌜ 168 ≤ length (now head) ⌝ }
+    requires { ⌜ 184 ≤ length (now head) ⌝ }
 {
     if published {
         if answer.number != 0 {
@@ -364,7 +386,7 @@ fn agrees(answer: Answer, head: &[u8], out: &[u8], wanted: &[u8], published: boo
 
 // The body is starts, cols, vals, mass, w and the output expected.
 fn replay_on(head: &[u8], body: &[u8], out: &mut [u8], work: &mut [u8], published: bool) -> bool
-    requires { ⌜ 168 ≤ length (now head) ⌝ }
+    requires { ⌜ 184 ≤ length (now head) ⌝ }
 {
     let starts = word_at(head, 64) as usize;
     let cols = word_at(head, 72) as usize;
@@ -388,7 +410,7 @@ fn replay_on(head: &[u8], body: &[u8], out: &mut [u8], work: &mut [u8], publishe
 }
 
 fn replay_in(head: &[u8], body: &[u8], out: &mut [u8], work: &mut [u8], published: bool) -> bool
-    requires { ⌜ 168 ≤ length (now head) ⌝ }
+    requires { ⌜ 184 ≤ length (now head) ⌝ }
 {
     if !in_order(head) {
         return false;
@@ -415,7 +437,7 @@ fn replay_in(head: &[u8], body: &[u8], out: &mut [u8], work: &mut [u8], publishe
 }
 
 fn replay_record(head: &[u8], body: &[u8], published: bool) -> bool
-    requires { ⌜ 168 ≤ length (now head) ⌝ }
+    requires { ⌜ 184 ≤ length (now head) ⌝ }
 {
     let mut out = [90u8; 4096];
     let mut work = [90u8; 32768];
@@ -432,8 +454,8 @@ fn read_front(room: &mut [u8], count: usize) -> bool {
 
 // Reads a record, and says whether the library gives the answer that it holds.
 fn replay_next(published: bool) -> bool {
-    let mut head = [0u8; 168];
-    if io::read_full(0, &mut head) < 168 {
+    let mut head = [0u8; 184];
+    if io::read_full(0, &mut head) < 184 {
         return false;
     }
     let size = word_at(&head, 104) as usize;
@@ -495,6 +517,8 @@ fn ask_200(starts: &[u32], w: &[f64], m: usize, out: &mut [f64], work: &mut [f64
     let mut substeps = 90usize;
     let mut matvecs = 90usize;
     let mut rejected = 90usize;
+    let mut shortest = 90.0f64;
+    let mut last = 90.0f64;
     exports::hazhendu_phi_combination_krylov(
         200,
         starts,
@@ -514,6 +538,8 @@ fn ask_200(starts: &[u32], w: &[f64], m: usize, out: &mut [f64], work: &mut [f64
         &mut substeps,
         &mut matvecs,
         &mut rejected,
+        &mut shortest,
+        &mut last,
     )
 }
 

@@ -45,14 +45,14 @@ pub fn expected(job: &Job, cost: u64) -> Option<Expected> {
 }
 
 /// The answer of the Rust as it is; up to a lower degree than `M_MAX`, of the Rust with that number for it.
-fn unaltered(job: &Job) -> Answer {
+pub fn unaltered(job: &Job) -> Answer {
     let rust = |j: &Job| if j.degree == DEGREE { oracle::answer(j, u64::MAX) } else { capped::answer(j, u64::MAX) };
     reference::answer(job, rust).expect("an answer at any cost")
 }
 
-/// Where the Rust with its own libm differs from the transcribed.
+/// Where the Rust with its own libm differs from the transcribed, the steps left out, which it does not tell.
 pub fn own_libm(job: &Job, transcribed: &Answer) -> Option<Difference> {
-    Difference::of("own libm", unaltered(job), transcribed)
+    Difference::of("own libm", Answer { steps: transcribed.steps, ..unaltered(job) }, transcribed)
 }
 
 /// Where the library differs, on slices and on bytes; `tail` tells how many bytes stand behind the last whole element.

@@ -79,12 +79,14 @@ pub struct Job {
 }
 
 /// `number` is 0 or a refusal's; `value` mu, the estimated error or the refusal's double; `counts` are s, m and
-/// applications of Taylor, applications, substeps and rejections of Krylov, and zeros of a refusal.
+/// applications of Taylor, applications, substeps and rejections of Krylov, and zeros of a refusal; `steps` are the
+/// shortest and the last accepted step of Krylov, zeros of all else.
 #[derive(Clone, Debug)]
 pub struct Answer {
     pub number: u32,
     pub value: f64,
     pub counts: [u64; 3],
+    pub steps: [f64; 2],
     pub out: Vec<f64>,
     pub work: Vec<f64>,
 }
@@ -159,7 +161,7 @@ impl Job {
 
     /// The answer of a refusal that changes no lent memory.
     pub fn refused(&self, number: u32, value: f64) -> Answer {
-        Answer { number, value, counts: [0; 3], out: self.marked_out(), work: self.marked_work() }
+        Answer { number, value, counts: [0; 3], steps: [0.0; 2], out: self.marked_out(), work: self.marked_work() }
     }
 
     /// Whether the functions on bytes refuse it by 255.
@@ -169,9 +171,10 @@ impl Job {
 
     /// What a function on bytes answers to a job that is too large for it: nothing is changed, the numbers included.
     pub fn large(&self) -> Answer {
-        let (counts, max) = (u64::from(u32::MAX), u64::MAX);
-        let counts = if matches!(self.call, Call::Krylov { .. }) { [max; 3] } else { [counts, counts, max] };
-        Answer { counts, ..self.refused(255, mark(0)) }
+        let (s, max) = (u64::from(u32::MAX), u64::MAX);
+        let krylov = matches!(self.call, Call::Krylov { .. });
+        let (counts, steps) = if krylov { ([max; 3], [mark(0); 2]) } else { ([s, s, max], [0.0; 2]) };
+        Answer { counts, steps, ..self.refused(255, mark(0)) }
     }
 
     pub fn print(&self) -> String {
@@ -232,13 +235,14 @@ impl Job {
 impl Answer {
     /// To a matrix alone: the row is the first count.
     pub fn of_matrix(number: u32, value: f64, row: usize) -> Answer {
-        Answer { number, value, counts: [row as u64, 0, 0], out: vec![], work: vec![] }
+        Answer { number, value, counts: [row as u64, 0, 0], steps: [0.0; 2], out: vec![], work: vec![] }
     }
 
     pub fn print(&self) -> String {
-        let [a, b, c] = self.counts;
+        let ([a, b, c], [shortest, last]) = (self.counts, self.steps.map(|t| double(&t)));
         let (out, work) = (runs(&self.out, 0), runs(&self.work, 1 << 32));
-        format!("number={} value={} counts={a},{b},{c} out={out} work={work}", self.number, double(&self.value))
+        let counts = format!("counts={a},{b},{c} steps={shortest},{last}");
+        format!("number={} value={} {counts} out={out} work={work}", self.number, double(&self.value))
     }
 
     /// Which parts differ, bit for bit; none if the answers are the same.
@@ -253,6 +257,9 @@ impl Answer {
         }
         if self.counts != other.counts {
             parts.push("counts");
+        }
+        if !same(&self.steps, &other.steps) {
+            parts.push("steps");
         }
         if !same(&self.out, &other.out) {
             parts.push("out");

@@ -9,7 +9,7 @@ use crate::{called, exported, told, Slices};
 exported!(hazhendu_phi_combination_bytes, u8, u8, [degree: u32], [], u32, u32, u64);
 exported!(hazhendu_phi_action_bytes, u8, u8, [degree: u32], [], u32, u32, u64);
 exported!(hazhendu_phi_action_batched_bytes, u8, u8, [degree: u32], [], u32, u32, u64);
-exported!(hazhendu_phi_combination_krylov_bytes, u8, u8, [], [tol: f64, m: usize, max_substeps: usize], usize, usize, usize);
+exported!(hazhendu_phi_combination_krylov_bytes, u8, u8, [], [tol: f64, m: usize, max_substeps: usize], usize, usize, usize, shortest: f64, last: f64);
 
 /// The doubles' bytes, and `tail` more that make no whole element.
 fn doubles(list: &[f64], tail: usize) -> Box<[u8]> {
@@ -47,7 +47,13 @@ pub fn answer(job: &Job, tail: usize) -> Option<Answer> {
         hazhendu_phi_combination_krylov_bytes
     );
     let kept = |bytes: &[u8]| bytes.chunks_exact(8).remainder().iter().all(|b| *b == 0xa5);
-    let answer =
-        Answer { number: told.number, value: told.value, counts: told.counts, out: whole_doubles(&out), work: whole_doubles(&work) };
+    let answer = Answer {
+        number: told.number,
+        value: told.value,
+        counts: told.counts,
+        steps: told.steps,
+        out: whole_doubles(&out),
+        work: whole_doubles(&work),
+    };
     (kept(&out) && kept(&work)).then_some(answer)
 }

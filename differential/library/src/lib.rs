@@ -8,12 +8,13 @@ mod slices;
 pub use bytes::answer as answer_on_bytes;
 pub use slices::{answer, call, matrix};
 
-/// What a call hands back besides its slices: 0 or the refusal's number, the double, and the counts in the order of
-/// [`jobs::Answer`].
+/// What a call hands back besides its slices: 0 or the refusal's number, the double, the counts in the order of
+/// [`jobs::Answer`], and the two steps.
 pub struct Told {
     pub number: u32,
     pub value: f64,
     pub counts: [u64; 3],
+    pub steps: [f64; 2],
 }
 
 /// The slices that a job lends to be read.
@@ -27,7 +28,7 @@ struct Slices<N, D> {
 
 /// Declares one exported function on slices of `$u32` and `$f64`: a slice is a pointer and a length, a `&mut` number a pointer.
 macro_rules! exported {
-    ($name:ident, $u32:ty, $f64:ty, [$($degree:ident: u32)?], [$($option:ident: $option_type:ty),*], $a:ty, $b:ty, $c:ty) => {
+    ($name:ident, $u32:ty, $f64:ty, [$($degree:ident: u32)?], [$($option:ident: $option_type:ty),*], $a:ty, $b:ty, $c:ty$(, $step:ident: f64)*) => {
         extern "C" {
             pub fn $name(
                 n: usize,
@@ -54,6 +55,7 @@ macro_rules! exported {
                 first: *mut $a,
                 second: *mut $b,
                 third: *mut $c,
+                $($step: *mut f64,)*
             ) -> u32;
         }
     };
@@ -62,7 +64,7 @@ macro_rules! exported {
 /// Calls one of them. SAFETY: every pointer comes from a slice with its own length or from a local, and no two overlap; the
 /// functions are proved to stay within them.
 macro_rules! called {
-    ($name:path, $job:expr, $s:expr, [$($degree:expr)?], [$($option:expr),*], $out:expr, $work:expr, $value:expr, $a:expr, $b:expr, $c:expr) => {
+    ($name:path, $job:expr, $s:expr, [$($degree:expr)?], [$($option:expr),*], $out:expr, $work:expr, $value:expr, $a:expr, $b:expr, $c:expr$(, $step:expr)*) => {
         unsafe {
             $name(
                 $job.n,
@@ -89,6 +91,7 @@ macro_rules! called {
                 $a,
                 $b,
                 $c,
+                $($step,)*
             )
         }
     };
@@ -101,8 +104,23 @@ macro_rules! told {
         let mut value = jobs::mark(0);
         if let jobs::Call::Krylov { tol, m, limit } = job.call {
             let (mut substeps, mut matvecs, mut rejected) = (!0, !0, !0);
-            let number = called!($krylov, job, s, [], [tol, m, limit], out, work, &mut value, &mut substeps, &mut matvecs, &mut rejected);
-            $crate::Told { number, value, counts: [matvecs as u64, substeps as u64, rejected as u64] }
+            let (mut shortest, mut last) = (jobs::mark(0), jobs::mark(0));
+            let number = called!(
+                $krylov,
+                job,
+                s,
+                [],
+                [tol, m, limit],
+                out,
+                work,
+                &mut value,
+                &mut substeps,
+                &mut matvecs,
+                &mut rejected,
+                &mut shortest,
+                &mut last
+            );
+            $crate::Told { number, value, counts: [matvecs as u64, substeps as u64, rejected as u64], steps: [shortest, last] }
         } else {
             let (mut s_, mut m, mut applications) = (!0, !0, !0);
             let number = match job.call {
@@ -112,7 +130,7 @@ macro_rules! told {
                 }
                 _ => called!($combination, job, s, [job.degree], [], out, work, &mut value, &mut s_, &mut m, &mut applications),
             };
-            $crate::Told { number, value, counts: [s_.into(), m.into(), applications] }
+            $crate::Told { number, value, counts: [s_.into(), m.into(), applications], steps: [0.0; 2] }
         }
     }};
 }

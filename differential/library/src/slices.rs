@@ -9,7 +9,7 @@ use crate::{called, exported, told, Slices, Told};
 exported!(hazhendu_phi_combination, u32, f64, [degree: u32], [], u32, u32, u64);
 exported!(hazhendu_phi_action, u32, f64, [degree: u32], [], u32, u32, u64);
 exported!(hazhendu_phi_action_batched, u32, f64, [degree: u32], [], u32, u32, u64);
-exported!(hazhendu_phi_combination_krylov, u32, f64, [], [tol: f64, m: usize, max_substeps: usize], usize, usize, usize);
+exported!(hazhendu_phi_combination_krylov, u32, f64, [], [tol: f64, m: usize, max_substeps: usize], usize, usize, usize, shortest: f64, last: f64);
 
 extern "C" {
     pub fn hazhendu_check_generator(
@@ -81,5 +81,5 @@ pub fn answer(job: &Job) -> Answer {
     let mut out = job.marked_out().into_boxed_slice();
     let mut work = job.marked_work().into_boxed_slice();
     let told = put(job, &lent::<Box<[u32]>, Box<[f64]>>(job), &mut out, &mut work);
-    Answer { number: told.number, value: told.value, counts: told.counts, out: out.into_vec(), work: work.into_vec() }
+    Answer { number: told.number, value: told.value, counts: told.counts, steps: told.steps, out: out.into_vec(), work: work.into_vec() }
 }

@@ -1,10 +1,12 @@
-//! What a run of the transcribed Rust does: paths taken and cost; and the highest degree of a plan, which it is given.
+//! What a run of the transcribed Rust does: paths taken, cost and accepted steps; and the highest degree of a plan, which it
+//! is given.
 
 use std::cell::{Cell, RefCell};
 use std::collections::BTreeMap;
 
 thread_local! {
     static HITS: RefCell<BTreeMap<&'static str, u64>> = const { RefCell::new(BTreeMap::new()) };
+    static STEPS: RefCell<Vec<f64>> = const { RefCell::new(vec![]) };
     static LEFT: Cell<u64> = const { Cell::new(u64::MAX) };
     static DEGREE: Cell<u32> = const { Cell::new(jobs::DEGREE) };
 }
@@ -19,6 +21,16 @@ pub fn hit(path: &'static str) {
 /// The paths taken since the last call of this function.
 pub fn take_hits() -> BTreeMap<&'static str, u64> {
     HITS.take()
+}
+
+/// An accepted step.
+pub fn step(t: f64) {
+    STEPS.with(|s| s.borrow_mut().push(t));
+}
+
+/// The steps accepted since the last call of this function.
+pub fn take_steps() -> Vec<f64> {
+    STEPS.take()
 }
 
 /// Sets what a run may cost.

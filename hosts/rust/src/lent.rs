@@ -103,7 +103,7 @@ pub fn phi_combination_krylov(
     work: &mut [f64],
 ) -> Result<Report, Refusal> {
     let KrylovOptions { tol, m, max_substeps } = options;
-    let mut report = Report { substeps: 0, matvecs: 0, rejected: 0, estimated_error: 0.0 };
+    let mut report = Report::default();
     let number = call!(
         hazhendu_phi_combination_krylov,
         a,
@@ -122,6 +122,8 @@ pub fn phi_combination_krylov(
         &mut report.substeps,
         &mut report.matvecs,
         &mut report.rejected,
+        &mut report.shortest_step,
+        &mut report.last_step,
     );
     unless_refused(number, report.estimated_error, report)
 }
@@ -133,6 +135,7 @@ pub fn combine(solver: Solver, a: &Matrix, tau: f64, count: usize, w: &[f64], ou
         Solver::Krylov(options) => (TaylorOptions::default(), options),
     };
     let (mut value, mut first, mut second, mut third) = (0.0, 0, 0, 0);
+    let (mut shortest_step, mut last_step) = (0.0, 0.0);
     let number = call!(
         hazhendu_combine,
         a,
@@ -153,13 +156,20 @@ pub fn combine(solver: Solver, a: &Matrix, tau: f64, count: usize, w: &[f64], ou
         &mut first,
         &mut second,
         &mut third,
+        &mut shortest_step,
+        &mut last_step,
     );
     // The casts lose nothing: the counts are those of a plan or of a report, whose types they had.
     let cost = match solver {
         Solver::Taylor(_) => Cost::Taylor(Plan { s: first as u32, m: second as u32, mu: value, applications: third }),
-        Solver::Krylov(_) => {
-            Cost::Krylov(Report { substeps: first as usize, matvecs: second as usize, rejected: third as usize, estimated_error: value })
-        }
+        Solver::Krylov(_) => Cost::Krylov(Report {
+            substeps: first as usize,
+            matvecs: second as usize,
+            rejected: third as usize,
+            estimated_error: value,
+            shortest_step,
+            last_step,
+        }),
     };
     unless_refused(number, value, cost)
 }

@@ -106,7 +106,7 @@ pub struct Plan {
 }
 
 /// What a Krylov job did.
-#[derive(Clone, Copy, Debug, PartialEq)]
+#[derive(Clone, Copy, Debug, Default, PartialEq)]
 pub struct Report {
     /// Substeps accepted.
     pub substeps: usize,
@@ -116,6 +116,10 @@ pub struct Report {
     pub rejected: usize,
     /// Relative to the norm of the start.
     pub estimated_error: f64,
+    /// The shortest substep accepted, as a part of tau; 0 where none was taken.
+    pub shortest_step: f64,
+    /// The last one.
+    pub last_step: f64,
 }
 
 #[derive(Clone, Copy, Debug, PartialEq)]

@@ -34,7 +34,7 @@ exported_taylor!(hazhendu_phi_action, k, v, v_len);
 exported_taylor!(hazhendu_phi_action_batched, p, v, v_len);
 exported!(hazhendu_phi_combination_krylov, tau: f64, count: usize, w: *const f64, w_len: usize, tol: f64, m: usize,
     max_substeps: usize, out: *mut f64, out_len: usize, work: *mut f64, work_len: usize, value: *mut f64, substeps: *mut usize,
-    matvecs: *mut usize, rejected: *mut usize);
+    matvecs: *mut usize, rejected: *mut usize, shortest: *mut f64, last: *mut f64);
 exported!(hazhendu_combine, tau: f64, degree: u32, count: usize, w: *const f64, w_len: usize, krylov: bool, tol: f64, m: usize,
     max_substeps: usize, out: *mut f64, out_len: usize, work: *mut f64, work_len: usize, value: *mut f64, first: *mut u64,
-    second: *mut u64, third: *mut u64);
+    second: *mut u64, third: *mut u64, shortest: *mut f64, last: *mut f64);

@@ -51,14 +51,15 @@ fn phi_3_and_no_higher() {
 fn two_zero_vectors_are_a_run() {
     let empty = Matrix::new(1, &[0, 0], &[], &[]);
     let soaked = phi_combination_krylov(&empty, 1.0, 2, &[0.0, 0.0], options(30)).unwrap();
-    assert_eq!(soaked.cost, Report { substeps: 1, matvecs: 1, rejected: 0, estimated_error: 2f64.powi(-51) });
+    let one = Report { substeps: 1, matvecs: 1, rejected: 0, estimated_error: 2f64.powi(-51), shortest_step: 1.0, last_step: 1.0 };
+    assert_eq!(soaked.cost, one);
     assert_eq!(soaked.field, [0.0]);
 }
 
 #[test]
 fn one_zero_vector_is_none() {
     let soaked = phi_combination_krylov(&EMPTY_2, 1.0, 1, &[0.0, -0.0], options(30)).unwrap();
-    assert_eq!(soaked.cost, Report { substeps: 0, matvecs: 0, rejected: 0, estimated_error: 0.0 });
+    assert_eq!(soaked.cost, Report::default());
     assert_eq!(soaked.field.iter().map(|x| x.to_bits()).collect::<Vec<_>>(), [0, 1 << 63]);
 }
 

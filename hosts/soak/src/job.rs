@@ -84,8 +84,10 @@ pub fn cost_line(cost: &Cost) -> String {
             format!("taylor: s {}, m {}, mu {}, {} applications", plan.s, plan.m, shortest(plan.mu), plan.applications)
         }
         Cost::Krylov(report) => format!(
-            "krylov: {} substeps, {} applications, {} rejected, estimated error {}",
+            "krylov: {} substeps (shortest {}, last {} of tau), {} applications, {} rejected, estimated error {}",
             report.substeps,
+            shortest(report.shortest_step),
+            shortest(report.last_step),
             report.matvecs,
             report.rejected,
             shortest(report.estimated_error)

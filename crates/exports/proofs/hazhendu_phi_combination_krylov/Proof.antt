@@ -6,7 +6,7 @@ use Rattle.exports.proofs.hazhendu_phi_combination_krylov.Statement.{st
 use Rattle.exports.proofs.hazhendu_phi_combination_krylov.Tie as tie
 
 returns : tie.Need-returns
-returns c = answered krylov-numbers _ (c .tell-krylov .ensures) (rw (c .before .before .before .before .before .before .before .before .before .before .before .before .options .ensures) at (c .before .before .before .before .before .before .before .before .before .phi-combination-krylov .ensures))
+returns c = answered krylov-numbers _ (c .tell-krylov .ensures) (rw (c .before .before .before .before .before .before .before .before .before .before .before .before .before .before .options .ensures) at (c .before .before .before .before .before .before .before .before .before .before .before .phi-combination-krylov .ensures))
 
 pub hazhendu-phi-combination-krylov-spec : {M : Type 1} → statement M
 hazhendu-phi-combination-krylov-spec =
