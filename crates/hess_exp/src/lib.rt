@@ -7,7 +7,7 @@ ghost use Rattle.lists.specs.Loop.{iter, zipWith};
 ghost use Rattle.lists.specs.Window.{window};
 ghost use Rattle.doubles.specs.F64.{_⊕_, _⊗_};
 ghost use Rattle.hess_exp.specs.HessExp.{column-sum-norm, hess-product, term-step, hess-sweep, hess-exp-e1};
-ghost use Rattle.hess_exp.specs.Parts.{column-sum, hess-row, terms, Leading, small-of};
+ghost use Rattle.hess_exp.specs.Parts.{column-sum, left-product, row-part, four-parts, terms, Leading, small-of};
 
 // Whether there was a plan; its argument; and where there was one, the column in the first places.
 pub struct SmallExp {
@@ -39,49 +39,97 @@ fn column_sum_norm(h: &[f64], dim: usize, mx: usize) -> f64
     m
 }
 
-// The first column of row r.
-fn first_column(r: usize) -> usize
-    ensures { λ c. ⌜ c ≡ r - 1 ⌝ }
+// What row r takes from column r - 1, x being w there; row 0 has no such column.
+fn left_product(h: &[f64], dim: usize, r: usize, x: f64) -> f64
+    requires { ⌜ r * dim + r ≤ length (now h) ⌝ }
+    ensures { λ s. ⌜ s ≡ left-product (now (h .entry)) dim x r ⌝ }
 {
     if r == 0 {
-        return 0;
+        return 0.0;
     }
-    r - 1
+    0.0 + h[r * dim + (r - 1)] * x
 }
 
-fn hess_row(h: &[f64], dim: usize, mx: usize, w: &[f64], r: usize) -> f64
-    requires { ⌜ Leading (now h) dim mx ⌝ }
-    requires { ⌜ (mx ≤ length (now w)) × (r < mx) ⌝ }
-    ensures { λ s. ⌜ s ≡ hess-row (now (h .entry)) dim mx (now (w .entry)) r ⌝ }
+// Row r of H w up to column `to`, x being w at r - 1: nothing left of place r is read.
+fn row_part(h: &[f64], dim: usize, w: &[f64], r: usize, x: f64, to: usize) -> f64
+    requires { ⌜ (r ≤ to) × (to ≤ length (now w)) × (r * dim + to ≤ length (now h)) ⌝ }
+    ensures { λ s. ⌜ s ≡ row-part (now (h .entry)) dim x (now (w .entry)) r to ⌝ }
 {
-    let from = first_column(r);
     let base = r * dim;
-    let count = mx - from;
-    let mut s = 0.0;
-    for i in 0..count {
-        s = s + h[base + (from + i)] * w[from + i];
+    let mut s = left_product(h, dim, r, x);
+    for j in r..to {
+        s = s + h[base + j] * w[j];
     }
     s
 }
 
-// hw = H w
-fn hess_product_in(h: &[f64], dim: usize, mx: usize, w: &[f64], hw: &mut [f64])
-    requires { ⌜ Leading (now h) dim mx ⌝ }
-    requires { ⌜ (length (now w) ≡ mx) × (length (now hw) ≡ mx) ⌝ }
-    ensures { λ _. ⌜ now (hw .exit) ≡ hess-product (now (h .entry)) dim mx (now (w .entry)) ⌝ }
+// The sums of four rows.
+struct Four {
+    s0: f64,
+    s1: f64,
+    s2: f64,
+    s3: f64,
+}
+
+// Rows r to r + 3 of H w up to column r + 3, x being w at r - 1.
+fn four_starts(h: &[f64], dim: usize, w: &[f64], r: usize, x: f64) -> Four
+    requires { ⌜ (r + 4 ≤ dim) × (r * dim + 4 * dim ≤ length (now h)) × (r + 3 ≤ length (now w)) ⌝ }
+    ensures { λ s. ⌜ s ≡ four-parts (now (h .entry)) dim x (now (w .entry)) r (r + 3) ⌝ }
 {
-    for r in 0..mx {
-        hw[r] = hess_row(h, dim, mx, w, r);
+    let to = r + 3;
+    Four {
+        s0: row_part(h, dim, w, r, x, to),
+        s1: row_part(h, dim, w, r + 1, w[r], to),
+        s2: row_part(h, dim, w, r + 2, w[r + 1], to),
+        s3: row_part(h, dim, w, r + 3, w[r + 2], to),
     }
 }
 
-// w = f x
-fn scaled_in(f: f64, x: &[f64], w: &mut [f64])
-    requires { ⌜ length (now x) ≡ length (now w) ⌝ }
-    ensures { λ _. ⌜ now (w .exit) ≡ map (λ e. f ⊗ e) (now (x .entry)) ⌝ }
+// The whole rows, side by side, so that no sum waits for the one before it.
+fn four_rows(h: &[f64], dim: usize, mx: usize, w: &[f64], r: usize, x: f64) -> Four
+    requires { ⌜ Leading (now h) dim mx ⌝ }
+    requires { ⌜ (r + 4 ≤ mx) × (mx ≤ length (now w)) ⌝ }
+    ensures { λ s. ⌜ s ≡ four-parts (now (h .entry)) dim x (now (w .entry)) r mx ⌝ }
 {
-    for i in 0..w.len() {
-        w[i] = f * x[i];
+    let a = r * dim;
+    let b = a + dim;
+    let c = b + dim;
+    let d = c + dim;
+    let from = r + 3;
+    let mut s = four_starts(h, dim, w, r, x);
+    for j in from..mx {
+        let y = w[j];
+        s.s0 = s.s0 + h[a + j] * y;
+        s.s1 = s.s1 + h[b + j] * y;
+        s.s2 = s.s2 + h[c + j] * y;
+        s.s3 = s.s3 + h[d + j] * y;
+    }
+    s
+}
+
+// w = f H w. Row r reads nothing left of r - 1, so x, the old w there, is all that has to be kept.
+fn hess_product_in(h: &[f64], dim: usize, mx: usize, f: f64, w: &mut [f64])
+    requires { ⌜ Leading (now h) dim mx ⌝ }
+    requires { ⌜ length (now w) ≡ mx ⌝ }
+    ensures { λ _. ⌜ now (w .exit) ≡ map (λ e. f ⊗ e) (hess-product (now (h .entry)) dim mx (now (w .entry))) ⌝ }
+{
+    let mut r = 0;
+    let mut x = 0.0;
+    while r < mx {
+        if mx - r < 4 {
+            let s = row_part(h, dim, w, r, x, mx);
+            x = w[r];
+            w[r] = f * s;
+            r = r + 1;
+        } else {
+            let s = four_rows(h, dim, mx, w, r, x);
+            x = w[r + 3];
+            w[r] = f * s.s0;
+            w[r + 1] = f * s.s1;
+            w[r + 2] = f * s.s2;
+            w[r + 3] = f * s.s3;
+            r = r + 4;
+        }
     }
 }
 
@@ -95,45 +143,26 @@ fn added_in(w: &[f64], y: &mut [f64])
     }
 }
 
-// Term k + 1 of a sweep; hw is room for H w.
-fn hess_term(
-    h: &[f64],
-    dim: usize,
-    mx: usize,
-    ts: f64,
-    k: usize,
-    y: &mut [f64],
-    w: &mut [f64],
-    hw: &mut [f64],
-)
+// Term k + 1 of a sweep.
+fn hess_term(h: &[f64], dim: usize, mx: usize, ts: f64, k: usize, y: &mut [f64], w: &mut [f64])
     requires { ⌜ Leading (now h) dim mx ⌝ }
-    requires { ⌜ (length (now y) ≡ mx) × (length (now w) ≡ mx) × (length (now hw) ≡ mx) ⌝ }
+    requires { ⌜ (length (now y) ≡ mx) × (length (now w) ≡ mx) ⌝ }
     requires { ⌜ k < 18446744073709551615 ⌝ }
     ensures { λ _. ⌜ terms (now (y .exit)) (now (w .exit)) ≡ term-step (now (h .entry)) dim mx ts k (terms (now (y .entry)) (now (w .entry))) ⌝ }
 {
-    hess_product_in(h, dim, mx, w, hw);
-    scaled_in(ts / float::count(k + 1), hw, w);
+    hess_product_in(h, dim, mx, ts / float::count(k + 1), w);
     added_in(w, y);
 }
 
 // One sweep of degree deg.
-fn hess_sweep(
-    h: &[f64],
-    dim: usize,
-    mx: usize,
-    ts: f64,
-    deg: usize,
-    y: &mut [f64],
-    w: &mut [f64],
-    hw: &mut [f64],
-)
+fn hess_sweep(h: &[f64], dim: usize, mx: usize, ts: f64, deg: usize, y: &mut [f64], w: &mut [f64])
     requires { ⌜ Leading (now h) dim mx ⌝ }
-    requires { ⌜ (length (now y) ≡ mx) × (length (now w) ≡ mx) × (length (now hw) ≡ mx) ⌝ }
+    requires { ⌜ (length (now y) ≡ mx) × (length (now w) ≡ mx) ⌝ }
     ensures { λ _. ⌜ now (y .exit) ≡ hess-sweep (now (h .entry)) dim mx ts deg (now (y .entry)) ⌝ }
 {
     vectors::copy_from(w, 0, y, 0, mx);
     for k in 0..deg {
-        hess_term(h, dim, mx, ts, k, y, w, hw);
+        hess_term(h, dim, mx, ts, k, y, w);
     }
 }
 
@@ -147,14 +176,13 @@ fn hess_sweeps(
     s: usize,
     y: &mut [f64],
     w: &mut [f64],
-    hw: &mut [f64],
 )
     requires { ⌜ Leading (now h) dim mx ⌝ }
-    requires { ⌜ (length (now y) ≡ mx) × (length (now w) ≡ mx) × (length (now hw) ≡ mx) ⌝ }
+    requires { ⌜ (length (now y) ≡ mx) × (length (now w) ≡ mx) ⌝ }
     ensures { λ _. ⌜ now (y .exit) ≡ iter (λ _ v. hess-sweep (now (h .entry)) dim mx ts deg v) s (now (y .entry)) ⌝ }
 {
     for i in 0..s {
-        hess_sweep(h, dim, mx, ts, deg, y, w, hw);
+        hess_sweep(h, dim, mx, ts, deg, y, w);
     }
 }
 
@@ -168,23 +196,12 @@ fn hess_sweeps_in(
     s: usize,
     y: &mut [f64],
     w: &mut [f64],
-    hw: &mut [f64],
 )
     requires { ⌜ Leading (now h) dim mx ⌝ }
-    requires { ⌜ (mx ≤ length (now y)) × (mx ≤ length (now w)) × (mx ≤ length (now hw)) ⌝ }
+    requires { ⌜ (mx ≤ length (now y)) × (mx ≤ length (now w)) ⌝ }
     ensures { λ _. ⌜ window 0 mx (now (y .exit)) ≡ iter (λ _ v. hess-sweep (now (h .entry)) dim mx ts deg v) s (window 0 mx (now (y .entry))) ⌝ }
 {
-    hess_sweeps(
-        h,
-        dim,
-        mx,
-        ts,
-        deg,
-        s,
-        &mut y[..mx],
-        &mut w[..mx],
-        &mut hw[..mx],
-    );
+    hess_sweeps(h, dim, mx, ts, deg, s, &mut y[..mx], &mut w[..mx]);
 }
 
 // e ^ (t H) e_1 for the leading mx rows and columns of h, which is stored in rows of dim.
@@ -196,7 +213,6 @@ pub fn hess_exp_e1(h: &[f64], dim: usize, mx: usize, t: f64) -> SmallExp
 {
     let mut y = [0.0; 130];
     let mut w = [0.0; 130];
-    let mut hw = [0.0; 130];
     let arg = t * column_sum_norm(h, dim, mx);
     let plan = expmv::select_s_m(expmv::M_MAX, arg);
     let expmv::Selected::Row(s, deg) = plan else {
@@ -208,17 +224,7 @@ pub fn hess_exp_e1(h: &[f64], dim: usize, mx: usize, t: f64) -> SmallExp
     };
     y[0] = 1.0;
     let ts = t / float::count(s as usize);
-    hess_sweeps_in(
-        h,
-        dim,
-        mx,
-        ts,
-        deg as usize,
-        s as usize,
-        &mut y,
-        &mut w,
-        &mut hw,
-    );
+    hess_sweeps_in(h, dim, mx, ts, deg as usize, s as usize, &mut y, &mut w);
     SmallExp {
         planned: true,
         argument: arg,

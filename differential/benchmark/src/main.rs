@@ -27,13 +27,13 @@ fn main() {
     let words: Vec<String> = std::env::args().skip(1).collect();
     match words.first().map(String::as_str) {
         None => {
-            table();
+            table(&[]);
             println!();
             scipy::table();
         }
-        Some("rust") => table(),
+        Some("rust") => table(&words[1..]),
         Some("scipy") => scipy::table(),
-        _ => eprintln!("usage: benchmark [rust|scipy]"),
+        _ => eprintln!("usage: benchmark [rust [CALL [ROWS]]|scipy]"),
     }
 }
 
@@ -77,13 +77,17 @@ fn times(job: &Job) -> Times {
     best
 }
 
-fn table() {
+/// Of every call and size, or of those that `only` names: a call, and then a number of rows.
+fn table(only: &[String]) {
     println!("| call | rows | mass | applications | us per application | Rust | ratio | us per job | Rust, matrix at hand | ratio | Rust, matrix made | ratio | working memory, kB | Rust |");
     println!("|---|---|---|---|---|---|---|---|---|---|---|---|---|---|");
     for (name, call, count) in CALLS {
         for size in SIZES {
             for with_mass in [false, true] {
                 let job = plate::job(size, with_mass, call, count);
+                if !only.iter().zip([name.to_string(), job.n.to_string()]).all(|(word, own)| *word == own) {
+                    continue;
+                }
                 let (mut out, mut work) = (vec![0.0; job.out], vec![0.0; job.work]);
                 let told = library::call(&job, &mut out, &mut work);
                 assert_eq!(told.number, 0);

@@ -41,10 +41,10 @@ returns c = let selected = c .before .before in
     (none _ _ _ _ _ _ (selected .before .column-sum-norm .ensures) (selected .select-s-m .ensures) _ (c .enum-told .given .1), length-replicate 130 +0)
 
 returns-2 : tie.Need-returns-2
-returns-2 c = let planned = c .before .before .before .before .before .before .before .before .before in
+returns-2 c = let planned = c .before .before .before .before .before .before .before in
     let selected = planned .before .before in
-    let run = c .before .before .before in
-    (some _ _ _ _ _ _ (selected .before .column-sum-norm .ensures) (selected .select-s-m .ensures) _ _ _ _ _ (planned .plan .given .1) (c .before .before .before .before .before .before .before .count .ensures) (omega arith) (omega arith) (run .hess-sweeps-in .ensures), run .hess-sweeps-in .kept .1 .1 .1 .1 .1 .1 .0 ∙ length-set (replicate 130 +0) 0 1f)
+    let run = c .before .before in
+    (some _ _ _ _ _ _ (selected .before .column-sum-norm .ensures) (selected .select-s-m .ensures) _ _ _ _ _ (planned .plan .given .1) (c .before .before .before .before .before .count .ensures) (omega arith) (omega arith) (run .hess-sweeps-in .ensures), run .hess-sweeps-in .kept .1 .1 .1 .1 .1 .1 .0 ∙ length-set (replicate 130 +0) 0 1f)
 
 pub hess-exp-e1-spec : {M : Type 1} → statement M
 hess-exp-e1-spec =
@@ -58,7 +58,6 @@ hess-exp-e1-spec =
     (λ c. search needs)
     (λ c. search needs)
     (λ c κs. search needs)
-    (λ c. search needs)
     (λ c. search needs)
     (λ c. search needs)
     (λ c. search needs)

@@ -13,17 +13,14 @@ slice-aggregate-hess-sweeps c = sym (length-take-le _ _ (omega arith))
 slice-aggregate-hess-sweeps-2 : tie.Need-slice-aggregate-hess-sweeps-2
 slice-aggregate-hess-sweeps-2 c = sym (length-take-le _ _ (omega arith))
 
-slice-aggregate-hess-sweeps-3 : tie.Need-slice-aggregate-hess-sweeps-3
-slice-aggregate-hess-sweeps-3 c = sym (length-take-le _ _ (omega arith))
-
 hess-sweeps-requires : tie.Need-hess-sweeps-requires
-hess-sweeps-requires c κs = let s = c .before .before .before .before .before .before .before in
-    (s .pre .0, (length-take-le _ _ (omega arith), length-take-le _ _ (omega arith), length-take-le _ _ (omega arith)))
+hess-sweeps-requires c κs = let s = c .before .before .before .before .before in
+    (s .pre .0, (length-take-le _ _ (omega arith), length-take-le _ _ (omega arith)))
 
 returns : tie.Need-returns
 unfolding window
-returns c = let swept = c .before .before .before .before .before .before in
-    let a = swept .before .before .before .before .before .before .before .before .args in
+returns c = let swept = c .before .before .before .before in
+    let a = swept .before .before .before .before .before .before .args in
     take-at _ _ _ (swept .hess-sweeps .kept .1 .1 .1 .1 .1 .1 .0 ∙ length-take-le (a .mx) (a .y .now) (omega arith)) ∙ swept .hess-sweeps .ensures
 
 pub hess-sweeps-in-spec : {M : Type 1} → statement M
@@ -34,10 +31,7 @@ hess-sweeps-in-spec =
     slice-aggregate-hess-sweeps
     (λ c. search needs)
     slice-aggregate-hess-sweeps-2
-    (λ c. search needs)
-    slice-aggregate-hess-sweeps-3
     hess-sweeps-requires
-    (λ c. search needs)
     (λ c. search needs)
     (λ c. search needs)
     returns)
