@@ -18,6 +18,13 @@
  * the heat capacities C in J/K and the power q in W: the mass is C, w_0 = T_0, w_1 = q / C, and the sum is T at time tau. A power that
  * grows by r W in each second adds w_2 = r / C.
  *
+ * ACCURACY OF ONE PRODUCT
+ *
+ * In one product with G without a mass, row i of k entries: the computed flow differs from minus the exact sum of the products
+ * A[i][j] * x[j] by at most k * 2^-52 (about 2.2e-16 per stored entry) times the exact sum of their sizes, provided that every exact product
+ * is 0 or at least 2^-1022 in size and that nothing becomes infinite. A row without entries is exact. A call makes many such products, and
+ * nothing is said here of how their errors add up.
+ *
  *
  * PARAMETERS
  *

@@ -1,42 +1,22 @@
 -- A sum, a product and a quotient of doubles that are not negative, by any fractions that their operands equal. Assumes nothing.
 use mathlib.Core.Path.{_≡_, refl, sym, ap, _∙_, subst}
 use Prim.Native.Nat.{ℕ, zero, suc, _+_, _*_, _<_}
-use native.Mathlib.Nat.{lt-irrefl, mul-comm, mul-assoc, mul-left-comm, mul-right-comm, mul-mul-mul-comm, mul-pos, add-mul, zero-mul, zero-lt-suc, eq-of-mul-eq-mul-right}
+use native.Mathlib.Nat.{lt-irrefl, mul-comm, mul-assoc, mul-left-comm, mul-pos, zero-mul, zero-lt-suc, eq-of-mul-eq-mul-right}
 use mathlib.Core.Bool.{Bool, true, false, cond, true≢false}
 use lib.Dec.{eqb, eqb·suc-zero}
 use lib.Ieee.{Float, nan, inf, fin, binary64, unlike, up, down, round, add, mul, div}
 use lib.Ieee.Fits.{up-pos, down-pos}
 use lib.Ieee.Exact.{HasValue}
 use lib.Ieee.Scale.{round-same}
+use Rattle.doubles.proofs.OneRounding.{add-by, mul-signed}
 
 -- ---- a sum by any fractions of one denominator that its terms equal
 pub add-units : (x y : Float) (a b c : ℕ) → 0 < c → HasValue x false a c → HasValue y false b c → add binary64 x y ≡ round binary64 false (a + b) c
-unfolding add
-add-units nan y a b c C h k = absurd h
-add-units (inf s) y a b c C h k = absurd h
-add-units (fin true m e) y a b c C h k = absurd (true≢false (h .0))
-add-units (fin false m e) nan a b c C h k = absurd k
-add-units (fin false m e) (inf t) a b c C h k = absurd k
-add-units (fin false m e) (fin true n d) a b c C h k = absurd (true≢false (k .0))
-add-units (fin false m e) (fin false n d) a b c C h k =
-    round-same binary64 false (m * up e * down d + n * up d * down e) (down e * down d) (a + b) c (mul-pos (down-pos e) (down-pos d)) C
-    (add-mul (m * up e * down d) (n * up d * down e) c
-    ∙ ap (λ (z : ℕ). z + n * up d * down e * c) (mul-right-comm (m * up e) (down d) c ∙ ap (λ (z : ℕ). z * down d) (h .1) ∙ mul-assoc a (down e) (down d))
-    ∙ ap (λ (z : ℕ). a * (down e * down d) + z) (mul-right-comm (n * up d) (down e) c ∙ ap (λ (z : ℕ). z * down e) (k .1) ∙ mul-assoc b (down d) (down e) ∙ ap (λ (z : ℕ). b * z) (mul-comm (down d) (down e)))
-    ∙ sym (add-mul a b (down e * down d)))
+add-units x y a b c C h k = add-by x y false false a b c C h k
 
 -- ---- a product and a quotient by any fractions that their terms equal
 pub mul-by : (x y : Float) (a c b d : ℕ) → 0 < c → 0 < d → HasValue x false a c → HasValue y false b d → mul binary64 x y ≡ round binary64 false (a * b) (c * d)
-unfolding mul
-mul-by nan y a c b d C D h k = absurd h
-mul-by (inf s) y a c b d C D h k = absurd h
-mul-by (fin true m e) y a c b d C D h k = absurd (true≢false (h .0))
-mul-by (fin false m e) nan a c b d C D h k = absurd k
-mul-by (fin false m e) (inf s) a c b d C D h k = absurd k
-mul-by (fin false m e) (fin true n i) a c b d C D h k = absurd (true≢false (k .0))
-mul-by (fin false m e) (fin false n i) a c b d C D h k =
-    round-same binary64 false (m * up e * (n * up i)) (down e * down i) (a * b) (c * d) (mul-pos (down-pos e) (down-pos i)) (mul-pos C D)
-    (mul-mul-mul-comm (m * up e) (n * up i) c d ∙ ap (λ (z : ℕ). z * (n * up i * d)) (h .1) ∙ ap (λ (z : ℕ). a * down e * z) (k .1) ∙ mul-mul-mul-comm a (down e) b (down i))
+mul-by x y a c b d C D h k = mul-signed x y false false a c b d C D h k
 
 pub not-zero-test : (n : ℕ) → 0 < n → eqb n 0 ≡ false
 not-zero-test zero h = absurd (lt-irrefl 0 h)

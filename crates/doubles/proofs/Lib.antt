@@ -3,6 +3,7 @@ pub mod Magnitude
 pub mod Unique
 pub mod Compare
 pub mod Total
+pub mod OneRounding
 pub mod Monotone
 pub mod Order
 pub mod Nearest
@@ -14,3 +15,11 @@ pub mod Signs
 pub mod One
 pub mod Ceiling
 pub mod Extremes
+pub mod Finite
+pub mod Signed
+pub mod Units
+pub mod RelativeError
+pub mod SumStep
+pub mod SumError
+pub mod ProductError
+pub mod Examples

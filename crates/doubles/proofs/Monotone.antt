@@ -7,15 +7,16 @@ use native.Mathlib.Nat.{le-trans, le-of-eq, mul-one, zero-mul, mul-zero, mul-com
 use native.Mathlib.Omega.{arith}
 use mathlib.Core.Bool.{Bool, true, false, not, cond}
 use lib.IntN.{ℤ, pos}
-use lib.Dec.{T, ltb, eqb, ltb→lt, nltb→le, T-not}
+use lib.Dec.{T, ltb, eqb, ltb→lt, T-not}
 use lib.Pow.{pow-pos}
-use lib.Ieee.{Float, nan, inf, fin, Format, binary64, prec, emax, low, up, down, unlike, odd, units, round, neg, sum, add, sub, mul, div, le, lt, fits, isNan, ofBits, toBits}
+use lib.Ieee.{Float, nan, inf, fin, Format, binary64, prec, emax, low, up, down, unlike, odd, units, round, neg, add, sub, mul, div, le, lt, fits, isNan, ofBits, toBits}
 use lib.Ieee.Fits.{up-pos, down-pos, round-is, eq→eqb}
 use lib.Ieee.Order.{round-mono}
 use lib.Ieee.Positive.{first-pos}
 use Rattle.doubles.specs.Value.{val}
 use Rattle.doubles.specs.F64.{_⊕_, _⊖_, _⊗_, _⊘_, _⩽_, _⋖_, +0, 1f, is-finite}
 use Rattle.doubles.proofs.Unique.{round-self, pattern-value}
+use Rattle.doubles.proofs.OneRounding.{sum-sign, sum-size, sum-rounds, sum-exact}
 use Rattle.doubles.proofs.Arithmetic.{not-zero-test}
 use Rattle.doubles.proofs.Total.{over, under, Before, over-mul, under-mul, over-not, under-not, lt→ahead, le→before, Le, lowest, highest, numbers, le-view, le-lowest, le-highest, le-number-left, le-number-right, ⩽-refl, ⩽-trans, ⋖-⩽, ⋖-⩽-trans, ⩽-neg, neg-number}
 
@@ -51,7 +52,7 @@ pub round-number : (f : Format) (s : Bool) (a c : ℕ) → T (not (isNan (round 
 round-number f s a c = subst (λ (x : Float). T (not (isNan x))) (sym (round-is f s a c)) (units-number f s _ _)
 
 -- 0 / 1 rounds to the zero of its sign, and the two zeros are equal
-zero-round : (s : Bool) → round binary64 s 0 1 ≡ fin s 0 (pos 0)
+pub zero-round : (s : Bool) → round binary64 s 0 1 ≡ fin s 0 (pos 0)
 unfolding round
 zero-round s = refl
 
@@ -89,27 +90,6 @@ round-before false a c true b d C D h =
     rw (minus b d) (⩽-trans (round binary64 false a c) (fin true 0 (pos 0)) (neg (round binary64 false b d)) (to-zero true a c C (zero-of a d D (omega arith))) (⩽-neg (round binary64 false b d) (fin false 0 (pos 0)) (to-zero false b d D (zero-of b c C (omega arith)))))
 
 -- ---- sums
--- what `sum` rounds: ±g / c, with ±g = ±a + ±b
-abbrev Sums : Bool → ℕ → Bool → ℕ → Bool → ℕ → Type 0
-Sums s a t b u g = over u g + (under s a + under t b) ≡ under u g + (over s a + over t b)
-
-sum-is : (s : Bool) (a : ℕ) (t : Bool) (b c : ℕ) → (u : Bool) × (g : ℕ) × (sum binary64 s a t b c ≡ round binary64 u g c) × Sums s a t b u g
-unfolding sum
-sum-is false a false b c = (false, a + b, refl, omega arith)
-sum-is true a true b c = (true, a + b, refl, omega arith)
-sum-is false a true b c = go (ltb a b) (ltb→lt a b) (nltb→le a b)
-  where
-    go : (x : Bool) → (T x → a < b) → (T (not x) → b ≤ a) → (u : Bool) × (g : ℕ) × (cond x (round binary64 true (b - a) c) (round binary64 false (a - b) c) ≡ round binary64 u g c) × Sums false a true b u g
-    go true h k = let l = h tt in (true, b - a, refl, omega arith)
-    go false h k = let l = k tt in (false, a - b, refl, omega arith)
-sum-is true a false b c = go (ltb a b) (ltb→lt a b) (nltb→le a b) (ltb b a) (nltb→le b a)
-  where
-    go : (x : Bool) → (T x → a < b) → (T (not x) → b ≤ a) → (y : Bool) → (T (not y) → a ≤ b)
-        → (u : Bool) × (g : ℕ) × (cond x (round binary64 false (b - a) c) (round binary64 y (a - b) c) ≡ round binary64 u g c) × Sums true a false b u g
-    go true h k y i = let l = h tt in (false, b - a, refl, omega arith)
-    go false h k true i = let l = k tt in (true, a - b, refl, omega arith)
-    go false h k false i = let l = k tt in let j = i tt in (false, a - b, refl, omega arith)
-
 -- (X - U) / (p * q) = (P - N) / p + (Q - M) / q, and the same of the marked: the sums are in order if the terms are
 sum-cross : (P N p P' N' p' Q M q Q' M' q' X U X' U' : ℕ)
     → X + (N * q + M * p) ≡ U + (P * q + Q * p) → X' + (N' * q' + M' * p') ≡ U' + (P' * q' + Q' * p') → P * p' + N' * p ≤ P' * p + N * p' → Q * q' + M' * q ≤ Q' * q + M * q'
@@ -144,12 +124,18 @@ add-numbers : (s : Bool) (m : ℕ) (e : ℤ) (s' : Bool) (m' : ℕ) (e' : ℤ) (
     → Before s (m * up e) (down e) s' (m' * up e') (down e') → Before t (n * up d) (down d) t' (n' * up d') (down d') → T (fin s m e ⊕ fin t n d ⩽ fin s' m' e' ⊕ fin t' n' d')
 unfolding add
 add-numbers s m e s' m' e' t n d t' n' d' h k =
-    let r = sum-is s (m * up e * down d) t (n * up d * down e) (down e * down d) in
-    let r' = sum-is s' (m' * up e' * down d') t' (n' * up d' * down e') (down e' * down d') in
-    rw (r .2, r' .2) (round-before (r .0) (r .1) (down e * down d) (r' .0) (r' .1) (down e' * down d') (mul-pos (down-pos e) (down-pos d)) (mul-pos (down-pos e') (down-pos d'))
+    let a = m * up e * down d in
+    let b = n * up d * down e in
+    let a' = m' * up e' * down d' in
+    let b' = n' * up d' * down e' in
+    let u = sum-sign s a t b in
+    let g = sum-size s a t b in
+    let u' = sum-sign s' a' t' b' in
+    let g' = sum-size s' a' t' b' in
+    rw (sum-rounds s a t b (down e * down d), sum-rounds s' a' t' b' (down e' * down d')) (round-before u g (down e * down d) u' g' (down e' * down d') (mul-pos (down-pos e) (down-pos d)) (mul-pos (down-pos e') (down-pos d'))
     (sum-cross (over s (m * up e)) (under s (m * up e)) (down e) (over s' (m' * up e')) (under s' (m' * up e')) (down e')
     (over t (n * up d)) (under t (n * up d)) (down d) (over t' (n' * up d')) (under t' (n' * up d')) (down d')
-    (over (r .0) (r .1)) (under (r .0) (r .1)) (over (r' .0) (r' .1)) (under (r' .0) (r' .1)) (simp (over-mul, under-mul) (r .3)) (simp (over-mul, under-mul) (r' .3)) h k))
+    (over u g) (under u g) (over u' g') (under u' g') (simp (over-mul, under-mul) (sum-exact s a t b)) (simp (over-mul, under-mul) (sum-exact s' a' t' b')) h k))
 
 add-view : {x x' y y' : Float} → Le x x' → Le y y' → T (not (isNan (x ⊕ y))) → T (not (isNan (x' ⊕ y'))) → T (x ⊕ y ⩽ x' ⊕ y')
 add-view {x} {x'} {y} {y'} (lowest h) k p q = rw (inf-add true y p) (le-lowest (x' ⊕ y') q)
@@ -193,16 +179,19 @@ zero-end = tt
 sub-numbers : (s : Bool) (m : ℕ) (e : ℤ) (t : Bool) (n : ℕ) (d : ℤ) → T (fits binary64 (fin s m e)) → T (fits binary64 (fin t n d)) → T (fin s m e ⋖ fin t n d) → T (+0 ⋖ fin t n d ⊖ fin s m e)
 unfolding sub add neg
 sub-numbers s m e t n d f g h =
-    let r = sum-is t (n * up d * down e) (not s) (m * up e * down d) (down d * down e) in
+    let a = n * up d * down e in
+    let b = m * up e * down d in
+    let v = sum-sign t a (not s) b in
+    let z = sum-size t a (not s) b in
     let U = val (toBits binary64 (fin false m e)) in
     let W = val (toBits binary64 (fin false n d)) in
     let u : m * up e * 2 ^ 1074 ≡ U * down e = pattern-value (fin s m e) s (m * up e) (down e) f (refl, refl) in
     let w : n * up d * 2 ^ 1074 ≡ W * down d = pattern-value (fin t n d) t (n * up d) (down d) g (refl, refl) in
-    rw (r .2) (⋖-⩽-trans +0 (round binary64 false 1 (2 ^ 1074)) (round binary64 (r .0) (r .1) (down d * down e)) least
-    (round-before false 1 (2 ^ 1074) (r .0) (r .1) (down d * down e) (pow-pos 1074) (mul-pos (down-pos d) (down-pos e))
-    (apart (over s (m * up e)) (under s (m * up e)) (down e) (over s U) (under s U) (over t (n * up d)) (under t (n * up d)) (down d) (over t W) (under t W) (over (r .0) (r .1)) (under (r .0) (r .1)) (2 ^ 1074) (pow-pos 1074)
+    rw (sum-rounds t a (not s) b (down d * down e)) (⋖-⩽-trans +0 (round binary64 false 1 (2 ^ 1074)) (round binary64 v z (down d * down e)) least
+    (round-before false 1 (2 ^ 1074) v z (down d * down e) (pow-pos 1074) (mul-pos (down-pos d) (down-pos e))
+    (apart (over s (m * up e)) (under s (m * up e)) (down e) (over s U) (under s U) (over t (n * up d)) (under t (n * up d)) (down d) (over t W) (under t W) (over v z) (under v z) (2 ^ 1074) (pow-pos 1074)
     (over-scale s (m * up e) (2 ^ 1074) U (down e) u) (under-scale s (m * up e) (2 ^ 1074) U (down e) u) (over-scale t (n * up d) (2 ^ 1074) W (down d) w) (under-scale t (n * up d) (2 ^ 1074) W (down d) w)
-    (simp (over-mul, under-mul) (simp (over-not, under-not) at (r .3))) (lt→ahead s m e t n d h))))
+    (simp (over-mul, under-mul) (simp (over-not, under-not) at (sum-exact t a (not s) b))) (lt→ahead s m e t n d h))))
 
 above-view : {x y : Float} → T (fits binary64 x) → T (fits binary64 y) → Le x y → T (x ⋖ y) → T (not (isNan (y ⊖ x))) → T (+0 ⋖ y ⊖ x)
 unfolding sub neg
@@ -418,7 +407,7 @@ add-number nan y h k = absurd h
 add-number (inf s) y h k = absurd h
 add-number (fin s m e) nan h k = absurd k
 add-number (fin s m e) (inf t) h k = tt
-add-number (fin s m e) (fin t n d) h k = let r = sum-is s (m * up e * down d) t (n * up d * down e) (down e * down d) in rw (r .2) (round-number binary64 (r .0) (r .1) (down e * down d))
+add-number (fin s m e) (fin t n d) h k = rw (sum-rounds s (m * up e * down d) t (n * up d * down e) (down e * down d)) (round-number binary64 _ _ (down e * down d))
 
 pub sub-number : (x y : Float) → T (is-finite x) → T (not (isNan y)) → T (not (isNan (x ⊖ y)))
 unfolding sub
@@ -480,7 +469,7 @@ over-zero : (u : Bool) → over u 0 ≡ 0
 over-zero false = refl
 over-zero true = refl
 
-zero-total : (s : Bool) (a : ℕ) (u : Bool) (p : ℕ) (v : Bool) (g : ℕ) → Sums s (a * 1) u (0 * p) v g → over v g + under s a ≡ under v g + over s a
+zero-total : (s : Bool) (a : ℕ) (u : Bool) (p : ℕ) (v : Bool) (g : ℕ) → over v g + (under s (a * 1) + under u (0 * p)) ≡ under v g + (over s (a * 1) + over u (0 * p)) → over v g + under s a ≡ under v g + over s a
 zero-total s a u p v g e = omega (arith, simp (mul-one, zero-mul, over-zero, under-zero) at e)
 
 add-zero-is : (u : Bool) (x : Float) → T (fits binary64 x) → T (not (isNan x)) → T (x ⩽ x ⊕ fin u 0 (pos 0)) × T (x ⊕ fin u 0 (pos 0) ⩽ x)
@@ -490,12 +479,14 @@ add-zero-is u (inf s) f h = let r = ⩽-refl (inf s) tt in (r, r)
 add-zero-is u (fin s m e) f h =
     let a = m * up e in
     let p = down e in
-    let r = sum-is s (a * 1) u (0 * p) (p * 1) in
-    let v = same-value (over (r .0) (r .1)) (under (r .0) (r .1)) (over s a) (under s a) p (zero-total s a u p (r .0) (r .1) (r .3)) in
+    let w = sum-sign s (a * 1) u (0 * p) in
+    let z = sum-size s (a * 1) u (0 * p) in
+    let r = sum-rounds s (a * 1) u (0 * p) (p * 1) in
+    let v = same-value (over w z) (under w z) (over s a) (under s a) p (zero-total s a u p w z (sum-exact s (a * 1) u (0 * p))) in
     let g = round-self (fin s m e) s a p (down-pos e) f (refl, refl) in
     let P = mul-pos (down-pos e) (pow-pos 0) in (
-      rw (r .2) (subst (λ (x : Float). T (x ⩽ round binary64 (r .0) (r .1) (p * 1))) g (round-before s a p (r .0) (r .1) (p * 1) (down-pos e) P (omega arith))),
-      rw (r .2) (subst (λ (x : Float). T (round binary64 (r .0) (r .1) (p * 1) ⩽ x)) g (round-before (r .0) (r .1) (p * 1) s a p P (down-pos e) (omega arith))),
+      rw r (subst (λ (x : Float). T (x ⩽ round binary64 w z (p * 1))) g (round-before s a p w z (p * 1) (down-pos e) P (omega arith))),
+      rw r (subst (λ (x : Float). T (round binary64 w z (p * 1) ⩽ x)) g (round-before w z (p * 1) s a p P (down-pos e) (omega arith))),
     )
 
 left-number : (x y : Float) → T (not (isNan (x ⊕ y))) → T (not (isNan x))

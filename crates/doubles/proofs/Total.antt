@@ -28,6 +28,14 @@ under true a = a
 abbrev pub Before : Bool → ℕ → ℕ → Bool → ℕ → ℕ → Type 0
 Before s a c t b d = over s a * d + under t b * c ≤ over t b * c + under s a * d
 
+pub one-side : (s : Bool) (a : ℕ) → (over s a ≡ 0) ⊎ (under s a ≡ 0)
+one-side false a = inr refl
+one-side true a = inl refl
+
+pub both-sides : (s : Bool) (a : ℕ) → over s a + under s a ≡ a
+both-sides false a = omega arith
+both-sides true a = omega arith
+
 pub over-mul : (s : Bool) (a d : ℕ) → over s a * d ≡ over s (a * d)
 over-mul false a d = refl
 over-mul true a d = zero-mul d
@@ -189,7 +197,7 @@ trans-view (numbers s m e t n d h) (numbers _ _ _ u l c k) =
 pub ⩽-trans : (x y z : Float) → T (x ⩽ y) → T (y ⩽ z) → T (x ⩽ z)
 ⩽-trans x y z h k = view-le (trans-view (le-view x y h) (le-view y z k))
 
-bool-eq : (a b : Bool) → (T a → T b) → (T b → T a) → a ≡ b
+pub bool-eq : (a b : Bool) → (T a → T b) → (T b → T a) → a ≡ b
 bool-eq true true f g = refl
 bool-eq true false f g = absurd (f tt)
 bool-eq false true f g = absurd (g tt)

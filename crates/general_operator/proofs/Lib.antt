@@ -1,2 +1,4 @@
 pub mod Sound
 pub mod Rows
+pub mod RowError
+pub mod Examples
