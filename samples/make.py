@@ -2,7 +2,8 @@
 """Writes the thermal models of three lens barrels for `soak`; docs/SAMPLES.md describes them.
 
     samples/make.py FOLDER      a folder for each barrel, with conductance.mtx, capacity.txt, start.txt, heating.txt, ramp.txt where
-                                there is one, spacer.json, and arguments, the words that soak wants; prints the folders
+                                there is one, spacer.json, and arguments, the words that soak wants; where there is a mount also
+                                mount.mtx, and the words name joined.mtx, which soak join is to make of the two; prints the folders
 
 A barrel is a body of revolution, tiled by parts that are rings or discs; a part is divided into cells. Lengths are whole micrometres
 here, so that cells which touch are found by equal numbers, and metres in every formula. All else is in SI units.
@@ -13,7 +14,7 @@ import math
 import os
 import sys
 from collections import defaultdict
-from dataclasses import dataclass
+from dataclasses import dataclass, replace
 
 MICROMETRE = 1e-6
 
@@ -55,11 +56,21 @@ class Part:
 
 
 @dataclass(frozen=True)
+class Mount:
+    """A clamp around the wall from height z[0] to z[1]: the wall's cells there pass heat to its foot, which has the room's temperature."""
+
+    z: tuple
+    contact: float  # m^2 K/W between the wall and the clamp
+    foot: float  # W/K from the clamp to the room
+
+
+@dataclass(frozen=True)
 class Barrel:
     name: str
     parts: tuple
     tau: float
     start: float  # K above the room, everywhere
+    mount: Mount = None
 
 
 @dataclass(frozen=True)
@@ -181,6 +192,25 @@ def conductance(cells):
     return rows
 
 
+def mount_conductance(barrel, cells):
+    """The mount's matrix, over the same rows. The clamp stores no heat: what the wall's cells pass into it, cell i through g_i, it passes on
+    at once to the others and to the foot. So row i has g_i on the diagonal, and in each column j of such a cell -g_i g_j / (sum of all g
+    and the foot)."""
+    outer = max(cell.r[1] for cell in cells)
+    into = {}
+    for i, cell in enumerate(cells):
+        low, high = overlap(cell.z, barrel.mount.z)
+        if cell.r[1] == outer and low < high:
+            radius, height = outer * MICROMETRE, (high - low) * MICROMETRE
+            between = barrel.mount.contact / (2 * math.pi * radius * height)
+            into[i] = 1 / (cell.radial_resistance(radius, height) + between)
+    whole = sum(into.values()) + barrel.mount.foot
+    rows = [{} for _ in cells]
+    for i, g in into.items():
+        rows[i] = {j: (g if i == j else 0.0) - g * h / whole for j, h in into.items()}
+    return rows
+
+
 def write_matrix(path, rows):
     with open(path, "w") as file:
         file.write("%%MatrixMarket matrix coordinate real general\n% conductances in W/K\n")
@@ -215,6 +245,8 @@ def write_barrel(folder, barrel):
         return os.path.join(folder, name)
 
     write_matrix(place("conductance.mtx"), conductance(cells))
+    if barrel.mount is not None:
+        write_matrix(place("mount.mtx"), mount_conductance(barrel, cells))
     write_vector(place("capacity.txt"), "heat capacities in J/K", capacity)
     write_vector(place("start.txt"), "temperatures above the room at the start in K", [barrel.start] * len(cells))
     vectors = ["start.txt"]
@@ -227,7 +259,8 @@ def write_barrel(folder, barrel):
             write_vector(place(name), comment, numbers)
             vectors.append(name)
     write_spacer(place("spacer.json"), barrel, cells)
-    words = ["conductance.mtx", "--mass", "capacity.txt", "--tau", f"{barrel.tau:g}"]
+    matrix = "conductance.mtx" if barrel.mount is None else "joined.mtx"
+    words = [matrix, "--mass", "capacity.txt", "--tau", f"{barrel.tau:g}"]
     words += [word for name in vectors for word in ("--vector", name)]
     with open(place("arguments"), "w") as file:
         file.write(" ".join(words) + "\n")
@@ -271,6 +304,9 @@ COLLIMATOR = Barrel(
     start=0.0,
 )
 
+# The same on a bench: a clamp of 25 mm around the wall, pressed as a joint between metals is.
+COLLIMATOR_ON_MOUNT = replace(COLLIMATOR, name="collimator-mount", mount=Mount(mm(15, 40), contact=2e-4, foot=0.5))
+
 ZOOM = Barrel(
     "zoom-two-groups",
     (
@@ -290,7 +326,7 @@ ZOOM = Barrel(
     start=-4.0,
 )
 
-BARRELS = (RELAY, COLLIMATOR, ZOOM)
+BARRELS = (RELAY, COLLIMATOR, COLLIMATOR_ON_MOUNT, ZOOM)
 
 
 def main():

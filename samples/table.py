@@ -3,7 +3,7 @@
 
     samples/table.py FOLDER
 
-For each barrel it reads arguments, conductance.mtx, capacity.txt and spacer.json (samples/make.py), and for each solver the field,
+For each barrel it reads arguments, the matrix named there, capacity.txt and spacer.json (samples/make.py), and for each solver the field,
 SOLVER.txt, and what soak says of the work, SOLVER.log. Status 1 if the solvers differ by more than ALLOWED.
 """
 
@@ -40,7 +40,9 @@ def mean_of(field, capacity):
 
 def rows_of(folder, barrel):
     place = os.path.join(folder, barrel.name)
-    rows, entries = matrix_size(os.path.join(place, "conductance.mtx"))
+    with open(os.path.join(place, "arguments")) as file:
+        matrix = file.read().split()[0]
+    rows, entries = matrix_size(os.path.join(place, matrix))
     capacity = read_numbers(os.path.join(place, "capacity.txt"))
     fields = [read_numbers(os.path.join(place, f"{solver}.txt")) for solver in SOLVERS]
     for solver, field in zip(SOLVERS, fields):

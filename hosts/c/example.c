@@ -5,7 +5,7 @@
 #include <stdio.h>
 #include <string.h>
 
-enum { N = 4, ENTRIES = 10, COUNT = 2, KRYLOV_M = 30, WORK = 128 };
+enum { N = 4, ENTRIES = 10, COUNT = 2, KRYLOV_M = 30, WORK = 128, MOUNT_ENTRIES = 4 };
 
 /* Conductances in W/K: 0.5 between neighbours, 0.1 from the last piece to the room. */
 static const uint32_t starts[N + 1] = {0, 2, 5, 8, 10};
@@ -13,6 +13,10 @@ static const uint32_t cols[ENTRIES] = {0, 1, 0, 1, 2, 1, 2, 3, 2, 3};
 static const double vals[ENTRIES] = {0.5, -0.5, -0.5, 1.0, -0.5, -0.5, 1.0, -0.5, -0.5, 0.6};
 /* Heat capacities in J/K. */
 static const double mass[N] = {8, 8, 8, 8};
+/* A clamp of 0.25 W/K from the first piece to the third; its two diagonal entries stand where the rod has some too. */
+static const uint32_t mount_starts[N + 1] = {0, 2, 2, 4, 4};
+static const uint32_t mount_cols[MOUNT_ENTRIES] = {0, 2, 0, 2};
+static const double mount_vals[MOUNT_ENTRIES] = {0.25, -0.25, -0.25, 0.25};
 /* w_0, temperatures above the room in K; w_1, power divided by heat capacity in K/s. */
 static const double w[COUNT * N] = {20, 20, 20, 20, 0.25, 0, 0, 0};
 
@@ -64,6 +68,26 @@ static uint32_t check(size_t entries)
     return number;
 }
 
+/* The rod and the clamp as one matrix; the clamp is said to have mount_n rows. */
+static uint32_t join(size_t mount_n)
+{
+    double value, joined[ENTRIES + MOUNT_ENTRIES];
+    uint32_t joined_starts[N + 1], joined_cols[ENTRIES + MOUNT_ENTRIES];
+    size_t entries;
+    uint32_t number = hazhendu_join(
+        N, starts, N + 1, cols, ENTRIES, vals, ENTRIES, mount_n, mount_starts, mount_n + 1, mount_cols, MOUNT_ENTRIES, mount_vals, MOUNT_ENTRIES,
+        joined_starts, N + 1, joined_cols, ENTRIES + MOUNT_ENTRIES, joined, ENTRIES + MOUNT_ENTRIES, &value, &entries);
+    if (number != HAZHENDU_ACCEPTED) {
+        printf("join: refused, number %u, double %g, %zu entries\n", number, value, entries);
+        return number;
+    }
+    printf("join: %zu entries\n", entries);
+    for (size_t i = 0; i < N; i++)
+        for (size_t k = joined_starts[i]; k < joined_starts[i + 1]; k++)
+            printf("  row %zu, column %u: %.17g\n", i, joined_cols[k], joined[k]);
+    return number;
+}
+
 /* The same job by either solver must give what that solver's own call gave. */
 static bool same_by_choice(bool krylov, const double *field, double *work, size_t work_len)
 {
@@ -88,6 +112,10 @@ int main(void)
 
     printf("the matrix, and one with an entry fewer\n");
     if (check(ENTRIES) != HAZHENDU_ACCEPTED || check(ENTRIES - 1) != HAZHENDU_ENTRY_COUNT)
+        return 1;
+
+    printf("the rod and a clamp as one matrix, and a clamp over three rows\n");
+    if (join(N) != HAZHENDU_ACCEPTED || join(N - 1) != HAZHENDU_JOIN_ROWS)
         return 1;
 
     printf("temperatures above the room after 60 s, in K\n");

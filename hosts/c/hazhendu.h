@@ -13,6 +13,7 @@
  *   hazhendu_phi_action:                                         phi_k(tau G) v
  *   hazhendu_phi_action_batched:                                 phi_0(tau G) v, phi_1(tau G) v, ..., phi_p(tau G) v
  *   hazhendu_check_generator:                                    the norm of G, which is the largest sum of the sizes in a row, and the first row that has it
+ *   hazhendu_join:                                               two matrices over the same rows, a barrel's and its mount's, as one
  *
  * phi_0 is the exponential, and phi_k(z) = (phi_{k-1}(z) - 1/(k-1)!) / z. For heat, C dT/dt = -A T + q with T = T_0 at time 0, A in W/K,
  * the heat capacities C in J/K and the power q in W: the mass is C, w_0 = T_0, w_1 = q / C, and the sum is T at time tau. A power that
@@ -48,11 +49,21 @@
  *   out, out_len          the answer is written here: n numbers, (p + 1) * n of a batch, the functions one after the other
  *   work, work_len        working memory, at least as long as hazhendu_taylor_work, hazhendu_action_work or hazhendu_krylov_work says
  *
+ * of a join:
+ *
+ *   n_a, starts_a, ..     the barrel, as n, starts, cols and vals above; in each row the columns rise strictly
+ *   n_b, starts_b, ..     the mount, in the same way; n_b is n_a
+ *   starts, starts_len    the row starts of the result are written here, n_a + 1 of them, the first is 0
+ *   cols, cols_len        its columns, rising strictly in each row: as many as places that one of the two holds, or both; as many as the
+ *                         entries of the two together are always enough
+ *   vals, vals_len        its entries, as many: that of the one that holds the place, or the sum of both, a sum of 0 too
+ *
  * and what a call tells, each written at every call:
  *
  *   value                 accepted: mu, the shift of the Taylor plan (0 for none), or Krylov's estimated error, relative to the norm of the
- *                         start, or the norm of a matrix that is checked; refused: the refusal's double
+ *                         start, or the norm of a matrix that is checked, or 0 of a join; refused: the refusal's double
  *   row                   the first row whose sum is the norm, from 0; 0 if the matrix is refused
+ *   entries               how many entries the result of a join has; 0 if it is refused
  *   s, plan_m             Taylor's plan: sweeps, and the degree to which each goes
  *   applications          Taylor: products with G that were made, over all functions of a batch
  *   substeps, matvecs,    Krylov: substeps accepted, products with G, and lengths rejected. The counts of a refused job are 0.
@@ -67,13 +78,13 @@
  * WHAT THE CALLER OWES
  *
  * - A slice is a pointer and the number of its elements. The pointer must not be null and must be aligned for its element type, even if
- *   the length is 0; all elements of the length must be readable, those of out and work writable too.
- * - out, work and the places of the numbers told must overlap neither each other nor anything else that is handed in.
+ *   the length is 0; all elements of the length must be readable, those of out, work and the result of a join writable too.
+ * - out, work, the result of a join and the places of the numbers told must overlap neither each other nor anything else that is handed in.
  * - with_mass and krylov are 0 or 1.
  *
  * Nothing else is asked: every input gets a result or a refusal, and no call allocates, stops the program or keeps anything. Calls in
  * several threads do not disturb each other. A call cannot be interrupted, and may take long: Taylor makes s * m products with G,
- * Krylov at most (M + 1) * max_substeps.
+ * Krylov at most (M + 1) * max_substeps. A join goes over both matrices a few times.
  *
  *
  * WHAT A CALL CHANGES
@@ -83,6 +94,8 @@
  *   refused, 27 to 29  out is the state after the last accepted substep, the needed length of work holds +0. If no substep was accepted
  *                      (28 or 29 in the first), out is w_0 scaled by a power of two and back: its numbers, but for those so small beside
  *                      the largest that the scaling makes them subnormal
+ *   join, accepted     the fronts of starts, cols and vals are the result, places beyond it are unchanged
+ *   join, refused      nothing is changed
  */
 #ifndef HAZHENDU_H
 #define HAZHENDU_H
@@ -105,8 +118,9 @@ enum {
     HAZHENDU_MAX_DEGREE = 30
 };
 
-/* Why a job is refused, and the double reported with it. The checks run in number order, but for 33 directly after 14, and the first
-   that holds is told. */
+/* Why a job or a join is refused, and the double reported with it. The checks of a job run in number order, but for 33 directly after 14;
+   those of a join are 1 to 6 and 11 of the barrel, then of the mount, 34, 35 and 36, then 3 and 6 of the result. The first that holds is
+   told. */
 enum hazhendu_refusal {
     HAZHENDU_ACCEPTED = 0,
 
@@ -151,7 +165,12 @@ enum hazhendu_refusal {
     HAZHENDU_NO_INNER_PLAN = 29,       /* the small exponential has no plan                     its argument */
 
     /* the job: met between 14 and 15 */
-    HAZHENDU_DEGREE_RANGE = 33         /* Taylor: degree not 1 to 30                            NaN */
+    HAZHENDU_DEGREE_RANGE = 33,        /* Taylor: degree not 1 to 30                            NaN */
+
+    /* a join: met behind 1 to 6 and 11 of both matrices, and before 3 and 6 of the result, whose double is the first sum not finite */
+    HAZHENDU_JOIN_ROWS = 34,           /* n_a and n_b differ                                    NaN */
+    HAZHENDU_JOIN_COLUMN_ORDER = 35,   /* columns in a row of either do not rise strictly       NaN */
+    HAZHENDU_JOIN_LENGTH = 36          /* starts, cols or vals is shorter than the result       NaN */
 };
 
 /* ---- working memory, in doubles. 0 for jobs that are refused before the memory is looked at (n, entries, count or m too high). */
@@ -203,6 +222,22 @@ uint32_t hazhendu_check_generator(
     const double *vals, size_t vals_len,
     bool with_mass, const double *mass, size_t mass_len,
     double *value, size_t *row);
+
+/* Barrel and mount as one matrix: rows merged by column, an entry of both added in one rounded sum, the barrel's first. Entries before
+   the first row start of either are not carried. The norm of the result is not tested: a job on it may be refused by 11. */
+uint32_t hazhendu_join(
+    size_t n_a,
+    const uint32_t *starts_a, size_t starts_a_len,
+    const uint32_t *cols_a, size_t cols_a_len,
+    const double *vals_a, size_t vals_a_len,
+    size_t n_b,
+    const uint32_t *starts_b, size_t starts_b_len,
+    const uint32_t *cols_b, size_t cols_b_len,
+    const double *vals_b, size_t vals_b_len,
+    uint32_t *starts, size_t starts_len,
+    uint32_t *cols, size_t cols_len,
+    double *vals, size_t vals_len,
+    double *value, size_t *entries);
 
 /* The sum over k of tau^k phi_k(tau G) w_k, by Taylor sweeps. */
 uint32_t hazhendu_phi_combination(

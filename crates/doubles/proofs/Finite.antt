@@ -1,14 +1,14 @@
 -- A result is finite only where its operands are. Assumes nothing.
 use mathlib.Core.Bool.{Bool, true, false, cond}
 use mathlib.Core.Logic.{inl, inr}
-use mathlib.Core.Path.{_≡_, subst}
+use mathlib.Core.Path.{_≡_, refl, subst}
 use Prim.Native.Nat.{ℕ, zero, suc, _≤_, _<_}
 use native.Mathlib.Nat.{eq-or-lt-of-le}
 use native.Mathlib.Omega.{arith}
 use lib.Dec.{T, eqb}
 use lib.Ieee.{Float, nan, inf, fin, unlike, neg, add, mul}
 use Rattle.lists.specs.Loop.{iter}
-use Rattle.doubles.specs.F64.{_⊕_, _⊗_, is-finite}
+use Rattle.doubles.specs.F64.{_⊕_, _⊗_, abs, is-finite}
 use Rattle.doubles.specs.Sum.{sum}
 
 pub neg-finite : (x : Float) → T (is-finite (neg x)) → T (is-finite x)
@@ -63,3 +63,8 @@ sums-finite (suc n) f h k l = elim (eq-or-lt-of-le l) [
 pub terms-finite : (n : ℕ) (f : ℕ → Float) → T (is-finite (sum n f)) → (k : ℕ) → k < n → T (is-finite (f k))
 unfolding sum iter
 terms-finite n f h k l = add-finite (sum k f) (f k) (sums-finite n f h (suc k) l) .1
+
+pub size-finite : (x : Float) → T (is-finite (abs x)) → is-finite x ≡ true
+size-finite nan h = absurd h
+size-finite (inf s) h = absurd h
+size-finite (fin s m e) h = refl

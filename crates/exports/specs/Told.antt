@@ -1,10 +1,14 @@
 -- An answer as the numbers that an exported function hands back (document 01, 'Oracle'). Definitions only.
 use mathlib.Core.Bool.{Bool, true, false}
+use mathlib.Core.List.{List}
 use Prim.Native.Nat.{ℕ}
 use lib.Ieee.{Float}
 use Rattle.doubles.specs.F64.{+0}
 use Rattle.generator_action.specs.declared.MatrixAnswer.{MatrixAnswer}
 use Rattle.generator_action.specs.declared.MatrixAnswer.the-variants as matrix
+use Rattle.join.specs.Join.{Call}
+use Rattle.join.specs.declared.JoinAnswer.{JoinAnswer}
+use Rattle.join.specs.declared.JoinAnswer.the-variants as join
 use Rattle.phi_action.specs.declared.TaylorReport.{TaylorReport}
 use Rattle.phi_action.specs.declared.TaylorAnswer.{TaylorAnswer}
 use Rattle.phi_action.specs.declared.TaylorAnswer.the-variants as taylor
@@ -38,6 +42,24 @@ numbers k x a b c = run-numbers k x a b c +0 +0
 unfoldable pub matrix-numbers : MatrixAnswer → Numbers
 matrix-numbers (matrix.Refusal k x) = numbers k x 0 0 0
 matrix-numbers (matrix.Norm x i) = numbers 0 x i 0 0
+
+-- of a join: the number of entries of the result; that of a refusal is 0
+unfoldable pub join-numbers : JoinAnswer → Numbers
+join-numbers (join.Refusal k x) = numbers k x 0 0 0
+join-numbers (join.Joined entries) = numbers 0 +0 entries 0 0
+
+-- and what its output slices hold
+pub record JoinTold : Type 0 where
+  pub told : Numbers
+  pub starts : List ℕ
+  pub columns : List ℕ
+  pub values : List Float
+
+abbrev pub join-told : Numbers → List ℕ → List ℕ → List Float → JoinTold
+join-told t starts columns values = record { told = t; starts = starts; columns = columns; values = values }
+
+abbrev pub telling-join : Call → JoinTold
+telling-join c = join-told (join-numbers (c .answer)) (c .starts) (c .columns) (c .values)
 
 -- of Taylor: mu, s, m and the applications
 unfoldable pub taylor-numbers : TaylorAnswer → Numbers

@@ -1,5 +1,6 @@
 // The library for programs in other languages: straight on slices, with no copy and no memory of its own.
 use generator_action::MatrixAnswer;
+use join::JoinAnswer;
 use phi_action::TaylorAnswer;
 use phi_krylov::KrylovAnswer;
 use phi_krylov::KrylovPhiOptions;
@@ -11,10 +12,11 @@ ghost use Rattle.general_operator.specs.Csr.{csr};
 ghost use Rattle.generator_action.specs.Mass.{given};
 ghost use Rattle.generator_action.specs.Generator.{forward};
 ghost use Rattle.generator_action.specs.Answer.{matrix-answer};
+ghost use Rattle.join.specs.Join.{join-call};
 ghost use Rattle.phi_action.specs.Calls.{phi-combination, phi-action, phi-action-batched};
 ghost use Rattle.phi_krylov.specs.KrylovCall.{phi-combination-krylov};
 ghost use Rattle.phi_krylov.specs.Combine.{answering, combine};
-ghost use Rattle.exports.specs.Told.{numbers, matrix-numbers, taylor-numbers, krylov-numbers, phi-numbers, run-numbers, options, solver};
+ghost use Rattle.exports.specs.Told.{numbers, matrix-numbers, join-numbers, join-told, telling-join, taylor-numbers, krylov-numbers, phi-numbers, run-numbers, options, solver};
 
 // The result is 0 or the refusal's number; `value` is the norm or the refusal's double.
 fn tell_matrix(answer: MatrixAnswer, value: &mut f64, row: &mut usize) -> u32
@@ -29,6 +31,24 @@ fn tell_matrix(answer: MatrixAnswer, value: &mut f64, row: &mut usize) -> u32
         MatrixAnswer::Norm(norm, i) => {
             *value = norm;
             *row = i;
+            0
+        }
+    }
+}
+
+// The result is 0 or the refusal's number; `value` is 0 or the refusal's double.
+fn tell_join(answer: JoinAnswer, value: &mut f64, entries: &mut usize) -> u32
+    ensures { λ r. ⌜ numbers r (now (value .exit)) (now (entries .exit)) 0 0 ≡ join-numbers answer ⌝ }
+{
+    match answer {
+        JoinAnswer::Refusal(k, x) => {
+            *value = x;
+            *entries = 0;
+            k
+        }
+        JoinAnswer::Joined(count) => {
+            *value = 0.0;
+            *entries = count;
             0
         }
     }
@@ -174,6 +194,41 @@ pub extern "C" fn hazhendu_check_generator(
 {
     let answer = generator_action::check_generator(n, starts, cols, vals, with_mass, mass);
     tell_matrix(answer, value, row)
+}
+
+// `join::join`, told by `tell_join`: the barrel first, then the mount, then the slices of the result.
+#[no_mangle]
+pub extern "C" fn hazhendu_join(
+    n_a: usize,
+    starts_a: &[u32],
+    cols_a: &[u32],
+    vals_a: &[f64],
+    n_b: usize,
+    starts_b: &[u32],
+    cols_b: &[u32],
+    vals_b: &[f64],
+    starts: &mut [u32],
+    cols: &mut [u32],
+    vals: &mut [f64],
+    value: &mut f64,
+    entries: &mut usize,
+) -> u32
+    ensures { λ r. ⌜ join-told (numbers r (now (value .exit)) (now (entries .exit)) 0 0) (now (starts .exit)) (now (cols .exit)) (now (vals .exit)) ≡ telling-join (join-call (csr «n_a» (now («starts_a» .entry)) (now («cols_a» .entry)) (now («vals_a» .entry))) (csr «n_b» (now («starts_b» .entry)) (now («cols_b» .entry)) (now («vals_b» .entry))) (now (starts .entry)) (now (cols .entry)) (now (vals .entry))) ⌝ }
+{
+    let answer = join::join(
+        n_a,
+        starts_a,
+        cols_a,
+        vals_a,
+        n_b,
+        starts_b,
+        cols_b,
+        vals_b,
+        starts,
+        cols,
+        vals,
+    );
+    tell_join(answer, value, entries)
 }
 
 // `phi_action::phi_combination`, told by `tell_taylor`.

@@ -1,10 +1,10 @@
 -- What a loop that looks for the first index at which a test passes knows, and what holds of that index. Assumes nothing.
 use mathlib.Core.Bool.{Bool, true, false}
-use mathlib.Core.Path.{_≡_, refl, ap}
+use mathlib.Core.Path.{_≡_, refl, sym, ap}
 use Prim.Native.Nat.{ℕ, zero, suc, _+_, _≤_, _<_, suc-le-suc, zero-le}
 use native.Mathlib.Omega.{arith}
-use native.Mathlib.Nat.{le-of-suc-le-suc}
-use borrow.Author.Tests.{ltb-false}
+use native.Mathlib.Nat.{le-refl, le-of-suc-le-suc}
+use borrow.Author.Tests.{ltb-false, lt-ltb, le-ltb}
 use borrow.Author.Count.{below-more}
 use Rattle.lists.specs.Find.{find, exists}
 
@@ -71,3 +71,13 @@ find-holds p (suc n) l = find-holds-by p n (find (λ j. p (suc j)) n) (p 0) refl
 pub none-below : (p : ℕ → Bool) (n : ℕ) → exists p n ≡ false → (k : ℕ) → k < n → p k ≡ false
 unfolding exists
 none-below p n e k l = find-before p n k (omega (arith, ltb-false (find p n) n e))
+
+-- ---- a search that tells only whether the test passes
+module _ {p : ℕ → Bool} {i : ℕ} (s : Passed p i) (n : ℕ) where
+  pub exists-at : i < n → p i ≡ true → true ≡ exists p n
+  unfolding exists
+  exists-at l e = rw (← (found-at s n l e)) (sym (lt-ltb i n l))
+
+  pub exists-none : n ≤ i → false ≡ exists p n
+  unfolding exists
+  exists-none l = rw (← (found-none s n l)) (sym (le-ltb n n (le-refl n)))

@@ -5,6 +5,8 @@ pub mod Frame
 pub mod Stack
 pub mod Find
 pub mod Places
+pub mod Begins
+pub mod Refill
 pub mod Greatest
 pub mod Descent
 pub mod Walk

@@ -208,3 +208,6 @@ pub map-tabulate : {A B : Type 0} (g : A → B) (xs : List A) (d : A) → map g 
 unfolding tabulate
 map-tabulate g [] d = refl
 map-tabulate {A} {B} g (x ∷ xs) d = ap (λ (r : List B). g x ∷ r) (map-tabulate g xs d)
+
+pub getD-map : {A : Type 0} (f : ℕ → A) (xs : List ℕ) (x : ℕ) (d : A) → x < length xs → getD (map f xs) x d ≡ f (getD xs x 0)
+getD-map {A} f xs x d l = ap (λ (w : List A). getD w x d) (map-tabulate f xs 0) ∙ getD-tabulate (length xs) (λ k. f (getD xs k 0)) x d l

@@ -2,6 +2,7 @@
 //! rectangles, with and without a mass, with a source. Both sides run in turn, round by round, and the best round of each
 //! counts. See README.md.
 
+mod join;
 mod memory;
 mod plate;
 mod scipy;
@@ -30,10 +31,13 @@ fn main() {
             table(&[]);
             println!();
             scipy::table();
+            println!();
+            join::table();
         }
         Some("rust") => table(&words[1..]),
         Some("scipy") => scipy::table(),
-        _ => eprintln!("usage: benchmark [rust [CALL [ROWS]]|scipy]"),
+        Some("join") => join::table(),
+        _ => eprintln!("usage: benchmark [rust [CALL [ROWS]]|scipy|join]"),
     }
 }
 

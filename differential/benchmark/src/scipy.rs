@@ -15,18 +15,8 @@ pub fn table() {
         let job = plate::job(size, true, Call::Combination, 2);
         let taylor = best_seconds(&job);
         let krylov = best_seconds(&plate::job(size, true, KRYLOV, 2));
-        let folder = std::env::temp_dir().join(format!("hazhendu-benchmark-{}", std::process::id()));
-        std::fs::create_dir_all(&folder).expect("a folder for the problem");
-        write(&job, folder.to_str().expect("a path in UTF-8"));
-        let script = concat!(env!("CARGO_MANIFEST_DIR"), "/expm_multiply.py");
-        let output = Command::new("/usr/bin/python3").arg(script).arg(&folder).output().expect("python3");
-        std::fs::remove_dir_all(&folder).expect("the folder removed");
-        let text = String::from_utf8_lossy(&output.stdout);
-        let words: Vec<f64> = text.split_whitespace().filter_map(|w| w.parse().ok()).collect();
-        let [scipy, difference, dense @ ..] = words.as_slice() else {
-            eprintln!("expm_multiply.py: {}", String::from_utf8_lossy(&output.stderr));
-            return;
-        };
+        let Some(words) = put_to("expm_multiply.py", &files(&job)) else { return };
+        let [scipy, difference, dense @ ..] = words.as_slice() else { return };
         let dense = dense.iter().fold(String::new(), |text, x| format!("{text} {x:.1e} |"));
         let dense = if dense.is_empty() { " | |".into() } else { dense };
         let ms = |s: f64| s * 1e3;
@@ -41,21 +31,43 @@ pub fn table() {
     }
 }
 
-/// The job and the library's result, one number a line.
-fn write(job: &Job, folder: &str) {
-    let (mut out, mut work) = (vec![0.0; job.out], vec![0.0; job.work]);
-    assert_eq!(library::call(job, &mut out, &mut work).number, 0);
-    let file = |name: &str, text: String| std::fs::write(format!("{folder}/{name}"), text).expect(name);
-    file("starts", lines(&job.starts));
-    file("columns", lines(&job.cols));
-    file("entries", lines(&job.vals));
-    file("mass", lines(job.mass.as_deref().unwrap_or(&[])));
-    file("vectors", lines(&job.w));
-    file("tau", lines(&[job.tau]));
-    file("result", lines(&out));
+/// Writes the files of a problem, and gives the numbers that a script beside this crate prints about them; `None`, with what it
+/// complains of, if it prints none.
+pub fn put_to(script: &str, files: &[(String, String)]) -> Option<Vec<f64>> {
+    let folder = std::env::temp_dir().join(format!("hazhendu-benchmark-{}", std::process::id()));
+    std::fs::create_dir_all(&folder).expect("a folder for the problem");
+    for (name, text) in files {
+        std::fs::write(folder.join(name), text).expect(name);
+    }
+    let path = format!("{}/{script}", env!("CARGO_MANIFEST_DIR"));
+    let output = Command::new("/usr/bin/python3").arg(path).arg(&folder).output().expect("python3");
+    std::fs::remove_dir_all(&folder).expect("the folder removed");
+    let text = String::from_utf8_lossy(&output.stdout);
+    let words: Vec<f64> = text.split_whitespace().filter_map(|w| w.parse().ok()).collect();
+    if words.is_empty() {
+        eprintln!("{script}: {}", String::from_utf8_lossy(&output.stderr));
+        return None;
+    }
+    Some(words)
 }
 
-fn lines<T: std::fmt::Debug>(list: &[T]) -> String {
+/// The job and the library's result, one number a line.
+fn files(job: &Job) -> Vec<(String, String)> {
+    let (mut out, mut work) = (vec![0.0; job.out], vec![0.0; job.work]);
+    assert_eq!(library::call(job, &mut out, &mut work).number, 0);
+    let files = [
+        ("starts", lines(&job.starts)),
+        ("columns", lines(&job.cols)),
+        ("entries", lines(&job.vals)),
+        ("mass", lines(job.mass.as_deref().unwrap_or(&[]))),
+        ("vectors", lines(&job.w)),
+        ("tau", lines(&[job.tau])),
+        ("result", lines(&out)),
+    ];
+    files.map(|(name, text)| (name.to_string(), text)).into()
+}
+
+pub fn lines<T: std::fmt::Debug>(list: &[T]) -> String {
     list.iter().fold(String::new(), |mut text, x| {
         writeln!(text, "{x:?}").expect("text");
         text

@@ -6,7 +6,7 @@ mod slices;
 
 #[cfg(feature = "bytes")]
 pub use bytes::answer as answer_on_bytes;
-pub use slices::{answer, call, matrix};
+pub use slices::{answer, call, join, matrix};
 
 /// What a call hands back besides its slices: 0 or the refusal's number, the double, the counts in the order of
 /// [`jobs::Answer`], and the two steps.

@@ -26,6 +26,63 @@ extern "C" {
         value: *mut f64,
         row: *mut usize,
     ) -> u32;
+
+    pub fn hazhendu_join(
+        n_a: usize,
+        starts_a: *const u32,
+        starts_a_len: usize,
+        cols_a: *const u32,
+        cols_a_len: usize,
+        vals_a: *const f64,
+        vals_a_len: usize,
+        n_b: usize,
+        starts_b: *const u32,
+        starts_b_len: usize,
+        cols_b: *const u32,
+        cols_b_len: usize,
+        vals_b: *const f64,
+        vals_b_len: usize,
+        starts: *mut u32,
+        starts_len: usize,
+        cols: *mut u32,
+        cols_len: usize,
+        vals: *mut f64,
+        vals_len: usize,
+        value: *mut f64,
+        entries: *mut usize,
+    ) -> u32;
+}
+
+/// The matrices of two jobs joined: 0 or the refusal's number, the double, and the number of entries. SAFETY: as of `called!`.
+pub fn join(a: &Job, b: &Job, starts: &mut [u32], cols: &mut [u32], vals: &mut [f64]) -> (u32, f64, usize) {
+    let (mut value, mut entries) = (jobs::mark(0), !0);
+    let number = unsafe {
+        hazhendu_join(
+            a.n,
+            a.starts.as_ptr(),
+            a.starts.len(),
+            a.cols.as_ptr(),
+            a.cols.len(),
+            a.vals.as_ptr(),
+            a.vals.len(),
+            b.n,
+            b.starts.as_ptr(),
+            b.starts.len(),
+            b.cols.as_ptr(),
+            b.cols.len(),
+            b.vals.as_ptr(),
+            b.vals.len(),
+            starts.as_mut_ptr(),
+            starts.len(),
+            cols.as_mut_ptr(),
+            cols.len(),
+            vals.as_mut_ptr(),
+            vals.len(),
+            &mut value,
+            &mut entries,
+        )
+    };
+    (number, value, entries)
 }
 
 /// The answer to the matrix alone, the row as its first count. SAFETY: as of `called!`.

@@ -2,7 +2,7 @@
 //!
 //! A refusal from 1 to 26, or 33, leaves `out` and `work` unchanged. After 27 to 29 `out` holds the state after the last accepted
 //! substep. After an accepted job, and after 27 to 29, the needed length of `work` holds +0. [`crate::sizes`] says how long
-//! `work` has to be.
+//! `work` has to be. A refused join changes nothing.
 
 use crate::{sys, Cost, KrylovOptions, Largest, Matrix, Plan, Refusal, Report, Solver, TaylorOptions};
 
@@ -42,6 +42,40 @@ pub fn check(a: &Matrix) -> Result<Largest, Refusal> {
     let mut largest = Largest { norm: 0.0, row: 0 };
     let number = call!(hazhendu_check_generator, a, &mut largest.norm, &mut largest.row);
     unless_refused(number, largest.norm, largest)
+}
+
+/// Barrel `a` and mount `b` as one matrix, written over the fronts of three slices, of which places beyond the result are unchanged; how
+/// many entries it has. Masses are not looked at. [`crate::sizes::joined`] says how long is enough.
+pub fn join(a: &Matrix, b: &Matrix, starts: &mut [u32], columns: &mut [u32], entries: &mut [f64]) -> Result<usize, Refusal> {
+    let (mut value, mut count) = (0.0, 0);
+    // SAFETY: as in `call!`; the slices of the result are borrowed exclusively.
+    let number = unsafe {
+        sys::hazhendu_join(
+            a.n,
+            a.starts.as_ptr(),
+            a.starts.len(),
+            a.columns.as_ptr(),
+            a.columns.len(),
+            a.entries.as_ptr(),
+            a.entries.len(),
+            b.n,
+            b.starts.as_ptr(),
+            b.starts.len(),
+            b.columns.as_ptr(),
+            b.columns.len(),
+            b.entries.as_ptr(),
+            b.entries.len(),
+            starts.as_mut_ptr(),
+            starts.len(),
+            columns.as_mut_ptr(),
+            columns.len(),
+            entries.as_mut_ptr(),
+            entries.len(),
+            &mut value,
+            &mut count,
+        )
+    };
+    unless_refused(number, value, count)
 }
 
 macro_rules! taylor {

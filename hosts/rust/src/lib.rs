@@ -52,6 +52,22 @@ impl<'a> Matrix<'a> {
     }
 }
 
+/// A sparse matrix by rows that owns its lists: what [`join`] gives.
+#[derive(Clone, Debug, PartialEq)]
+pub struct Csr {
+    pub n: usize,
+    pub starts: Vec<u32>,
+    pub columns: Vec<u32>,
+    pub entries: Vec<f64>,
+}
+
+impl Csr {
+    /// As it is handed to the library, without a mass.
+    pub fn matrix(&self) -> Matrix<'_> {
+        Matrix::new(self.n, &self.starts, &self.columns, &self.entries)
+    }
+}
+
 #[derive(Clone, Copy, Debug, PartialEq)]
 pub struct KrylovOptions {
     /// The accuracy wanted, relative to the norm of the start; strictly between 0 and 1.
@@ -182,6 +198,31 @@ pub fn check(a: &Matrix) -> Result<Largest, Error> {
     lent::check(a).map_err(|refusal| Error::Refused { refusal, state: None })
 }
 
+/// A barrel's matrix and its mount's, over the same rows, as one: rows merged by column, an entry of both added in one rounded sum, the
+/// barrel's first. In each row of both the columns rise strictly, and so they do in the result. A sum of 0 is kept; entries before the
+/// first row start are not carried. Masses are not looked at: the result has none, and takes that of barrel and mount together.
+///
+/// ```
+/// use hazhendu::{join, Matrix};
+///
+/// // Two bodies; the mount joins both by 0.25 W/K.
+/// let barrel = Matrix::new(2, &[0, 1, 2], &[0, 1], &[0.5, 0.1]);
+/// let mount = Matrix::new(2, &[0, 2, 4], &[0, 1, 0, 1], &[0.25, -0.25, -0.25, 0.25]);
+/// let both = join(&barrel, &mount)?;
+/// assert_eq!(both.entries, [0.75, -0.25, -0.25, 0.35]);
+/// assert_eq!(both.matrix().with_mass(&[8.0, 8.0]).starts, [0, 2, 4]);
+/// # Ok::<(), hazhendu::Error>(())
+/// ```
+pub fn join(a: &Matrix, b: &Matrix) -> Result<Csr, Error> {
+    let most = sizes::joined(a.entries.len(), b.entries.len());
+    let mut joined = Csr { n: a.n, starts: zeros(sizes::starts(a.n))?, columns: zeros(most)?, entries: zeros(most)? };
+    let Csr { starts, columns, entries, .. } = &mut joined;
+    let count = lent::join(a, b, starts, columns, entries).map_err(|refusal| Error::Refused { refusal, state: None })?;
+    columns.truncate(count);
+    entries.truncate(count);
+    Ok(joined)
+}
+
 fn with_memory<C>(out: usize, work: usize, call: impl FnOnce(&mut [f64], &mut [f64]) -> Result<C, Refusal>) -> Result<Soaked<C>, Error> {
     let mut field = zeros(out)?;
     match call(&mut field, &mut zeros(work)?) {
@@ -190,10 +231,10 @@ fn with_memory<C>(out: usize, work: usize, call: impl FnOnce(&mut [f64], &mut [f
     }
 }
 
-fn zeros(doubles: usize) -> Result<Vec<f64>, Error> {
+fn zeros<T: Copy + Default>(length: usize) -> Result<Vec<T>, Error> {
     let mut memory = Vec::new();
-    memory.try_reserve_exact(doubles).map_err(|_| Error::OutOfMemory { doubles })?;
-    memory.resize(doubles, 0.0);
+    memory.try_reserve_exact(length).map_err(|_| Error::OutOfMemory { doubles: length })?;
+    memory.resize(length, T::default());
     Ok(memory)
 }
 

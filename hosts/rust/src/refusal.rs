@@ -1,4 +1,4 @@
-//! Why a job got no result.
+//! Why a job or a join got no result.
 
 use crate::shortest;
 use std::fmt;
@@ -23,7 +23,7 @@ const fn meaning(number: u32, wrong: &'static str, value: &'static str, change: 
 }
 
 /// In the order of their numbers; 23 is not used.
-const MEANINGS: [Meaning; 29] = [
+const MEANINGS: [Meaning; 32] = [
     meaning(
         1,
         "the matrix has no rows, or there are not n + 1 row starts",
@@ -39,7 +39,12 @@ const MEANINGS: [Meaning; 29] = [
     meaning(3, "the matrix has more than 1,000,000 rows or 16,777,216 entries", "", "take a coarser model"),
     meaning(4, "a row starts after the next one", "the row, counted from 0", "let the row starts rise"),
     meaning(5, "a column is n or more", "the column", "count columns from 0 to n - 1"),
-    meaning(6, "an entry of the matrix is infinite or not a number", "the entry", "give finite entries"),
+    meaning(
+        6,
+        "an entry of the matrix is infinite or not a number",
+        "the entry",
+        "give finite entries, and to a join entries whose sum is finite",
+    ),
     meaning(7, "the mass does not have one number for each row", "how many it has", "give n masses for a matrix of n rows"),
     meaning(8, "a mass is infinite, not a number, or not above 0", "the mass", "give finite masses above 0"),
     meaning(
@@ -112,6 +117,24 @@ const MEANINGS: [Meaning; 29] = [
         "the highest degree is not from 1 to 30",
         "",
         "take 30, or a lower one if high degrees lose digits: 25 costs about 1.2 times the products of 30, 20 about 1.6 times",
+    ),
+    meaning(
+        34,
+        "barrel and mount differ in their number of rows",
+        "",
+        "model both over the same rows, a row without entries for each that one lacks",
+    ),
+    meaning(
+        35,
+        "columns in a row do not rise strictly",
+        "",
+        "order the entries of each row by column, in barrel and mount, and add up those that repeat",
+    ),
+    meaning(
+        36,
+        "a slice for the result of a join is too short",
+        "",
+        "lend n + 1 row starts, and columns and entries for every place that barrel or mount holds",
     ),
 ];
 

@@ -1,4 +1,4 @@
-//! The library's limits, and how much memory a job needs, in doubles.
+//! The library's limits, and how much memory a job needs, in doubles; of a join how many row starts and entries are enough.
 //!
 //! A job beyond a limit of rows, entries, vectors, index or dimension is refused (3, 12, 13 or 20) before the memory is looked
 //! at, so that it needs none: these functions give 0 for it, and no sum here overflows.
@@ -48,6 +48,22 @@ pub fn output(n: usize, p: usize) -> usize {
         return 0;
     }
     (p + 1) * n
+}
+
+/// Row starts of a matrix that a join writes.
+pub fn starts(n: usize) -> usize {
+    if n > MAX_ROWS {
+        return 0;
+    }
+    n + 1
+}
+
+/// Columns, and entries, that are enough for a join of two matrices with so many entries: no two of them fall on one place.
+pub fn joined(barrel: usize, mount: usize) -> usize {
+    if barrel > MAX_ENTRIES || mount > MAX_ENTRIES {
+        return 0;
+    }
+    barrel + mount
 }
 
 /// The entries divided by the mass take their place beside the vectors.

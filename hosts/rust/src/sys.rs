@@ -38,3 +38,31 @@ exported!(hazhendu_phi_combination_krylov, tau: f64, count: usize, w: *const f64
 exported!(hazhendu_combine, tau: f64, degree: u32, count: usize, w: *const f64, w_len: usize, krylov: bool, tol: f64, m: usize,
     max_substeps: usize, out: *mut f64, out_len: usize, work: *mut f64, work_len: usize, value: *mut f64, first: *mut u64,
     second: *mut u64, third: *mut u64, shortest: *mut f64, last: *mut f64);
+
+extern "C" {
+    /// Barrel and mount, each without a mass, then the slices of the result and what is told.
+    pub fn hazhendu_join(
+        n_a: usize,
+        starts_a: *const u32,
+        starts_a_len: usize,
+        cols_a: *const u32,
+        cols_a_len: usize,
+        vals_a: *const f64,
+        vals_a_len: usize,
+        n_b: usize,
+        starts_b: *const u32,
+        starts_b_len: usize,
+        cols_b: *const u32,
+        cols_b_len: usize,
+        vals_b: *const f64,
+        vals_b_len: usize,
+        starts: *mut u32,
+        starts_len: usize,
+        cols: *mut u32,
+        cols_len: usize,
+        vals: *mut f64,
+        vals_len: usize,
+        value: *mut f64,
+        entries: *mut usize,
+    ) -> u32;
+}

@@ -1,13 +1,15 @@
 //! No combination of lengths and sizes panics, and none allocates beyond the library's limits.
 
-use hazhendu::{check, combine, phi_action, phi_action_batched, sizes, Error, KrylovOptions, Matrix, Solver, TaylorOptions};
+use hazhendu::{check, combine, join, phi_action, phi_action_batched, sizes, Error, KrylovOptions, Matrix, Solver, TaylorOptions};
 
 const ODD: [usize; 10] = [0, 1, 2, 3, 5, 129, 1_000_001, usize::MAX / 8, usize::MAX - 1, usize::MAX];
 
 fn told<T>(answer: Result<T, Error>) {
     match answer {
         Ok(_) => {}
-        Err(Error::Refused { refusal, .. }) => assert!((1..=29).contains(&refusal.number) && refusal.number != 23),
+        Err(Error::Refused { refusal, .. }) => {
+            assert!((1..=29).contains(&refusal.number) && refusal.number != 23 || [34, 35].contains(&refusal.number))
+        }
         Err(Error::OutOfMemory { doubles }) => panic!("{doubles} doubles asked for"),
     }
 }
@@ -22,6 +24,8 @@ fn every_odd_size_is_answered() {
                 let bare = Matrix::new(n, &starts[..starts_len], &starts[..len], &numbers[..len]);
                 for a in [bare, bare.with_mass(&numbers[..len]), bare.with_mass(&[])] {
                     told(check(&a));
+                    told(join(&a, &bare));
+                    told(join(&Matrix::new(2, &starts[..3], &starts[..2], &numbers[..2]), &a));
                     for count in ODD {
                         told(combine(Solver::default(), &a, 1.0, count, &numbers[..len]));
                         told(phi_action(&a, 1.0, count, &numbers[..len], TaylorOptions::default()));
@@ -47,6 +51,7 @@ fn sizes_never_overflow() {
                 }
                 assert!(sizes::taylor_work(n, entries, true, count) <= most);
                 assert!(sizes::output(n, count) <= most);
+                assert!(sizes::starts(n) <= sizes::MAX_ROWS + 1 && sizes::joined(entries, count) <= 2 * sizes::MAX_ENTRIES);
             }
         }
     }

@@ -222,7 +222,7 @@ fn refusals_before_the_run_leave_no_state() {
 
 #[test]
 fn a_number_the_library_does_not_have_is_still_told() {
-    for number in [0, 30, 255, u32::MAX] {
+    for number in [0, 23, 37, 255, u32::MAX] {
         assert!(!Refusal { number, value: 0.0 }.to_string().is_empty());
     }
 }

@@ -1,6 +1,7 @@
 //! The command line.
 
 use crate::failure::Failure;
+use crate::join::Pair;
 use crate::model::Files;
 use hazhendu::sizes::MAX_DEGREE;
 use hazhendu::{KrylovOptions, Solver, TaylorOptions};
@@ -15,6 +16,7 @@ soak: temperatures of a thermal model after a time, by the proved library hazhen
        [--solver taylor|krylov] [--degree N] [--tol X] [--m N]
        [--limit N] [--output FILE] [--plot FILE.svg]
   soak check MATRIX [--mass FILE]
+  soak join BARREL MOUNT [--output FILE]
 
 computes the sum over k of T^k phi_k(T G) w_k, where G = -A, or -A with each row
 divided by its mass. For C dT/dt = -A T + q the mass is C (J/K), w_0 the
@@ -39,16 +41,22 @@ soak check makes the checks of the matrix and its mass alone, and prints the
 norm of G, which is the largest sum of the sizes in a row, the first row that
 has it, from 1, and that row's sum.
 
+soak join makes one matrix of a barrel's and its mount's, which have the same
+rows: an entry of both is one rounded sum, the barrel's first, and a sum of 0 is
+kept. In both files the entries of a row are in the order of their columns, each
+column once. The result is a Matrix Market file (coordinate, real, general), row
+by row.
+
 The field is one number a line, the shortest decimal that reads back as the same
 double, so that it can be a --vector again. One line about the work done goes to
 the standard error. A call of the library cannot be interrupted and tells nothing
 on the way: on a terminal the size of the job is told before it and the time it
 took after it, and there is no progress between.
 
-Status: 0; 1 to 22, 24 to 29 or 33, the number of the library's refusal, with
-what is wrong and what to change; 64 wrong usage; 65 a file with wrong contents,
-as FILE:LINE; 66 a file that cannot be read; 71 no memory; 74 the field or plot
-cannot be written (without a word if a pipe was closed).
+Status: 0; 1 to 22, 24 to 29 or 33 to 36, the number of the library's refusal,
+with what is wrong and what to change; 64 wrong usage; 65 a file with wrong
+contents, as FILE:LINE; 66 a file that cannot be read; 71 no memory; 74 the
+field, plot or matrix cannot be written (without a word if a pipe was closed).
 ";
 
 #[derive(Debug)]
@@ -56,6 +64,7 @@ pub enum Command {
     Help,
     Version,
     Check(Files),
+    Join(Pair),
     Soak(Request),
 }
 
@@ -72,7 +81,7 @@ pub struct Request {
 /// What has been given so far.
 #[derive(Default, PartialEq)]
 struct Given {
-    matrix: Option<PathBuf>,
+    matrices: Vec<PathBuf>,
     vectors: Vec<PathBuf>,
     mass: Option<PathBuf>,
     tau: Option<f64>,
@@ -88,11 +97,12 @@ struct Given {
 pub fn parse(words: impl Iterator<Item = OsString>) -> Result<Command, Failure> {
     let mut words = words.skip(1).peekable();
     let check = words.next_if(|word| word == "check").is_some();
+    let join = !check && words.next_if(|word| word == "join").is_some();
     let mut given = Given::default();
     while let Some(word) = words.next() {
         let text = word.to_str().unwrap_or_default();
         if !text.starts_with('-') {
-            once("MATRIX", &mut given.matrix, PathBuf::from(word))?;
+            given.matrices.push(PathBuf::from(word));
             continue;
         }
         match text {
@@ -108,6 +118,9 @@ pub fn parse(words: impl Iterator<Item = OsString>) -> Result<Command, Failure> 
     }
     if check {
         return given.files_alone().map(Command::Check);
+    }
+    if join {
+        return given.pair().map(Command::Join);
     }
     given.request().map(Command::Soak)
 }
@@ -149,8 +162,21 @@ impl Given {
     }
 
     fn files(&mut self) -> Result<Files, Failure> {
-        let matrix = self.matrix.take().ok_or_else(|| Failure::Usage("MATRIX is missing".into()))?;
+        let matrix = match self.matrices.len() {
+            0 | 1 => self.matrices.pop().ok_or_else(|| Failure::Usage("MATRIX is missing".into()))?,
+            _ => return Err(Failure::Usage("MATRIX is given twice".into())),
+        };
         Ok(Files { matrix, mass: self.mass.take() })
+    }
+
+    fn pair(mut self) -> Result<Pair, Failure> {
+        let output = self.output.take();
+        let matrices = <[PathBuf; 2]>::try_from(std::mem::take(&mut self.matrices));
+        match matrices {
+            Ok([barrel, mount]) if self == Given::default() => Ok(Pair { barrel: Files::bare(barrel), mount: Files::bare(mount), output }),
+            Ok(_) => Err(Failure::Usage("join takes two matrices and --output alone".into())),
+            Err(_) => Err(Failure::Usage("join wants two matrices, BARREL and MOUNT".into())),
+        }
     }
 
     fn files_alone(mut self) -> Result<Files, Failure> {

@@ -5,6 +5,7 @@
 mod arguments;
 mod failure;
 mod job;
+mod join;
 mod lines;
 mod matrix_market;
 mod memory;
@@ -17,6 +18,7 @@ use arguments::{Command, Request};
 use failure::Failure;
 use hazhendu::{shortest, Solver};
 use job::Job;
+use join::{Pair, Parts};
 use model::{Files, Model};
 use sink::Sink;
 use std::io::{self, IsTerminal, Write};
@@ -40,6 +42,7 @@ fn run() -> Result<(), Failure> {
         Command::Help => sink::to_stdout(|to| to.write_all(arguments::HELP.as_bytes())),
         Command::Version => sink::to_stdout(|to| writeln!(to, "soak {}", env!("CARGO_PKG_VERSION"))),
         Command::Check(files) => check(&files),
+        Command::Join(pair) => join(&pair),
         Command::Soak(request) => soak(&request),
     }
 }
@@ -51,6 +54,19 @@ fn check(files: &Files) -> Result<(), Failure> {
         writeln!(to, "norm {}", shortest(largest.norm))?;
         writeln!(to, "row {}, sum {}", largest.row + 1, shortest(model.row_sum(largest.row)))
     })
+}
+
+fn join(pair: &Pair) -> Result<(), Failure> {
+    let parts = Parts::read(pair)?;
+    let output = pair.output.as_deref().map(Sink::open).transpose()?;
+    let joined = parts.joined()?;
+    let write = |to: &mut dyn Write| matrix_market::write(to, &joined);
+    match output {
+        Some(sink) => sink.fill(write)?,
+        None => sink::to_stdout(write)?,
+    }
+    tell(&parts.cost_line(&joined));
+    Ok(())
 }
 
 fn soak(request: &Request) -> Result<(), Failure> {

@@ -1,16 +1,22 @@
 //! The matrix and its mass as the files hold them, and where in the files a refusal has its cause.
 
 use crate::failure::Failure;
-use crate::matrix_market::{self, Csr};
+use crate::matrix_market;
 use crate::vector::Vector;
 use hazhendu::sizes::MAX_ROWS;
-use hazhendu::{check, Error, Largest, Matrix, Refusal};
+use hazhendu::{check, Csr, Error, Largest, Matrix, Refusal};
 use std::path::PathBuf;
 
 #[derive(Debug)]
 pub struct Files {
     pub matrix: PathBuf,
     pub mass: Option<PathBuf>,
+}
+
+impl Files {
+    pub fn bare(matrix: PathBuf) -> Self {
+        Files { matrix, mass: None }
+    }
 }
 
 pub struct Model<'a> {
@@ -27,8 +33,7 @@ impl<'a> Model<'a> {
     }
 
     pub fn matrix(&self) -> Matrix<'_> {
-        let Csr { n, starts, columns, entries } = &self.csr;
-        let bare = Matrix::new(*n, starts, columns, entries);
+        let bare = self.csr.matrix();
         self.mass.as_ref().map_or(bare, |mass| bare.with_mass(&mass.numbers))
     }
 
@@ -61,12 +66,24 @@ impl<'a> Model<'a> {
     }
 
     fn infinite_entry(&self) -> String {
-        let Csr { n, starts, columns, entries } = &self.csr;
-        let Some(place) = entries.iter().position(|entry| !entry.is_finite()) else {
-            return String::new();
-        };
+        let place = self.csr.entries.iter().position(|entry| !entry.is_finite());
+        place.map_or(String::new(), |place| format!(", {}", self.row_and_column(place)))
+    }
+
+    /// Of the entry at a place, as the file counts them.
+    fn row_and_column(&self, place: usize) -> String {
+        let Csr { n, starts, columns, .. } = &self.csr;
         let row = (0..*n).find(|i| place < starts[i + 1] as usize).map_or(0, |i| i + 1);
-        format!(", row {row}, column {}", u64::from(columns[place]) + 1)
+        format!("row {row}, column {}", u64::from(columns[place]) + 1)
+    }
+
+    /// The first entry of a row whose column does not rise above the one before it, in this file's words.
+    pub fn first_not_rising(&self) -> Option<String> {
+        let Csr { n, starts, columns, .. } = &self.csr;
+        let mut behind_others = (0..*n).flat_map(|i| starts[i] as usize + 1..starts[i + 1] as usize);
+        let place = behind_others.find(|k| columns[*k] <= columns[k - 1])?;
+        let before = u64::from(columns[place - 1]) + 1;
+        Some(format!("{}, {} behind column {before}", self.files.matrix.display(), self.row_and_column(place)))
     }
 
     fn mass_place(&self, number: u32) -> Option<String> {

@@ -54,6 +54,21 @@ fn a_refused_job_leaves_files_as_they_are() {
 }
 
 #[test]
+fn a_joined_matrix_is_read_again() {
+    let both = scratch("both.mtx");
+    assert!(run(&format!("join rod.mtx mount.mtx --output {}", both.display())).status.success());
+    let first = fs::read_to_string(&both).unwrap();
+    assert_eq!(first.lines().count(), 2 + 24);
+    assert!(run(&format!("{} --mass mass.txt --tau 60 --vector start.txt", both.display())).status.success());
+    // a third part joined to it, over the file itself; then a refusal, which leaves the file
+    assert!(run(&format!("join {0} mount.mtx --output {0}", both.display())).status.success());
+    let second = fs::read_to_string(&both).unwrap();
+    assert!(second.contains("\n2 2 1.5\n") && second.lines().count() == first.lines().count());
+    assert_eq!(run(&format!("join {0} mount-falls.mtx --output {0}", both.display())).status.code(), Some(35));
+    assert_eq!(fs::read_to_string(&both).unwrap(), second);
+}
+
+#[test]
 fn a_closed_pipe_is_no_news() {
     let mut child = soak("--help").stdout(Stdio::piped()).stderr(Stdio::piped()).spawn().unwrap();
     drop(child.stdout.take());

@@ -1,0 +1,23 @@
+-- `exports::tell_join` meets its contract. Assumes nothing.
+use borrow.Author.Needs.{needs}
+use mathlib.Core.Path.{ap, sym}
+use Rattle.exports.specs.Told.{join-numbers}
+use Rattle.exports.proofs.tell_join.Statement.{statement}
+use Rattle.exports.proofs.tell_join.Tie as tie
+
+returns : tie.Need-returns
+unfolding join-numbers
+returns c = sym (ap join-numbers (c .before .answer .given .1))
+
+returns-2 : tie.Need-returns-2
+unfolding join-numbers
+returns-2 c = sym (ap join-numbers (c .before .answer2 .given .1))
+
+pub tell-join-spec : {M : Type 1} → statement M
+tell-join-spec =
+    tie.close
+    (tie.spec
+    (λ c. search needs)
+    (λ c. search needs)
+    returns
+    returns-2)

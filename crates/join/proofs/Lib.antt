@@ -1,0 +1,10 @@
+pub mod Values
+pub mod Row
+pub mod Steps
+pub mod Passes
+pub mod Result
+pub mod Entries
+pub mod Passing
+pub mod Theorems
+pub mod Examples
+pub mod Orders

@@ -1,0 +1,3 @@
+-- Two matrices as one.
+pub mod Join
+pub mod Merge
