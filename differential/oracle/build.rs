@@ -1,6 +1,7 @@
-//! Names the files of the Rust original as modules of this crate. Package `oracle` takes every file where it lies.
-//! Package `capped` takes expmv.rs as a copy below OUT_DIR in which [`DEGREE`] is replaced; package `transcribed` takes
-//! that and two more as copies, in which the lines of [`TRANSCRIBED`] and [`PROBES`] are replaced. SEMIFLOW gives the folder of the sources, by default `../shared/docs/src` beside the repository.
+//! Names the files of the Rust original as modules of this crate. Package `oracle` takes every file where it lies, but for
+//! general_operator.rs, a copy below OUT_DIR in which [`VISIBLE`] is replaced. Package `capped` takes expmv.rs too as a copy, in
+//! which [`DEGREE`] is replaced; package `transcribed` takes these and two more as copies, in which the lines of [`TRANSCRIBED`]
+//! and [`PROBES`] are replaced. SEMIFLOW gives the folder of the sources, by default `../shared/docs/src` beside the repository.
 
 use std::{env, fs, path::Path};
 
@@ -20,6 +21,9 @@ const FILES: [&str; 14] = [
     "pow2",
     "scratch",
 ];
+
+/// Document 02, N3: the driver calls `transpose_csr`, which is private.
+const VISIBLE: (&str, &str, &str) = ("general_operator", "\nfn transpose_csr<", "\npub(crate) fn transpose_csr<");
 
 /// Document 02, N7: `M_MAX` is set to the cap of the job.
 const DEGREE: (&str, &str, &str) = ("expmv", "        if m > M_MAX {", "        if m > crate::probe::degree() {");
@@ -99,15 +103,18 @@ fn main() {
     let sources = env::var("SEMIFLOW").unwrap_or_else(|_| concat!(env!("CARGO_MANIFEST_DIR"), "/../../../shared/docs/src").into());
     let sources = Path::new(&sources).join("crates/semiflow/src");
     let out = env::var("OUT_DIR").unwrap();
+    let capped = (package != "oracle").then_some(DEGREE);
+    let mut replaced: Vec<_> = [VISIBLE].into_iter().chain(capped).collect();
+    if transcribe {
+        replaced.extend(TRANSCRIBED.into_iter().chain(PROBES));
+    }
     let mut modules = String::new();
     for name in FILES {
         let mut path = sources.join(name).with_extension("rs");
         path = path.canonicalize().unwrap_or_else(|e| panic!("{}: {e}; give the sources' folder as SEMIFLOW", path.display()));
         println!("cargo:rerun-if-changed={}", path.display());
-        let changed =
-            package != "oracle" && name == DEGREE.0 || transcribe && (name == "phi_action_helpers" || name == "phi_krylov_arnoldi");
-        if changed {
-            let text = transcribed(name, fs::read_to_string(&path).unwrap());
+        if replaced.iter().any(|r| r.0 == name) {
+            let text = copy(name, fs::read_to_string(&path).unwrap(), &replaced);
             path = Path::new(&out).join(name).with_extension("rs");
             fs::write(&path, text).unwrap();
         }
@@ -123,8 +130,8 @@ fn main() {
 }
 
 /// `text` with every replacement of its file made.
-fn transcribed(name: &str, mut text: String) -> String {
-    for (file, old, new) in TRANSCRIBED.into_iter().chain(PROBES).chain([DEGREE]) {
+fn copy(name: &str, mut text: String, replaced: &[(&str, &str, &str)]) -> String {
+    for &(file, old, new) in replaced {
         if file == name {
             assert_eq!(text.matches(old).count(), 1, "{file}: {old}");
             text = text.replace(old, new);

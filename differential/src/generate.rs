@@ -40,6 +40,7 @@ pub fn short(kind: Kind, index: usize) -> Job {
         w: vec![],
         out: 0,
         work: 0,
+        lent: None,
     };
     job.w = (0..job.vectors()).map(|i| 1.5 - i as f64).collect();
     job.out = job.output();
@@ -62,7 +63,12 @@ fn word(mut index: usize, longest: u32) -> Vec<u32> {
 /// A random job.
 pub fn random(kind: Kind, r: &mut Random) -> Job {
     if r.once_in(5000) {
-        return beyond_limits(kind, r);
+        let mut job = beyond_limits(kind, r);
+        if r.once_in(5) {
+            // so many entries are refused before the buffers are looked at
+            job.lent = Some(if job.vals.is_empty() { job.lent_need() } else { [0; 3] });
+        }
+        return job;
     }
     let mut job = match r.below(20) {
         _ if r.once_in(100) => many_rows(kind, r),
@@ -83,6 +89,70 @@ pub fn random(kind: Kind, r: &mut Random) -> Job {
         for _ in 0..r.from_to(1, 3) {
             damage(&mut job, r);
         }
+    }
+    if r.once_in(5) {
+        if r.once_in(4) {
+            job = for_transpose(kind, r);
+        }
+        job.lent = Some(lengths(&job, r));
+    }
+    job
+}
+
+/// Of the buffers that a transposed job lends: just as needed, longer, one of them short by one, or of any length up to that.
+fn lengths(job: &Job, r: &mut Random) -> [usize; 3] {
+    let need = job.lent_need();
+    match r.below(12) {
+        0..=6 => need,
+        7..=9 => need.map(|length| length + r.below(5)),
+        10 => {
+            let (short, longer) = (r.below(3), r.below(3));
+            let mut lengths = need.map(|length| length + longer);
+            lengths[short] = need[short].saturating_sub(1);
+            lengths
+        }
+        _ => need.map(|length| r.below(length + 1)),
+    }
+}
+
+/// A job in which it shows that the matrix is transposed: whose rows and columns have other sums, equal columns, or empty ones.
+fn for_transpose(kind: Kind, r: &mut Random) -> Job {
+    let mut job = good(kind, r);
+    job.n = job.n.clamp(2, 8);
+    job.mass = None;
+    let case = r.below(7);
+    let large = 1.7e308 * (0.5 + 0.4 * r.unit());
+    // rows, columns and values, the rows rising
+    let mut entries = vec![];
+    for i in 0..job.n {
+        match case {
+            // a column whose sum is not finite, in rows whose sums are
+            0 | 1 => entries.push((i, 0, if r.once_in(2) { large } else { -large })),
+            // a row whose sum is not finite, in columns whose sums are
+            2 => entries.push((0, i, large)),
+            // rows whose sums are not finite, behind a first row start that is not 0
+            3 => entries.extend([(i, i, large), (i, 0, -large)]),
+            // few columns, so that some are equal in a row and others empty
+            4 | 5 => (0..r.below(6)).for_each(|_| entries.push((i, r.below(2), number(r)))),
+            _ => (0..r.below(4)).for_each(|_| entries.push((i, r.below(job.n), number(r)))),
+        }
+    }
+    job.starts = (0..=job.n).map(|i| entries.iter().filter(|e| e.0 < i).count() as u32).collect();
+    job.cols = entries.iter().map(|e| e.1 as u32).collect();
+    job.vals = entries.iter().map(|e| e.2).collect();
+    if case == 3 {
+        job.starts[0] = 1;
+    }
+    if r.once_in(2) {
+        // masses of which some change the row or column that has the largest sum
+        let spread = if case < 4 { 0 } else { 10 };
+        job.mass = Some((0..job.n).map(|_| 2.0_f64.powi(r.from_to(-spread, spread) as i32) * (1.0 + 0.1 * r.unit())).collect());
+    }
+    let norm = norm(&job);
+    job.tau = r.unit() * r.pick(&[1.0, 10.0]) / if norm > 0.0 && norm.is_finite() { norm } else { 1.0 };
+    fill(&mut job, r);
+    if r.once_in(3) {
+        job.w.iter_mut().for_each(|x| *x = r.pick(&[0.0, -0.0, -0.0, *x]));
     }
     job
 }
@@ -187,8 +257,21 @@ fn good(kind: Kind, r: &mut Random) -> Job {
         Kind::Combination | Kind::Krylov => r.from_to(1, 4),
         _ => r.from_to(0, 3),
     } as usize;
-    let mut job =
-        Job { call: call_of(kind, r), n, starts, cols, vals, mass, tau: 1.0, degree: jobs::DEGREE, count, w: vec![], out: 0, work: 0 };
+    let mut job = Job {
+        call: call_of(kind, r),
+        n,
+        starts,
+        cols,
+        vals,
+        mass,
+        tau: 1.0,
+        degree: jobs::DEGREE,
+        count,
+        w: vec![],
+        out: 0,
+        work: 0,
+        lent: None,
+    };
     let norm = norm(&job);
     job.tau = match r.below(12) {
         0 => 0.0,

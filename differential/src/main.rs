@@ -121,8 +121,10 @@ struct Tally {
     libm_largest: f64,
     /// Accepted Taylor jobs by the highest degree of the plan.
     degrees: BTreeMap<u32, u64>,
-    /// Rows named as the first of the largest sum: with a mass or not, tied with a later one or not.
-    rows: BTreeMap<(bool, bool), u64>,
+    /// Rows named as the first of the largest sum: of the transposed matrix or not, with a mass or not, tied with a later one or not.
+    rows: BTreeMap<(bool, bool, bool), u64>,
+    /// Transposed jobs by their call and by what their answers show of the transpose.
+    transposed: BTreeMap<String, u64>,
     numbers: BTreeMap<(u32, &'static str), u64>,
     paths: BTreeMap<&'static str, u64>,
 }
@@ -146,6 +148,9 @@ impl Tally {
         }
         for (key, hits) in other.rows {
             *self.rows.entry(key).or_default() += hits;
+        }
+        for (key, hits) in other.transposed {
+            *self.transposed.entry(key).or_default() += hits;
         }
         for (key, hits) in other.numbers {
             *self.numbers.entry(key).or_default() += hits;
@@ -173,8 +178,13 @@ fn run(o: &Options) -> bool {
     let degrees: Vec<String> = t.degrees.iter().map(|(degree, hits)| format!("{degree}: {hits}")).collect();
     println!("accepted Taylor jobs by highest degree: {}", degrees.join(", "));
     println!("rows of largest sum:");
-    for ((mass, tied), hits) in &t.rows {
-        println!("  {} mass, {:8} {hits}", if *mass { "with a" } else { "without" }, if *tied { "tied" } else { "alone" });
+    for ((transposed, mass, tied), hits) in &t.rows {
+        let (direction, mass) = (if *transposed { "transposed" } else { "forward" }, if *mass { "with a" } else { "without" });
+        println!("  {direction:10}, {mass} mass, {:8} {hits}", if *tied { "tied" } else { "alone" });
+    }
+    println!("transposed jobs:");
+    for (what, hits) in &t.transposed {
+        println!("  {what:28} {hits}");
     }
     println!("answers of the Rust, by number and call:");
     for ((number, call), hits) in &t.numbers {
@@ -217,8 +227,12 @@ fn one(o: &Options, job: &Job, index: usize, t: &mut Tally) {
 fn matrix(job: &Job, t: &mut Tally) -> Option<Difference> {
     let expected = reference::matrix(job);
     if expected.number == 0 {
-        let tied = oracle::row_sums(job).iter().filter(|s| **s == expected.value).count() > 1;
-        *t.rows.entry((job.mass.is_some(), tied)).or_default() += 1;
+        let tied = oracle::row_sums(&reference::forward(job)).iter().filter(|s| **s == expected.value).count() > 1;
+        *t.rows.entry((job.lent.is_some(), job.mass.is_some(), tied)).or_default() += 1;
+    }
+    if job.lent.is_some() {
+        let outcome = if expected.number == 0 { "matrix answers: norm and row" } else { "matrix answers: refusals" };
+        *t.transposed.entry(outcome.into()).or_default() += 1;
     }
     compare::matrix(job, &expected)
 }
@@ -261,7 +275,28 @@ fn count(o: &Options, job: &Job, expected: &Expected, t: &mut Tally) {
     }
     t.compared += 1;
     t.above_64_rows += u64::from(job.n > jobs::ROWS);
+    if job.lent.is_some() {
+        count_transposed(job, &expected.answer, t);
+        return;
+    }
     *(if job.is_large() { &mut t.large_on_bytes } else { &mut t.on_bytes }) += 1;
+}
+
+fn count_transposed(job: &Job, answer: &Answer, t: &mut Tally) {
+    let written = !answer.differs(&job.refused(answer.number, answer.value)).is_empty();
+    let mut count = |what: &str| *t.transposed.entry(what.into()).or_default() += 1;
+    count("compared");
+    count(&format!("compared: {}", call_name(job)));
+    count(if job.mass.is_some() { "compared: with a mass" } else { "compared: without a mass" });
+    match answer.number {
+        0 => count("accepted"),
+        9 if job.mass.is_none() => count("9 without a mass"),
+        11 if written => count("11 for a column sum"),
+        11 => count("11 for a row sum"),
+        30 => count("30"),
+        _ if written => count("other refusals behind 30"),
+        _ => count("other refusals before 30"),
+    }
 }
 
 fn call_name(job: &Job) -> &'static str {
@@ -290,6 +325,7 @@ fn replay(file: &str, side: &str) -> Result<bool, String> {
             "rust" => Some(compare::unaltered(&job)),
             "transcribed" => reference::answer(&job, |j| transcribed::answer(j, u64::MAX)),
             "rattle" => Some(library::answer(&job)),
+            "bytes" if job.lent.is_some() => None,
             "bytes" => library::answer_on_bytes(&job, 0),
             _ => return Err(USAGE.into()),
         };

@@ -1,7 +1,8 @@
 /*
  * Hazhendu: heat soak by phi-functions. The exported calls of the proved library for C and C++ on x86-64 Linux.
  *
- * Link with target/staticlib/libexports.a, which `rt staticlib exports` writes (or `hosts/library`); hosts/c/run shows how.
+ * Link with target/staticlib/libexports.a and, for the calls on the transposed matrix, libexports_transposed.a, which `rt staticlib exports`
+ * and `rt staticlib exports_transposed` write (or `hosts/library` both); hosts/c/run shows how.
  *
  *
  * WHAT IS COMPUTED
@@ -13,6 +14,8 @@
  *   hazhendu_phi_action:                                         phi_k(tau G) v
  *   hazhendu_phi_action_batched:                                 phi_0(tau G) v, phi_1(tau G) v, ..., phi_p(tau G) v
  *   hazhendu_check_generator:                                    the norm of G, which is the largest sum of the sizes in a row, and the first row that has it
+ *   the first four with _transposed, hazhendu_check_transposed:  the same with the transposed matrix: -A, divided row by row by the mass if
+ *                                                                there is one, then transposed. What moves one reading is one such soak
  *   hazhendu_join:                                               two matrices over the same rows, a barrel's and its mount's, as one
  *
  * phi_0 is the exponential, and phi_k(z) = (phi_{k-1}(z) - 1/(k-1)!) / z. For heat, C dT/dt = -A T + q with T = T_0 at time 0, A in W/K,
@@ -49,6 +52,12 @@
  *   out, out_len          the answer is written here: n numbers, (p + 1) * n of a batch, the functions one after the other
  *   work, work_len        working memory, at least as long as hazhendu_taylor_work, hazhendu_action_work or hazhendu_krylov_work says
  *
+ * of a call on the transposed matrix, buffers that are lent for it:
+ *
+ *   t_starts, t_starts_len  at least n + 1: the row starts of the transposed matrix are written here
+ *   t_cols, t_cols_len      at least as many as entries: its columns, which are the rows of A
+ *   t_vals, t_vals_len      at least as many as entries: its entries, those of A or these divided by their row's mass
+ *
  * of a join:
  *
  *   n_a, starts_a, ..     the barrel, as n, starts, cols and vals above; in each row the columns rise strictly
@@ -78,8 +87,9 @@
  * WHAT THE CALLER OWES
  *
  * - A slice is a pointer and the number of its elements. The pointer must not be null and must be aligned for its element type, even if
- *   the length is 0; all elements of the length must be readable, those of out, work and the result of a join writable too.
- * - out, work, the result of a join and the places of the numbers told must overlap neither each other nor anything else that is handed in.
+ *   the length is 0; all elements of the length must be readable, those of out, work, the buffers for
+ *   a transposed matrix and the result of a join writable too.
+ * - out, work, the buffers, the result of a join and the places of the numbers told must overlap neither each other nor anything else that is handed in.
  * - with_mass and krylov are 0 or 1.
  *
  * Nothing else is asked: every input gets a result or a refusal, and no call allocates, stops the program or keeps anything. Calls in
@@ -94,6 +104,8 @@
  *   refused, 27 to 29  out is the state after the last accepted substep, the needed length of work holds +0. If no substep was accepted
  *                      (28 or 29 in the first), out is w_0 scaled by a power of two and back: its numbers, but for those so small beside
  *                      the largest that the scaling makes them subnormal
+ *   transposed         out and work as above. Refused by 1 to 6, 7 to 10 or, without a mass, 9 and 11 of A itself, or by 30: the buffers are
+ *                      unchanged. Else, accepted or refused, their fronts hold the transposed matrix; places beyond it are unchanged
  *   join, accepted     the fronts of starts, cols and vals are the result, places beyond it are unchanged
  *   join, refused      nothing is changed
  */
@@ -119,7 +131,8 @@ enum {
 };
 
 /* Why a job or a join is refused, and the double reported with it. The checks of a job run in number order, but for 33 directly after 14;
-   those of a join are 1 to 6 and 11 of the barrel, then of the mount, 34, 35 and 36, then 3 and 6 of the result. The first that holds is
+   those of a transposed call are 1 to 6, with a mass 7 to 10, without one 9 and 11, then 30, then 11 for a column (of the transposed
+   matrix a row), then those of the job. Those of a join are 1 to 6 and 11 of the barrel, then of the mount, 34, 35 and 36, then 3 and 6 of the result. The first that holds is
    told. */
 enum hazhendu_refusal {
     HAZHENDU_ACCEPTED = 0,
@@ -134,9 +147,10 @@ enum hazhendu_refusal {
     HAZHENDU_ENTRY_NOT_FINITE = 6,     /* an entry is infinite or NaN                           the entry */
     HAZHENDU_MASS_LENGTH = 7,          /* the mass is not n long                                length of the mass */
     HAZHENDU_MASS_RANGE = 8,           /* a mass is not finite or not above 0                   the mass */
-    HAZHENDU_MASS_ROW_START = 9,       /* with a mass, the first row start is not 0             NaN */
+    HAZHENDU_MASS_ROW_START = 9,       /* with a mass, or transposed: first row start not 0     NaN */
     HAZHENDU_ROW_SUM_NOT_FINITE = 10,  /* with a mass: sizes in a row, divided, sum too high    the sum */
-    HAZHENDU_NORM_NOT_FINITE = 11,     /* without: sizes in a row sum too high                  the norm */
+    HAZHENDU_NORM_NOT_FINITE = 11,     /* without: sizes in a row sum too high; transposed: in
+                                          a column too, with or without                         the norm */
 
     /* the job */
     HAZHENDU_VECTOR_COUNT = 12,        /* vectors not 1 to 4                                    the count */
@@ -163,6 +177,9 @@ enum hazhendu_refusal {
     HAZHENDU_SUBSTEP_LIMIT = 27,       /* max_substeps made, and tau is not reached             estimated error so far, of the scaled start */
     HAZHENDU_LENGTHS_REJECTED = 28,    /* eleven lengths rejected in one substep                error allowed, of the scaled start */
     HAZHENDU_NO_INNER_PLAN = 29,       /* the small exponential has no plan                     its argument */
+
+    /* transposed: met behind the checks of the matrix and its mass, before 11 for a column */
+    HAZHENDU_TRANSPOSED_LENGTH = 30,   /* t_starts, t_cols or t_vals is too short               NaN */
 
     /* the job: met between 14 and 15 */
     HAZHENDU_DEGREE_RANGE = 33,        /* Taylor: degree not 1 to 30                            NaN */
@@ -305,6 +322,82 @@ uint32_t hazhendu_combine(
     double *out, size_t out_len,
     double *work, size_t work_len,
     double *value, uint64_t *first, uint64_t *second, uint64_t *third, double *shortest, double *last);
+
+/* ---- the transposed matrix, over lent buffers. Working memory is needed as for the call on the matrix itself. */
+
+/* The checks of the matrix; then the transposed matrix is written to the buffers, and its norm, the largest column sum of the sizes, is told with
+   the first of its rows, a column of A, that has it. */
+uint32_t hazhendu_check_transposed(
+    size_t n,
+    const uint32_t *starts, size_t starts_len,
+    const uint32_t *cols, size_t cols_len,
+    const double *vals, size_t vals_len,
+    bool with_mass, const double *mass, size_t mass_len,
+    uint32_t *t_starts, size_t t_starts_len,
+    uint32_t *t_cols, size_t t_cols_len,
+    double *t_vals, size_t t_vals_len,
+    double *value, size_t *row);
+
+uint32_t hazhendu_phi_combination_transposed(
+    size_t n,
+    const uint32_t *starts, size_t starts_len,
+    const uint32_t *cols, size_t cols_len,
+    const double *vals, size_t vals_len,
+    bool with_mass, const double *mass, size_t mass_len,
+    uint32_t *t_starts, size_t t_starts_len,
+    uint32_t *t_cols, size_t t_cols_len,
+    double *t_vals, size_t t_vals_len,
+    double tau, uint32_t degree,
+    size_t count, const double *w, size_t w_len,
+    double *out, size_t out_len,
+    double *work, size_t work_len,
+    double *value, uint32_t *s, uint32_t *plan_m, uint64_t *applications);
+
+uint32_t hazhendu_phi_action_transposed(
+    size_t n,
+    const uint32_t *starts, size_t starts_len,
+    const uint32_t *cols, size_t cols_len,
+    const double *vals, size_t vals_len,
+    bool with_mass, const double *mass, size_t mass_len,
+    uint32_t *t_starts, size_t t_starts_len,
+    uint32_t *t_cols, size_t t_cols_len,
+    double *t_vals, size_t t_vals_len,
+    double tau, uint32_t degree,
+    size_t k, const double *v, size_t v_len,
+    double *out, size_t out_len,
+    double *work, size_t work_len,
+    double *value, uint32_t *s, uint32_t *plan_m, uint64_t *applications);
+
+uint32_t hazhendu_phi_action_batched_transposed(
+    size_t n,
+    const uint32_t *starts, size_t starts_len,
+    const uint32_t *cols, size_t cols_len,
+    const double *vals, size_t vals_len,
+    bool with_mass, const double *mass, size_t mass_len,
+    uint32_t *t_starts, size_t t_starts_len,
+    uint32_t *t_cols, size_t t_cols_len,
+    double *t_vals, size_t t_vals_len,
+    double tau, uint32_t degree,
+    size_t p, const double *v, size_t v_len,
+    double *out, size_t out_len,
+    double *work, size_t work_len,
+    double *value, uint32_t *s, uint32_t *plan_m, uint64_t *applications);
+
+uint32_t hazhendu_phi_combination_krylov_transposed(
+    size_t n,
+    const uint32_t *starts, size_t starts_len,
+    const uint32_t *cols, size_t cols_len,
+    const double *vals, size_t vals_len,
+    bool with_mass, const double *mass, size_t mass_len,
+    uint32_t *t_starts, size_t t_starts_len,
+    uint32_t *t_cols, size_t t_cols_len,
+    double *t_vals, size_t t_vals_len,
+    double tau,
+    size_t count, const double *w, size_t w_len,
+    double tol, size_t m, size_t max_substeps,
+    double *out, size_t out_len,
+    double *work, size_t work_len,
+    double *value, size_t *substeps, size_t *matvecs, size_t *rejected, double *shortest, double *last);
 
 #ifdef __cplusplus
 }

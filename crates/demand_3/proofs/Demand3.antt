@@ -25,6 +25,7 @@ use Rattle.generator_action.specs.Mass.{Mass, generator-checks, bound-checks as
 use Rattle.phi_action_helpers.specs.Augmented.{Augmented, aug-matvec}
 use Rattle.phi_action_helpers.specs.declared.Scales.{Scales}
 use Rattle.generator_action.specs.Generator.{Generator, forward}
+use Rattle.transpose.specs.Transpose.{Lent, start-checks, forward-checks, lent-checks, before-transposing, transposed-checks, transposed}
 use Rattle.combination.specs.Call.{Call, unless-refused}
 use Rattle.combination.specs.Checks.{out-of-range, count-checks, time-checks, length-checks, finite-checks, magnitude-checks, memory-checks, vector-checks}
 use Rattle.combination.proofs.Range.{no-23}
@@ -40,6 +41,7 @@ use Rattle.demand_3.specs.Krylov.{Zeros, KrylovCost, AtLimit, Exactly27}
 use Rattle.demand_3.specs.Demand3.{start-of, krylov-run, clamped, OneProduct, Demand3}
 use Rattle.demand_3.proofs.Start.{vectors-finite, start-finite}
 use Rattle.demand_3.proofs.Krylov.{expv-cost, expv-only-27, expv-if-27, expv-idle, expv-late}
+use Rattle.demand_3.proofs.Never23.{transposed-in-range}
 use Rattle.demand_3.proofs.Taylor.{fits-is, combination-claim, action-claim, batch-claim}
 
 -- ---- a Krylov call
@@ -259,3 +261,16 @@ forward-33 a (some mass) = refl
 
 pub demand-3 : (a : Csr) (mass : Mass) (tau : Float) (output memory : List Float) → Demand3 (forward a mass) tau output memory
 demand-3 a mass tau output memory = demand-3-of (forward a mass) (no-23 a mass) (forward-25 a mass) (forward-27 a mass) (forward-17 a mass) (forward-33 a mass) tau output memory
+
+-- the transposed one has 1 to 11 and 30
+transposed-none : (a : Csr) (mass : Mass) (l : Lent)
+    → let cs = transposed-checks a mass l in (before 25 cs ≡ cs) × (before 27 cs ≡ cs) × (before 17 cs ≡ cs) × (before 33 cs ≡ cs)
+unfolding before transposed-checks before-transposing forward-checks start-checks lent-checks matrix-checks shape-checks row-checks entry-checks mass-checks sum-checks norm-checks
+transposed-none a none l = (refl, refl, refl, refl)
+transposed-none a (some mass) l = (refl, refl, refl, refl)
+
+-- of every matrix and mass, and of buffers of any lengths (document 02, N3)
+pub demand-3-transposed : (a : Csr) (mass : Mass) (l : Lent) (tau : Float) (output memory : List Float) → Demand3 (transposed a mass l) tau output memory
+demand-3-transposed a mass l tau output memory =
+    let h = transposed-none a mass l in
+    demand-3-of (transposed a mass l) (transposed-in-range a mass l .ranged) (h .0) (h .1) (h .2) (h .3) tau output memory

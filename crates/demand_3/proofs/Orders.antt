@@ -7,6 +7,7 @@ use lib.Ieee.{Float}
 use Rattle.checks.specs.First.{Check}
 use Rattle.general_operator.specs.Csr.{Csr}
 use Rattle.generator_action.specs.Generator.{forward}
+use Rattle.transpose.specs.Transpose.{Lent, transposed, open-Transpose}
 use Rattle.phi_action.specs.Calls.{combination-checks, action-checks, open-Calls}
 use Rattle.phi_krylov.specs.declared.KrylovPhiOptions.{KrylovPhiOptions}
 use Rattle.phi_krylov.specs.KrylovCall.{krylov-checks, open-KrylovCall}
@@ -46,3 +47,35 @@ module _ (a : Csr) (mass : List Float) (tau : Float) (cap count : ℕ) (w : List
       ≡ 1 ∷ 2 ∷ 3 ∷ 4 ∷ 5 ∷ 6 ∷ 7 ∷ 8 ∷ 9 ∷ 10 ∷ 12 ∷ 14 ∷ 15 ∷ 16 ∷ 17 ∷ 18 ∷ 19 ∷ 20 ∷ 21 ∷ 22 ∷ 24 ∷ 26 ∷ []
   unfolding open-KrylovCall
   krylov-mass = refl
+
+  -- ---- on the transposed matrix: 9 also without a mass, 30, and 11 for a column sum (document 02, N3)
+  module _ (l : Lent) where
+    combination-transposed : numbers (combination-checks (transposed a none l) tau cap count w output memory)
+        ≡ 1 ∷ 2 ∷ 3 ∷ 4 ∷ 5 ∷ 6 ∷ 9 ∷ 11 ∷ 30 ∷ 11 ∷ 12 ∷ 14 ∷ 33 ∷ 15 ∷ 16 ∷ 17 ∷ 21 ∷ 22 ∷ 24 ∷ 25 ∷ 26 ∷ []
+    unfolding open-Calls open-Transpose
+    combination-transposed = refl
+
+    combination-transposed-mass : numbers (combination-checks (transposed a (some mass) l) tau cap count w output memory)
+        ≡ 1 ∷ 2 ∷ 3 ∷ 4 ∷ 5 ∷ 6 ∷ 7 ∷ 8 ∷ 9 ∷ 10 ∷ 30 ∷ 11 ∷ 12 ∷ 14 ∷ 33 ∷ 15 ∷ 16 ∷ 17 ∷ 21 ∷ 22 ∷ 24 ∷ 25 ∷ 26 ∷ []
+    unfolding open-Calls open-Transpose
+    combination-transposed-mass = refl
+
+    action-transposed : numbers (action-checks (transposed a none l) tau cap count w output wanted memory)
+        ≡ 1 ∷ 2 ∷ 3 ∷ 4 ∷ 5 ∷ 6 ∷ 9 ∷ 11 ∷ 30 ∷ 11 ∷ 13 ∷ 14 ∷ 33 ∷ 15 ∷ 16 ∷ 17 ∷ 24 ∷ 25 ∷ 26 ∷ []
+    unfolding open-Calls open-Transpose
+    action-transposed = refl
+
+    action-transposed-mass : numbers (action-checks (transposed a (some mass) l) tau cap count w output wanted memory)
+        ≡ 1 ∷ 2 ∷ 3 ∷ 4 ∷ 5 ∷ 6 ∷ 7 ∷ 8 ∷ 9 ∷ 10 ∷ 30 ∷ 11 ∷ 13 ∷ 14 ∷ 33 ∷ 15 ∷ 16 ∷ 17 ∷ 24 ∷ 25 ∷ 26 ∷ []
+    unfolding open-Calls open-Transpose
+    action-transposed-mass = refl
+
+    krylov-transposed : numbers (krylov-checks (transposed a none l) tau count w o output memory)
+        ≡ 1 ∷ 2 ∷ 3 ∷ 4 ∷ 5 ∷ 6 ∷ 9 ∷ 11 ∷ 30 ∷ 11 ∷ 12 ∷ 14 ∷ 15 ∷ 16 ∷ 17 ∷ 18 ∷ 19 ∷ 20 ∷ 21 ∷ 22 ∷ 24 ∷ 26 ∷ []
+    unfolding open-KrylovCall open-Transpose
+    krylov-transposed = refl
+
+    krylov-transposed-mass : numbers (krylov-checks (transposed a (some mass) l) tau count w o output memory)
+        ≡ 1 ∷ 2 ∷ 3 ∷ 4 ∷ 5 ∷ 6 ∷ 7 ∷ 8 ∷ 9 ∷ 10 ∷ 30 ∷ 11 ∷ 12 ∷ 14 ∷ 15 ∷ 16 ∷ 17 ∷ 18 ∷ 19 ∷ 20 ∷ 21 ∷ 22 ∷ 24 ∷ 26 ∷ []
+    unfolding open-KrylovCall open-Transpose
+    krylov-transposed-mass = refl

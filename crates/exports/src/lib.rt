@@ -19,7 +19,7 @@ ghost use Rattle.phi_krylov.specs.Combine.{answering, combine};
 ghost use Rattle.exports.specs.Told.{numbers, matrix-numbers, join-numbers, join-told, telling-join, taylor-numbers, krylov-numbers, phi-numbers, run-numbers, options, solver};
 
 // The result is 0 or the refusal's number; `value` is the norm or the refusal's double.
-fn tell_matrix(answer: MatrixAnswer, value: &mut f64, row: &mut usize) -> u32
+pub fn tell_matrix(answer: MatrixAnswer, value: &mut f64, row: &mut usize) -> u32
     ensures { λ r. ⌜ numbers r (now (value .exit)) (now (row .exit)) 0 0 ≡ matrix-numbers answer ⌝ }
 {
     match answer {
@@ -55,7 +55,7 @@ fn tell_join(answer: JoinAnswer, value: &mut f64, entries: &mut usize) -> u32
 }
 
 // The result is 0 or the refusal's number; `value` is mu or the refusal's double.
-fn tell_taylor(
+pub fn tell_taylor(
     answer: TaylorAnswer,
     value: &mut f64,
     s: &mut u32,
@@ -83,7 +83,7 @@ fn tell_taylor(
 }
 
 // The result is 0 or the refusal's number; `value` is the estimate or the refusal's double. A refusal has the counts and steps 0.
-fn tell_krylov(
+pub fn tell_krylov(
     answer: KrylovAnswer,
     value: &mut f64,
     substeps: &mut usize,
@@ -159,7 +159,7 @@ fn tell_phi(
     }
 }
 
-fn options(tol: f64, m: usize, max_substeps: usize) -> KrylovPhiOptions
+pub fn options(tol: f64, m: usize, max_substeps: usize) -> KrylovPhiOptions
     ensures { λ r. ⌜ r ≡ options tol m «max_substeps» ⌝ }
 {
     KrylovPhiOptions {

@@ -27,12 +27,12 @@ use Rattle.generator_action.specs.Known.{Dividing, Divided, Accepted, sh
 use Rattle.generator_action.proofs.Quotients.{quotients-valid}
 use Rattle.generator_action.proofs.Ways.{mass-sound}
 
-refusal-of : (r : Checked) (q : Csr) {k : ℕ} {x : Float} → Refusal k x ≡ unless-refused r q → Refused k x ≡ r
+pub refusal-of : (r : Checked) (q : Csr) {k : ℕ} {x : Float} → Refusal k x ≡ unless-refused r q → Refused k x ≡ r
 unfolding unless-refused
 refusal-of (Refused j y) q e = cc
 refusal-of Sound q e = cc
 
-norm-of : (r : Checked) (q : Csr) {x : Float} {i : ℕ} → Norm x i ≡ unless-refused r q → (Sound ≡ r) × (x ≡ row-sum-norm q)
+pub norm-of : (r : Checked) (q : Csr) {x : Float} {i : ℕ} → Norm x i ≡ unless-refused r q → (Sound ≡ r) × (x ≡ row-sum-norm q)
 unfolding unless-refused
 norm-of (Refused j y) q e = (cc, cc)
 norm-of Sound q e = (refl, cc)
@@ -47,7 +47,7 @@ sums-finite : (q : Csr) → Sound ≡ first (sum-checks q) → is-finite (row-su
 unfolding sum-checks bad-sum row-sum-norm
 sums-finite q e = largest-finite q (q .n) (λ k l. not-false _ (none-below (bad-sum q) (q .n) (sound-cons _ _ _ _ e .0) k l))
 
-norm-finite : (a : Csr) → Sound ≡ first (norm-checks a) → is-finite (row-sum-norm a) ≡ true
+pub norm-finite : (a : Csr) → Sound ≡ first (norm-checks a) → is-finite (row-sum-norm a) ≡ true
 unfolding norm-checks
 norm-finite a e = not-false _ (sound-cons _ _ _ _ e .0)
 
@@ -87,7 +87,7 @@ module _ (a : Csr) (mass : Mass) {r : MatrixAnswer} (e : r ≡ matrix-answer a m
       }
 
 -- ---- what a job takes from it
-need-light : (a : Csr) (mass : Mass) → Valid a → quotient-need a mass ≤ 16777216
+pub need-light : (a : Csr) (mass : Mass) → Valid a → quotient-need a mass ≤ 16777216
 unfolding quotient-need
 need-light a none v = omega arith
 need-light a (some mass) v = v .light

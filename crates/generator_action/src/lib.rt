@@ -93,7 +93,7 @@ fn first_bad_mass(mass: &[f64]) -> usize
 }
 
 // 7 to 9, which do not depend on the columns and the entries.
-fn check_mass(n: usize, starts: &[u32], mass: &[f64]) -> Checked
+pub fn check_mass(n: usize, starts: &[u32], mass: &[f64]) -> Checked
     requires { ⌜ 0 < length (now starts) ⌝ }
     ensures { λ r. ⌜ ((columns : List ℕ) (entries : List Float) → r ≡ first (mass-checks (csr n (now (starts .entry)) columns entries) (now (mass .entry)))) ⌝ }
 {
@@ -153,7 +153,7 @@ fn larger(l: Largest, s: f64, i: usize) -> Largest
 }
 
 // 11, and the norm of a matrix that has no mass.
-fn entry_norm(n: usize, starts: &[u32], cols: &[u32], vals: &[f64]) -> MatrixAnswer
+pub fn entry_norm(n: usize, starts: &[u32], cols: &[u32], vals: &[f64]) -> MatrixAnswer
     requires { ⌜ Valid (csr n (now starts) (now cols) (now vals)) ⌝ }
     requires { ⌜ Finite (csr n (now starts) (now cols) (now vals)) ⌝ }
     ensures { λ r. ⌜ Answered (csr n (now (starts .entry)) (now (cols .entry)) (now (vals .entry))) (norm-checks (csr n (now (starts .entry)) (now (cols .entry)) (now (vals .entry)))) r ⌝ }
@@ -172,7 +172,13 @@ fn entry_norm(n: usize, starts: &[u32], cols: &[u32], vals: &[f64]) -> MatrixAns
 }
 
 // 10, and the norm of the quotients, which are not stored.
-fn quotient_norm(n: usize, starts: &[u32], cols: &[u32], vals: &[f64], mass: &[f64]) -> MatrixAnswer
+pub fn quotient_norm(
+    n: usize,
+    starts: &[u32],
+    cols: &[u32],
+    vals: &[f64],
+    mass: &[f64],
+) -> MatrixAnswer
     requires { ⌜ Valid (csr n (now starts) (now cols) (now vals)) ⌝ }
     requires { ⌜ Finite (csr n (now starts) (now cols) (now vals)) ⌝ }
     requires { ⌜ Dividing (csr n (now starts) (now cols) (now vals)) (now mass) ⌝ }

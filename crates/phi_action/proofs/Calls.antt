@@ -12,6 +12,7 @@ use Rattle.checks.specs.declared.Checked.{Checked}
 use Rattle.checks.specs.declared.Checked.the-variants.{Sound, Refused}
 use Rattle.general_operator.specs.Csr.{Csr, csr}
 use Rattle.generator_action.specs.Mass.{Mass, given, quotients}
+use Rattle.generator_action.specs.Generator.{Generator}
 use Rattle.generator_action.specs.Known.{Passed}
 use Rattle.generator_action.specs.declared.Shape.{Shape}
 use Rattle.combination.specs.Combination.{combination-operator, combination-start, action-operator, init-aug-vector}
@@ -63,6 +64,20 @@ module _ {starts cols : List ℕ} {vals : List Float} (mass : List Float) {g : S
       → count ≤ 4
       → Allowed starts cols vals mass work j × (Coupled (j .b) (j .g .n) (j .d) (length v) × ((j .d ≡ 3) × (length v ≡ j .g .n) × (count ≤ 4) × (output ≡ count * j .g .n)))
   runs-batch v h ej l few = (allowed-action v h ej l, (rw ej (coupled-one (g .n) (length v) _ (h .whole)), rw ej (refl, h .whole, few, h .out)))
+
+-- ---- a refusal by a check of the generator is the call's
+module _ (g : Generator) (tau : Float) (cap : ℕ) (out w₀ : List Float) {i : ℕ} {x : Float} (e : Refused i x ≡ first (g .checks)) where
+  pub combination-refused : (count : ℕ) (w : List Float) → ends (Refusal i x) out w₀ ≡ phi-combination g tau cap count w out w₀
+  unfolding phi-combination combination-checks
+  combination-refused count w = refused-by Refusal _ out w₀ _ refl (refused-up (g .checks) _ refl e)
+
+  pub action-refused : (k : ℕ) (v : List Float) → ends (Refusal i x) out w₀ ≡ phi-action g tau cap k v out w₀
+  unfolding phi-action action-checks
+  action-refused k v = refused-by Refusal _ out w₀ _ refl (refused-up (g .checks) _ refl e)
+
+  pub batch-refused : (p : ℕ) (v : List Float) → ends (Refusal i x) out w₀ ≡ phi-action-batched g tau cap p v out w₀
+  unfolding phi-action-batched action-checks
+  batch-refused p v = refused-by Refusal _ out w₀ _ refl (refused-up (g .checks) _ refl e)
 
 -- the first field lies within the memory
 pub field-fits : {starts cols : List ℕ} {vals mass work : List Float} {j : Job} → Allowed starts cols vals mass work j → j .g .n + j .d ≤ length work

@@ -160,7 +160,7 @@ fn run_job(
 }
 
 // The combination over a generator that passed its checks.
-fn combined(
+pub fn combined(
     starts: &[u32],
     cols: &[u32],
     vals: &[f64],
@@ -220,7 +220,7 @@ pub fn phi_combination(
 }
 
 // The action over a generator that passed its checks.
-fn acted(
+pub fn acted(
     starts: &[u32],
     cols: &[u32],
     vals: &[f64],
@@ -333,7 +333,7 @@ fn run_batch(
 }
 
 // The batch over a generator that passed its checks. An index above 3 is refused before the output's length is computed.
-fn acted_batched(
+pub fn acted_batched(
     starts: &[u32],
     cols: &[u32],
     vals: &[f64],

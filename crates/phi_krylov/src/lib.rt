@@ -277,7 +277,7 @@ fn run_job(
 }
 
 // The combination over a generator that passed its checks.
-fn combined(
+pub fn combined(
     starts: &[u32],
     cols: &[u32],
     vals: &[f64],

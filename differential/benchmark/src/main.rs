@@ -6,6 +6,7 @@ mod join;
 mod memory;
 mod plate;
 mod scipy;
+mod transpose;
 
 use std::time::Instant;
 
@@ -37,7 +38,8 @@ fn main() {
         Some("rust") => table(&words[1..]),
         Some("scipy") => scipy::table(),
         Some("join") => join::table(),
-        _ => eprintln!("usage: benchmark [rust [CALL [ROWS]]|scipy|join]"),
+        Some("transpose") => transpose::table(),
+        _ => eprintln!("usage: benchmark [rust [CALL [ROWS]]|scipy|join|transpose]"),
     }
 }
 
@@ -52,11 +54,15 @@ fn seconds(mut call: impl FnMut()) -> f64 {
     begin.elapsed().as_secs_f64() / f64::from(calls)
 }
 
-/// The library's best of [`ROUNDS`] rounds.
+/// The best of [`ROUNDS`] rounds.
+fn best_of_rounds(mut call: impl FnMut()) -> f64 {
+    std::iter::repeat_with(|| seconds(&mut call)).take(ROUNDS).fold(f64::INFINITY, f64::min)
+}
+
+/// The library's best.
 fn best_seconds(job: &Job) -> f64 {
     let (mut out, mut work) = (vec![0.0; job.out], vec![0.0; job.work]);
-    let round = || seconds(|| assert_eq!(library::call(job, &mut out, &mut work).number, 0));
-    std::iter::repeat_with(round).take(ROUNDS).fold(f64::INFINITY, f64::min)
+    best_of_rounds(|| assert_eq!(library::call(job, &mut out, &mut work).number, 0))
 }
 
 struct Times {

@@ -56,6 +56,7 @@ pub fn job(size: (usize, usize), with_mass: bool, call: Call, count: usize) -> J
         w: vec![],
         out: 0,
         work: 0,
+        lent: None,
     };
     job.w = (0..job.vectors())
         .map(|i| if i < n { 1.0 / (1.0 + (i as f64 - n as f64 / 2.0).abs()) } else { 0.05 * ((i - n) % size.1 < 2) as u8 as f64 })

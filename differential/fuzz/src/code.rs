@@ -141,7 +141,7 @@ pub fn decode(bytes: &[u8]) -> (Job, usize) {
     let degree = if matches!(call, Call::Krylov { .. }) { DEGREE } else { degree(r.byte()) as u32 };
     let (starts, cols, vals) = matrix(&mut r, n);
     let mass = (kind & 4 != 0).then(|| r.doubles(n));
-    let mut job = Job { call, n, starts, cols, vals, mass, tau, degree, count, w: vec![], out: 0, work: 0 };
+    let mut job = Job { call, n, starts, cols, vals, mass, tau, degree, count, w: vec![], out: 0, work: 0, lent: None };
     job.w = r.doubles(job.vectors());
     job.out = job.output().min(LONGEST);
     job.work = job.need().min(MOST_WORK);

@@ -16,14 +16,26 @@
 //! | w | list of doubles: the vectors in one, or v |
 //! | tol, m, limit | of `krylov` alone: double, number, number |
 //! | out, work | the lengths of output and working memory |
+//! | lent | of a transposed job alone: the lengths of the buffers lent for the transposed matrix (row starts, columns, values) |
 //!
-//! Before a call, element i of the output holds [`mark`] i, element i of the working memory `mark` (2^32 + i). In an
-//! answer `.` stands for an element that still holds its mark, and `*k` after one for k equal ones.
+//! Before a call, element i of the output holds [`mark`] i, element i of the working memory `mark` (2^32 + i), and element i of
+//! the buffers [`START_MARK`] + i, [`COLUMN_MARK`] + i and `mark` (2^33 + i). In an answer `.` stands for an element that still
+//! holds its mark, and `*k` after one for k equal ones. The buffers stand at the end of a transposed job's answer.
+
+use std::num::ParseIntError;
+use std::str::FromStr;
 
 /// The largest job that the functions on bytes take: rows, entries, doubles of working memory.
 pub const ROWS: usize = 64;
 pub const ENTRIES: usize = 512;
 pub const WORK: usize = 4096;
+
+/// What elements 0 of the lent row starts and columns hold that no call has written: more than any start or column.
+pub const START_MARK: u32 = 0x5a00_0000;
+pub const COLUMN_MARK: u32 = 0xa500_0000;
+
+const WORK_MARK: usize = 1 << 32;
+const VALUE_MARK: usize = 1 << 33;
 
 /// The highest degree that there is, for a caller that names none.
 pub const DEGREE: u32 = 30;
@@ -76,11 +88,21 @@ pub struct Job {
     pub w: Vec<f64>,
     pub out: usize,
     pub work: usize,
+    /// Of a transposed job: the lengths of the lent row starts, columns and values.
+    pub lent: Option<[usize; 3]>,
+}
+
+/// The buffers that a transposed job lends for the transposed quotients, each a heap block of just its length.
+#[derive(Clone, Debug)]
+pub struct Buffers {
+    pub starts: Box<[u32]>,
+    pub columns: Box<[u32]>,
+    pub values: Box<[f64]>,
 }
 
 /// `number` is 0 or a refusal's; `value` mu, the estimated error or the refusal's double; `counts` are s, m and
 /// applications of Taylor, applications, substeps and rejections of Krylov, and zeros of a refusal; `steps` are the
-/// shortest and the last accepted step of Krylov, zeros of all else.
+/// shortest and the last accepted step of Krylov, zeros of all else; `buffers` are those of a transposed job.
 #[derive(Clone, Debug)]
 pub struct Answer {
     pub number: u32,
@@ -89,6 +111,7 @@ pub struct Answer {
     pub steps: [f64; 2],
     pub out: Vec<f64>,
     pub work: Vec<f64>,
+    pub buffers: Option<Buffers>,
 }
 
 /// What an element holds that no call has written: a finite double no job computes.
@@ -102,6 +125,50 @@ pub fn bits(x: f64) -> u64 {
         0x7ff8_0000_0000_0000
     } else {
         x.to_bits()
+    }
+}
+
+fn same(a: &[f64], b: &[f64]) -> bool {
+    a.len() == b.len() && a.iter().zip(b).all(|(x, y)| bits(*x) == bits(*y))
+}
+
+impl Buffers {
+    /// As they are lent.
+    pub fn marked([starts, columns, values]: [usize; 3]) -> Buffers {
+        Buffers {
+            starts: (0..starts).map(|i| START_MARK + i as u32).collect(),
+            columns: (0..columns).map(|i| COLUMN_MARK + i as u32).collect(),
+            values: (0..values).map(|i| mark(VALUE_MARK + i)).collect(),
+        }
+    }
+
+    /// The matrix in front, places beyond it unchanged.
+    pub fn filled(mut self, starts: &[u32], columns: &[u32], values: &[f64]) -> Buffers {
+        self.starts[..starts.len()].copy_from_slice(starts);
+        self.columns[..columns.len()].copy_from_slice(columns);
+        self.values[..values.len()].copy_from_slice(values);
+        self
+    }
+
+    fn print(&self) -> String {
+        let starts = runs(&self.starts, |i, x| *x == START_MARK + i as u32, u32::to_string);
+        let columns = runs(&self.columns, |i, x| *x == COLUMN_MARK + i as u32, u32::to_string);
+        format!(" lent_starts={starts} lent_cols={columns} lent_vals={}", marked_runs(&self.values, VALUE_MARK))
+    }
+
+    /// Which of them differ.
+    fn differs(&self, other: &Buffers) -> Vec<&'static str> {
+        let mut parts = vec![];
+        if self.starts != other.starts {
+            parts.push("lent starts");
+        }
+        if self.columns != other.columns {
+            parts.push("lent columns");
+        }
+        if !same(&self.values, &other.values) {
+            parts.push("lent values");
+        }
+        parts
     }
 }
 
@@ -156,12 +223,30 @@ impl Job {
     }
 
     pub fn marked_work(&self) -> Vec<f64> {
-        (0..self.work).map(|i| mark((1 << 32) + i)).collect()
+        (0..self.work).map(|i| mark(WORK_MARK + i)).collect()
+    }
+
+    pub fn marked_buffers(&self) -> Option<Buffers> {
+        self.lent.map(Buffers::marked)
+    }
+
+    /// The working memory after a run: the needed length holds +0, the rest is unchanged.
+    pub fn cleared_work(&self) -> Vec<f64> {
+        let mut work = self.marked_work();
+        let need = self.need().min(work.len());
+        work[..need].fill(0.0);
+        work
+    }
+
+    /// The lengths of the buffers that the transposed quotients need: n + 1 starts, a column and a value for each entry.
+    pub fn lent_need(&self) -> [usize; 3] {
+        [self.n.saturating_add(1), self.vals.len(), self.vals.len()]
     }
 
     /// The answer of a refusal that changes no lent memory.
     pub fn refused(&self, number: u32, value: f64) -> Answer {
-        Answer { number, value, counts: [0; 3], steps: [0.0; 2], out: self.marked_out(), work: self.marked_work() }
+        let (out, work, buffers) = (self.marked_out(), self.marked_work(), self.marked_buffers());
+        Answer { number, value, counts: [0; 3], steps: [0.0; 2], out, work, buffers }
     }
 
     /// Whether the functions on bytes refuse it by 255.
@@ -186,8 +271,9 @@ impl Job {
         };
         let mass = self.mass.as_ref().map_or("none".into(), |m| doubles(m));
         let degree = if self.degree == DEGREE { String::new() } else { format!(" degree={}", self.degree) };
+        let lent = self.lent.map_or(String::new(), |l| format!(" lent={}", list(&l, usize::to_string)));
         format!(
-            "call={call} n={} starts={} cols={} vals={} mass={mass} tau={}{degree} count={} w={}{options} out={} work={}",
+            "call={call} n={} starts={} cols={} vals={} mass={mass} tau={}{degree} count={} w={}{options} out={} work={}{lent}",
             self.n,
             list(&self.starts, u32::to_string),
             list(&self.cols, u32::to_string),
@@ -204,7 +290,7 @@ impl Job {
         let words: Vec<(&str, &str)> =
             line.split_whitespace().map(|w| w.split_once('=').ok_or(format!("no '=' in {w}"))).collect::<Result<_, _>>()?;
         let get = |key: &str| words.iter().find(|w| w.0 == key).map(|w| w.1).ok_or(format!("no {key}="));
-        let number = |key: &str| get(key)?.parse::<usize>().map_err(|e| format!("{key}: {e}"));
+        let number = |key: &str| read_number::<usize>(get(key)?);
         let call = match get("call")? {
             "combination" => Call::Combination,
             "action" => Call::Action,
@@ -215,19 +301,20 @@ impl Job {
         Ok(Job {
             call,
             n: number("n")?,
-            starts: read_list(get("starts")?, read_u32)?,
-            cols: read_list(get("cols")?, read_u32)?,
+            starts: read_list(get("starts")?, read_number)?,
+            cols: read_list(get("cols")?, read_number)?,
             vals: read_list(get("vals")?, read_double)?,
             mass: match get("mass")? {
                 "none" => None,
                 m => Some(read_list(m, read_double)?),
             },
             tau: read_double(get("tau")?)?,
-            degree: words.iter().find(|w| w.0 == "degree").map_or(Ok(DEGREE), |w| read_u32(w.1))?,
+            degree: words.iter().find(|w| w.0 == "degree").map_or(Ok(DEGREE), |w| read_number(w.1))?,
             count: number("count")?,
             w: read_list(get("w")?, read_double)?,
             out: number("out")?,
             work: number("work")?,
+            lent: words.iter().find(|w| w.0 == "lent").map(|w| read_lengths(w.1)).transpose()?,
         })
     }
 }
@@ -235,19 +322,19 @@ impl Job {
 impl Answer {
     /// To a matrix alone: the row is the first count.
     pub fn of_matrix(number: u32, value: f64, row: usize) -> Answer {
-        Answer { number, value, counts: [row as u64, 0, 0], steps: [0.0; 2], out: vec![], work: vec![] }
+        Answer { number, value, counts: [row as u64, 0, 0], steps: [0.0; 2], out: vec![], work: vec![], buffers: None }
     }
 
     pub fn print(&self) -> String {
         let ([a, b, c], [shortest, last]) = (self.counts, self.steps.map(|t| double(&t)));
-        let (out, work) = (runs(&self.out, 0), runs(&self.work, 1 << 32));
+        let (out, work) = (marked_runs(&self.out, 0), marked_runs(&self.work, WORK_MARK));
+        let buffers = self.buffers.as_ref().map_or(String::new(), Buffers::print);
         let counts = format!("counts={a},{b},{c} steps={shortest},{last}");
-        format!("number={} value={} {counts} out={out} work={work}", self.number, double(&self.value))
+        format!("number={} value={} {counts} out={out} work={work}{buffers}", self.number, double(&self.value))
     }
 
     /// Which parts differ, bit for bit; none if the answers are the same.
     pub fn differs(&self, other: &Answer) -> Vec<&'static str> {
-        let same = |a: &[f64], b: &[f64]| a.len() == b.len() && a.iter().zip(b).all(|(x, y)| bits(*x) == bits(*y));
         let mut parts = vec![];
         if self.number != other.number {
             parts.push("number");
@@ -267,6 +354,11 @@ impl Answer {
         if !same(&self.work, &other.work) {
             parts.push("work");
         }
+        match (&self.buffers, &other.buffers) {
+            (Some(own), Some(others)) => parts.extend(own.differs(others)),
+            (None, None) => {}
+            _ => parts.push("buffers"),
+        }
         parts
     }
 }
@@ -279,11 +371,16 @@ fn doubles(xs: &[f64]) -> String {
     list(xs, double)
 }
 
-/// A list in which elements that still hold their marks, from `first` on, are dots, and equal ones are counted.
-fn runs(xs: &[f64], first: usize) -> String {
+/// Doubles that were lent with marks from `first` on.
+fn marked_runs(xs: &[f64], first: usize) -> String {
+    runs(xs, |i, x| bits(*x) == bits(mark(first + i)), double)
+}
+
+/// A list in which elements that still hold their marks are dots, and equal ones are counted.
+fn runs<T>(xs: &[T], is_mark: impl Fn(usize, &T) -> bool, one: impl Fn(&T) -> String) -> String {
     let mut words: Vec<(String, usize)> = vec![];
     for (i, x) in xs.iter().enumerate() {
-        let word = if bits(*x) == bits(mark(first + i)) { ".".into() } else { double(x) };
+        let word = if is_mark(i, x) { ".".into() } else { one(x) };
         match words.last_mut() {
             Some((last, k)) if *last == word => *k += 1,
             _ => words.push((word, 1)),
@@ -303,8 +400,13 @@ fn read_list<T>(text: &str, one: impl Fn(&str) -> Result<T, String>) -> Result<V
     text.split(',').map(one).collect()
 }
 
-fn read_u32(text: &str) -> Result<u32, String> {
+fn read_number<T: FromStr<Err = ParseIntError>>(text: &str) -> Result<T, String> {
     text.parse().map_err(|e| format!("{text}: {e}"))
+}
+
+fn read_lengths(text: &str) -> Result<[usize; 3], String> {
+    let lengths = read_list(text, read_number)?;
+    lengths.try_into().map_err(|_| format!("lent={text}: not three lengths"))
 }
 
 fn read_double(text: &str) -> Result<f64, String> {

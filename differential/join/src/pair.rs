@@ -15,7 +15,7 @@ pub struct Pair {
 /// A matrix without mass; the rest of a job is not looked at.
 fn matrix(n: usize, starts: Vec<u32>, cols: Vec<u32>, vals: Vec<f64>) -> Job {
     let call = Call::Action;
-    Job { call, n, starts, cols, vals, mass: None, tau: 0.0, degree: jobs::DEGREE, count: 0, w: vec![], out: 0, work: 0 }
+    Job { call, n, starts, cols, vals, mass: None, lent: None, tau: 0.0, degree: jobs::DEGREE, count: 0, w: vec![], out: 0, work: 0 }
 }
 
 fn number(r: &mut Random) -> f64 {

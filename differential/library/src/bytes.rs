@@ -6,10 +6,10 @@ use jobs::{Answer, Job};
 
 use crate::{called, exported, told, Slices};
 
-exported!(hazhendu_phi_combination_bytes, u8, u8, [degree: u32], [], u32, u32, u64);
-exported!(hazhendu_phi_action_bytes, u8, u8, [degree: u32], [], u32, u32, u64);
-exported!(hazhendu_phi_action_batched_bytes, u8, u8, [degree: u32], [], u32, u32, u64);
-exported!(hazhendu_phi_combination_krylov_bytes, u8, u8, [], [tol: f64, m: usize, max_substeps: usize], usize, usize, usize, shortest: f64, last: f64);
+exported!(hazhendu_phi_combination_bytes, u8, u8, [], [degree: u32], [], u32, u32, u64);
+exported!(hazhendu_phi_action_bytes, u8, u8, [], [degree: u32], [], u32, u32, u64);
+exported!(hazhendu_phi_action_batched_bytes, u8, u8, [], [degree: u32], [], u32, u32, u64);
+exported!(hazhendu_phi_combination_krylov_bytes, u8, u8, [], [], [tol: f64, m: usize, max_substeps: usize], usize, usize, usize, shortest: f64, last: f64);
 
 /// The doubles' bytes, and `tail` more that make no whole element.
 fn doubles(list: &[f64], tail: usize) -> Box<[u8]> {
@@ -24,7 +24,7 @@ fn whole_doubles(bytes: &[u8]) -> Vec<f64> {
     bytes.chunks_exact(8).map(|b| f64::from_le_bytes(b.try_into().unwrap())).collect()
 }
 
-/// The answer, output and working memory marked beforehand; `None` if a byte behind the last whole element was written. `tail`
+/// The answer to a forward job, output and working memory marked beforehand; `None` if a byte behind the last whole element was written. `tail`
 /// tells how many such bytes each slice has. Every slice is a heap block of just its length.
 pub fn answer(job: &Job, tail: usize) -> Option<Answer> {
     let s = Slices {
@@ -39,6 +39,7 @@ pub fn answer(job: &Job, tail: usize) -> Option<Answer> {
     let told = told!(
         job,
         s,
+        [],
         &mut out,
         &mut work,
         hazhendu_phi_combination_bytes,
@@ -54,6 +55,7 @@ pub fn answer(job: &Job, tail: usize) -> Option<Answer> {
         steps: told.steps,
         out: whole_doubles(&out),
         work: whole_doubles(&work),
+        buffers: None,
     };
     (kept(&out) && kept(&work)).then_some(answer)
 }

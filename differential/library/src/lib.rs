@@ -1,12 +1,43 @@
-//! The proved library (crates/exports, crates/exports_bytes): its exported functions, and a job put to them.
+//! The proved library (crates/exports, crates/exports_transposed, crates/exports_bytes): its exported functions, and a job put to
+//! them.
 
 #[cfg(feature = "bytes")]
 mod bytes;
 mod slices;
+mod transposed;
 
 #[cfg(feature = "bytes")]
 pub use bytes::answer as answer_on_bytes;
-pub use slices::{answer, call, join, matrix};
+pub use slices::{call, check, join};
+pub use transposed::check as check_transposed;
+
+use jobs::{Answer, Job};
+
+/// The answer on slices. Output, working memory and the buffers of a transposed job are marked beforehand, and every slice is a
+/// heap block of just its length, so that a memory checker sees an access beyond it.
+pub fn answer(job: &Job) -> Answer {
+    let mut out = job.marked_out().into_boxed_slice();
+    let mut work = job.marked_work().into_boxed_slice();
+    let mut buffers = job.marked_buffers();
+    let s = slices::lent::<Box<[u32]>, Box<[f64]>>(job);
+    let told = match &mut buffers {
+        None => slices::put(job, &s, &mut out, &mut work),
+        Some(b) => transposed::put(job, &s, b, &mut out, &mut work),
+    };
+    let Told { number, value, counts, steps } = told;
+    Answer { number, value, counts, steps, out: out.into_vec(), work: work.into_vec(), buffers }
+}
+
+/// The answer to the matrix alone, the row as its first count; of a transposed job to the transposed matrix.
+pub fn matrix(job: &Job) -> Answer {
+    let mut buffers = job.marked_buffers();
+    let s = slices::lent::<Box<[u32]>, Box<[f64]>>(job);
+    let (number, value, row) = match &mut buffers {
+        None => slices::put_matrix(job, &s),
+        Some(b) => transposed::put_matrix(job, &s, b),
+    };
+    Answer { buffers, ..Answer::of_matrix(number, value, row) }
+}
 
 /// What a call hands back besides its slices: 0 or the refusal's number, the double, the counts in the order of
 /// [`jobs::Answer`], and the two steps.
@@ -27,8 +58,9 @@ struct Slices<N, D> {
 }
 
 /// Declares one exported function on slices of `$u32` and `$f64`: a slice is a pointer and a length, a `&mut` number a pointer.
+/// `$lent` are the elements of the buffers that a transposed job lends.
 macro_rules! exported {
-    ($name:ident, $u32:ty, $f64:ty, [$($degree:ident: u32)?], [$($option:ident: $option_type:ty),*], $a:ty, $b:ty, $c:ty$(, $step:ident: f64)*) => {
+    ($name:ident, $u32:ty, $f64:ty, [$($lent:ty),*], [$($degree:ident: u32)?], [$($option:ident: $option_type:ty),*], $a:ty, $b:ty, $c:ty$(, $step:ident: f64)*) => {
         extern "C" {
             pub fn $name(
                 n: usize,
@@ -41,6 +73,7 @@ macro_rules! exported {
                 with_mass: bool,
                 mass: *const $f64,
                 mass_len: usize,
+                $(_: *mut $lent, _: usize,)*
                 tau: f64,
                 $($degree: u32,)?
                 count: usize,
@@ -64,7 +97,7 @@ macro_rules! exported {
 /// Calls one of them. SAFETY: every pointer comes from a slice with its own length or from a local, and no two overlap; the
 /// functions are proved to stay within them.
 macro_rules! called {
-    ($name:path, $job:expr, $s:expr, [$($degree:expr)?], [$($option:expr),*], $out:expr, $work:expr, $value:expr, $a:expr, $b:expr, $c:expr$(, $step:expr)*) => {
+    ($name:path, $job:expr, $s:expr, [$($lent:expr),*], [$($degree:expr)?], [$($option:expr),*], $out:expr, $work:expr, $value:expr, $a:expr, $b:expr, $c:expr$(, $step:expr)*) => {
         unsafe {
             $name(
                 $job.n,
@@ -77,6 +110,7 @@ macro_rules! called {
                 $job.mass.is_some(),
                 $s.mass.as_ptr(),
                 $s.mass.len(),
+                $($lent.as_mut_ptr(), $lent.len(),)*
                 $job.tau,
                 $($degree,)?
                 $job.count,
@@ -99,7 +133,7 @@ macro_rules! called {
 
 /// Puts `$job` to one of four functions, by its call, and gives what they tell.
 macro_rules! told {
-    ($job:expr, $s:expr, $out:expr, $work:expr, $combination:path, $action:path, $batched:path, $krylov:path) => {{
+    ($job:expr, $s:expr, $lent:tt, $out:expr, $work:expr, $combination:path, $action:path, $batched:path, $krylov:path) => {{
         let (job, s, out, work) = ($job, $s, $out, $work);
         let mut value = jobs::mark(0);
         if let jobs::Call::Krylov { tol, m, limit } = job.call {
@@ -109,6 +143,7 @@ macro_rules! told {
                 $krylov,
                 job,
                 s,
+                $lent,
                 [],
                 [tol, m, limit],
                 out,
@@ -124,11 +159,13 @@ macro_rules! told {
         } else {
             let (mut s_, mut m, mut applications) = (!0, !0, !0);
             let number = match job.call {
-                jobs::Call::Action => called!($action, job, s, [job.degree], [], out, work, &mut value, &mut s_, &mut m, &mut applications),
-                jobs::Call::Batched => {
-                    called!($batched, job, s, [job.degree], [], out, work, &mut value, &mut s_, &mut m, &mut applications)
+                jobs::Call::Action => {
+                    called!($action, job, s, $lent, [job.degree], [], out, work, &mut value, &mut s_, &mut m, &mut applications)
                 }
-                _ => called!($combination, job, s, [job.degree], [], out, work, &mut value, &mut s_, &mut m, &mut applications),
+                jobs::Call::Batched => {
+                    called!($batched, job, s, $lent, [job.degree], [], out, work, &mut value, &mut s_, &mut m, &mut applications)
+                }
+                _ => called!($combination, job, s, $lent, [job.degree], [], out, work, &mut value, &mut s_, &mut m, &mut applications),
             };
             $crate::Told { number, value, counts: [s_.into(), m.into(), applications], steps: [0.0; 2] }
         }

@@ -2,14 +2,14 @@
 
 use std::ops::Deref;
 
-use jobs::{Answer, Job};
+use jobs::Job;
 
 use crate::{called, exported, told, Slices, Told};
 
-exported!(hazhendu_phi_combination, u32, f64, [degree: u32], [], u32, u32, u64);
-exported!(hazhendu_phi_action, u32, f64, [degree: u32], [], u32, u32, u64);
-exported!(hazhendu_phi_action_batched, u32, f64, [degree: u32], [], u32, u32, u64);
-exported!(hazhendu_phi_combination_krylov, u32, f64, [], [tol: f64, m: usize, max_substeps: usize], usize, usize, usize, shortest: f64, last: f64);
+exported!(hazhendu_phi_combination, u32, f64, [], [degree: u32], [], u32, u32, u64);
+exported!(hazhendu_phi_action, u32, f64, [], [degree: u32], [], u32, u32, u64);
+exported!(hazhendu_phi_action_batched, u32, f64, [], [degree: u32], [], u32, u32, u64);
+exported!(hazhendu_phi_combination_krylov, u32, f64, [], [], [tol: f64, m: usize, max_substeps: usize], usize, usize, usize, shortest: f64, last: f64);
 
 extern "C" {
     pub fn hazhendu_check_generator(
@@ -85,9 +85,51 @@ pub fn join(a: &Job, b: &Job, starts: &mut [u32], cols: &mut [u32], vals: &mut [
     (number, value, entries)
 }
 
-/// The answer to the matrix alone, the row as its first count. SAFETY: as of `called!`.
-pub fn matrix(job: &Job) -> Answer {
-    let s = lent::<Box<[u32]>, Box<[f64]>>(job);
+/// The matrix answer alone: number, double and row.
+pub fn check(job: &Job) -> (u32, f64, usize) {
+    put_matrix(job, &lent::<&[u32], &[f64]>(job))
+}
+
+/// The call alone.
+pub fn call(job: &Job, out: &mut [f64], work: &mut [f64]) -> Told {
+    put(job, &lent::<&[u32], &[f64]>(job), out, work)
+}
+
+/// The job's lists, borrowed or copied.
+pub fn lent<'a, N: From<&'a [u32]>, D: From<&'a [f64]>>(job: &'a Job) -> Slices<N, D> {
+    Slices {
+        starts: N::from(&job.starts),
+        cols: N::from(&job.cols),
+        vals: D::from(&job.vals),
+        mass: D::from(job.mass.as_deref().unwrap_or(&[])),
+        w: D::from(&job.w),
+    }
+}
+
+pub fn put<N, D>(job: &Job, s: &Slices<N, D>, out: &mut [f64], work: &mut [f64]) -> Told
+where
+    N: Deref<Target = [u32]>,
+    D: Deref<Target = [f64]>,
+{
+    told!(
+        job,
+        s,
+        [],
+        out,
+        work,
+        hazhendu_phi_combination,
+        hazhendu_phi_action,
+        hazhendu_phi_action_batched,
+        hazhendu_phi_combination_krylov
+    )
+}
+
+/// SAFETY: as of `called!`.
+pub fn put_matrix<N, D>(job: &Job, s: &Slices<N, D>) -> (u32, f64, usize)
+where
+    N: Deref<Target = [u32]>,
+    D: Deref<Target = [f64]>,
+{
     let (mut value, mut row) = (jobs::mark(0), !0);
     let number = unsafe {
         hazhendu_check_generator(
@@ -105,38 +147,5 @@ pub fn matrix(job: &Job) -> Answer {
             &mut row,
         )
     };
-    Answer::of_matrix(number, value, row)
-}
-
-/// The call alone.
-pub fn call(job: &Job, out: &mut [f64], work: &mut [f64]) -> Told {
-    put(job, &lent::<&[u32], &[f64]>(job), out, work)
-}
-
-/// The job's lists, borrowed or copied.
-fn lent<'a, N: From<&'a [u32]>, D: From<&'a [f64]>>(job: &'a Job) -> Slices<N, D> {
-    Slices {
-        starts: N::from(&job.starts),
-        cols: N::from(&job.cols),
-        vals: D::from(&job.vals),
-        mass: D::from(job.mass.as_deref().unwrap_or(&[])),
-        w: D::from(&job.w),
-    }
-}
-
-fn put<N, D>(job: &Job, s: &Slices<N, D>, out: &mut [f64], work: &mut [f64]) -> Told
-where
-    N: Deref<Target = [u32]>,
-    D: Deref<Target = [f64]>,
-{
-    told!(job, s, out, work, hazhendu_phi_combination, hazhendu_phi_action, hazhendu_phi_action_batched, hazhendu_phi_combination_krylov)
-}
-
-/// The answer, output and working memory marked beforehand. Every slice is a heap block of just its length, so that a
-/// memory checker sees an access beyond it.
-pub fn answer(job: &Job) -> Answer {
-    let mut out = job.marked_out().into_boxed_slice();
-    let mut work = job.marked_work().into_boxed_slice();
-    let told = put(job, &lent::<Box<[u32]>, Box<[f64]>>(job), &mut out, &mut work);
-    Answer { number: told.number, value: told.value, counts: told.counts, steps: told.steps, out: out.into_vec(), work: work.into_vec() }
+    (number, value, row)
 }

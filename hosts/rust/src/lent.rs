@@ -2,9 +2,11 @@
 //!
 //! A refusal from 1 to 26, or 33, leaves `out` and `work` unchanged. After 27 to 29 `out` holds the state after the last accepted
 //! substep. After an accepted job, and after 27 to 29, the needed length of `work` holds +0. [`crate::sizes`] says how long
-//! `work` has to be. A refused join changes nothing.
+//! `work` has to be. A refused join changes nothing. [`transposed`] says what the buffers for a transposed matrix hold.
 
 use crate::{sys, Cost, KrylovOptions, Largest, Matrix, Plan, Refusal, Report, Solver, TaylorOptions};
+
+pub mod transposed;
 
 /// 0 is no refusal.
 fn unless_refused<T>(number: u32, value: f64, told: T) -> Result<T, Refusal> {
@@ -36,6 +38,8 @@ macro_rules! call {
         }
     }};
 }
+
+use call;
 
 /// The checks of the matrix alone, 1 to 11; then its norm and the first row that has it.
 pub fn check(a: &Matrix) -> Result<Largest, Refusal> {

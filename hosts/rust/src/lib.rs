@@ -26,6 +26,7 @@ pub mod lent;
 mod refusal;
 pub mod sizes;
 pub mod sys;
+pub mod transposed;
 
 pub use refusal::{Error, Refusal};
 
@@ -50,9 +51,16 @@ impl<'a> Matrix<'a> {
     pub fn with_mass(self, mass: &'a [f64]) -> Self {
         Matrix { mass: Some(mass), ..self }
     }
+
+    /// The matrix, each row divided by its mass if there is one, transposed: what the calls of [`transposed`] run on. The result has no mass.
+    pub fn transposed(&self) -> Result<Csr, Error> {
+        let mut buffers = transposed::Owned::new(self)?;
+        lent::transposed::check(self, buffers.lend()).map_err(|refusal| Error::Refused { refusal, state: None })?;
+        Ok(buffers.csr(self))
+    }
 }
 
-/// A sparse matrix by rows that owns its lists: what [`join`] gives.
+/// A sparse matrix by rows that owns its lists: what [`join`] and [`Matrix::transposed`] give.
 #[derive(Clone, Debug, PartialEq)]
 pub struct Csr {
     pub n: usize,
@@ -223,7 +231,11 @@ pub fn join(a: &Matrix, b: &Matrix) -> Result<Csr, Error> {
     Ok(joined)
 }
 
-fn with_memory<C>(out: usize, work: usize, call: impl FnOnce(&mut [f64], &mut [f64]) -> Result<C, Refusal>) -> Result<Soaked<C>, Error> {
+pub(crate) fn with_memory<C>(
+    out: usize,
+    work: usize,
+    call: impl FnOnce(&mut [f64], &mut [f64]) -> Result<C, Refusal>,
+) -> Result<Soaked<C>, Error> {
     let mut field = zeros(out)?;
     match call(&mut field, &mut zeros(work)?) {
         Ok(cost) => Ok(Soaked { field, cost }),
@@ -231,7 +243,7 @@ fn with_memory<C>(out: usize, work: usize, call: impl FnOnce(&mut [f64], &mut [f
     }
 }
 
-fn zeros<T: Copy + Default>(length: usize) -> Result<Vec<T>, Error> {
+pub(crate) fn zeros<T: Copy + Default>(length: usize) -> Result<Vec<T>, Error> {
     let mut memory = Vec::new();
     memory.try_reserve_exact(length).map_err(|_| Error::OutOfMemory { doubles: length })?;
     memory.resize(length, T::default());

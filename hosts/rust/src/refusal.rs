@@ -23,7 +23,7 @@ const fn meaning(number: u32, wrong: &'static str, value: &'static str, change: 
 }
 
 /// In the order of their numbers; 23 is not used.
-const MEANINGS: [Meaning; 32] = [
+const MEANINGS: [Meaning; 33] = [
     meaning(
         1,
         "the matrix has no rows, or there are not n + 1 row starts",
@@ -49,7 +49,7 @@ const MEANINGS: [Meaning; 32] = [
     meaning(8, "a mass is infinite, not a number, or not above 0", "the mass", "give finite masses above 0"),
     meaning(
         9,
-        "there is a mass, and the first row start is not 0",
+        "there is a mass, or the matrix is transposed, and the first row start is not 0",
         "",
         "leave out the entries before the first row, and let the row starts begin with 0",
     ),
@@ -59,7 +59,12 @@ const MEANINGS: [Meaning; 32] = [
         "the sum",
         "take other units, in which the entries are lower or the masses higher",
     ),
-    meaning(11, "the sizes of a row's entries have no finite sum", "the sum", "take other units, in which the entries are lower"),
+    meaning(
+        11,
+        "the sizes of a row's entries, or transposed of a column's, have no finite sum",
+        "the sum",
+        "take other units, in which the entries are lower",
+    ),
     meaning(12, "there are not 1 to 4 vectors", "how many there are", "give w_0 and at most three more"),
     meaning(13, "the index of the phi-function is above 3", "the index", "ask for phi_0 to phi_3"),
     meaning(14, "tau is negative, infinite or not a number", "tau", "give a finite time of 0 or more"),
@@ -111,6 +116,12 @@ const MEANINGS: [Meaning; 32] = [
         "the small exponential of a substep has no plan",
         "its argument",
         "shorten tau, check its units, or take the Taylor solver",
+    ),
+    meaning(
+        30,
+        "a buffer for the transposed matrix is too short",
+        "",
+        "lend n + 1 row starts, and a column and an entry for each entry of the matrix",
     ),
     meaning(
         33,

@@ -1,4 +1,5 @@
-//! The library's limits, and how much memory a job needs, in doubles; of a join how many row starts and entries are enough.
+//! The library's limits, and how much memory a job needs, in doubles; of a join and of a transposed
+//! matrix how many row starts and entries are enough.
 //!
 //! A job beyond a limit of rows, entries, vectors, index or dimension is refused (3, 12, 13 or 20) before the memory is looked
 //! at, so that it needs none: these functions give 0 for it, and no sum here overflows.
@@ -50,7 +51,7 @@ pub fn output(n: usize, p: usize) -> usize {
     (p + 1) * n
 }
 
-/// Row starts of a matrix that a join writes.
+/// Row starts of a matrix that a join or a transposed call writes.
 pub fn starts(n: usize) -> usize {
     if n > MAX_ROWS {
         return 0;
@@ -64,6 +65,14 @@ pub fn joined(barrel: usize, mount: usize) -> usize {
         return 0;
     }
     barrel + mount
+}
+
+/// Columns, and entries, of the transposed matrix.
+pub fn transposed(entries: usize) -> usize {
+    if entries > MAX_ENTRIES {
+        return 0;
+    }
+    entries
 }
 
 /// The entries divided by the mass take their place beside the vectors.

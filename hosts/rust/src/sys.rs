@@ -39,6 +39,28 @@ exported!(hazhendu_combine, tau: f64, degree: u32, count: usize, w: *const f64, 
     max_substeps: usize, out: *mut f64, out_len: usize, work: *mut f64, work_len: usize, value: *mut f64, first: *mut u64,
     second: *mut u64, third: *mut u64, shortest: *mut f64, last: *mut f64);
 
+macro_rules! exported_transposed {
+    ($name:ident, $($parameter:ident: $type:ty),+) => {
+        exported!($name, t_starts: *mut u32, t_starts_len: usize, t_cols: *mut u32, t_cols_len: usize, t_vals: *mut f64, t_vals_len: usize,
+            $($parameter: $type),+);
+    };
+}
+
+macro_rules! exported_taylor_transposed {
+    ($name:ident, $index:ident, $w:ident, $w_len:ident) => {
+        exported_transposed!($name, tau: f64, degree: u32, $index: usize, $w: *const f64, $w_len: usize, out: *mut f64, out_len: usize,
+            work: *mut f64, work_len: usize, value: *mut f64, s: *mut u32, plan_m: *mut u32, applications: *mut u64);
+    };
+}
+
+exported_transposed!(hazhendu_check_transposed, value: *mut f64, row: *mut usize);
+exported_taylor_transposed!(hazhendu_phi_combination_transposed, count, w, w_len);
+exported_taylor_transposed!(hazhendu_phi_action_transposed, k, v, v_len);
+exported_taylor_transposed!(hazhendu_phi_action_batched_transposed, p, v, v_len);
+exported_transposed!(hazhendu_phi_combination_krylov_transposed, tau: f64, count: usize, w: *const f64, w_len: usize, tol: f64, m: usize,
+    max_substeps: usize, out: *mut f64, out_len: usize, work: *mut f64, work_len: usize, value: *mut f64, substeps: *mut usize,
+    matvecs: *mut usize, rejected: *mut usize, shortest: *mut f64, last: *mut f64);
+
 extern "C" {
     /// Barrel and mount, each without a mass, then the slices of the result and what is told.
     pub fn hazhendu_join(

@@ -12,10 +12,10 @@ use std::str::FromStr;
 pub const HELP: &str = "\
 soak: temperatures of a thermal model after a time, by the proved library hazhendu
 
-  soak MATRIX --tau T --vector FILE [--vector FILE ...] [--mass FILE]
+  soak MATRIX --tau T --vector FILE [--vector FILE ...] [--mass FILE] [--transpose]
        [--solver taylor|krylov] [--degree N] [--tol X] [--m N]
        [--limit N] [--output FILE] [--plot FILE.svg]
-  soak check MATRIX [--mass FILE]
+  soak check MATRIX [--mass FILE] [--transpose]
   soak join BARREL MOUNT [--output FILE]
 
 computes the sum over k of T^k phi_k(T G) w_k, where G = -A, or -A with each row
@@ -28,6 +28,9 @@ temperatures at the start (K), w_1 = q / C (K/s), and A the conductances (W/K).
   --vector FILE    w_0, then w_1, and so on, at most four: one number a line;
                    blank lines and lines that begin with # or % are skipped
   --mass FILE      one number above 0 for each row, in the same form
+  --transpose      with G transposed: which node moves a reading. For the weights of
+                   a reading as w_0, entry i is what 1 K more at node i at the start
+                   adds to it
   --solver NAME    taylor (if not given) or krylov
   --degree N       taylor: the highest degree of a sweep, 1 to 30 (30)
   --tol X          krylov: accuracy relative to the norm of the start (1e-10)
@@ -39,7 +42,7 @@ temperatures at the start (K), w_1 = q / C (K/s), and A the conductances (W/K).
 
 soak check makes the checks of the matrix and its mass alone, and prints the
 norm of G, which is the largest sum of the sizes in a row, the first row that
-has it, from 1, and that row's sum.
+has it, from 1, and that row's sum; with --transpose column for row.
 
 soak join makes one matrix of a barrel's and its mount's, which have the same
 rows: an entry of both is one rounded sum, the barrel's first, and a sum of 0 is
@@ -53,7 +56,7 @@ the standard error. A call of the library cannot be interrupted and tells nothin
 on the way: on a terminal the size of the job is told before it and the time it
 took after it, and there is no progress between.
 
-Status: 0; 1 to 22, 24 to 29 or 33 to 36, the number of the library's refusal,
+Status: 0; 1 to 22, 24 to 30 or 33 to 36, the number of the library's refusal,
 with what is wrong and what to change; 64 wrong usage; 65 a file with wrong
 contents, as FILE:LINE; 66 a file that cannot be read; 71 no memory; 74 the
 field, plot or matrix cannot be written (without a word if a pipe was closed).
@@ -84,6 +87,7 @@ struct Given {
     matrices: Vec<PathBuf>,
     vectors: Vec<PathBuf>,
     mass: Option<PathBuf>,
+    transposed: bool,
     tau: Option<f64>,
     solver: Option<String>,
     degree: Option<u32>,
@@ -108,6 +112,10 @@ pub fn parse(words: impl Iterator<Item = OsString>) -> Result<Command, Failure> 
         match text {
             "--help" | "-h" => return Ok(Command::Help),
             "--version" => return Ok(Command::Version),
+            "--transpose" => {
+                given.transposed = true;
+                continue;
+            }
             _ => {}
         }
         let (name, value) = match text.split_once('=') {
@@ -166,7 +174,7 @@ impl Given {
             0 | 1 => self.matrices.pop().ok_or_else(|| Failure::Usage("MATRIX is missing".into()))?,
             _ => return Err(Failure::Usage("MATRIX is given twice".into())),
         };
-        Ok(Files { matrix, mass: self.mass.take() })
+        Ok(Files { matrix, mass: self.mass.take(), transposed: std::mem::take(&mut self.transposed) })
     }
 
     fn pair(mut self) -> Result<Pair, Failure> {
@@ -183,7 +191,7 @@ impl Given {
         let files = self.files()?;
         match self == Given::default() {
             true => Ok(files),
-            false => Err(Failure::Usage("check takes a matrix and --mass alone".into())),
+            false => Err(Failure::Usage("check takes a matrix, --mass and --transpose alone".into())),
         }
     }
 

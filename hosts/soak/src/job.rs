@@ -6,7 +6,7 @@ use crate::memory::joined;
 use crate::model::Model;
 use crate::vector::Vector;
 use hazhendu::sizes::{MAX_DEGREE, MAX_VECTORS};
-use hazhendu::{combine, shortest, Cost, Refusal, Soaked, Solver};
+use hazhendu::{combine, shortest, transposed, Cost, Refusal, Soaked, Solver};
 
 pub struct Job<'a> {
     request: &'a Request,
@@ -31,6 +31,7 @@ impl<'a> Job<'a> {
 
     pub fn soak(&self) -> Result<Soaked<Cost>, Failure> {
         let (count, w) = self.flat()?;
+        let combine = if self.request.files.transposed { transposed::combine } else { combine };
         combine(self.request.solver, &self.model.matrix(), self.request.tau, count, &w)
             .map_err(|error| self.model.failure(error, |refusal| self.place(refusal)))
     }

@@ -52,7 +52,7 @@ fn check(files: &Files) -> Result<(), Failure> {
     let largest = model.check()?;
     sink::to_stdout(|to| {
         writeln!(to, "norm {}", shortest(largest.norm))?;
-        writeln!(to, "row {}, sum {}", largest.row + 1, shortest(model.row_sum(largest.row)))
+        writeln!(to, "{} {}, sum {}", model.line(), largest.row + 1, shortest(model.sum(largest.row)))
     })
 }
 
@@ -97,7 +97,8 @@ fn solver_name(request: &Request) -> &'static str {
 }
 
 fn title(request: &Request) -> String {
-    format!("{}, tau {}, {}", request.files.matrix.display(), shortest(request.tau), solver_name(request))
+    let transposed = if request.files.transposed { ", transposed" } else { "" };
+    format!("{}{transposed}, tau {}, {}", request.files.matrix.display(), shortest(request.tau), solver_name(request))
 }
 
 /// Where even this cannot be written, there is nobody to tell.

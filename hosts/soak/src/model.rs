@@ -4,18 +4,20 @@ use crate::failure::Failure;
 use crate::matrix_market;
 use crate::vector::Vector;
 use hazhendu::sizes::MAX_ROWS;
-use hazhendu::{check, Csr, Error, Largest, Matrix, Refusal};
+use hazhendu::{check, transposed, Csr, Error, Largest, Matrix, Refusal};
 use std::path::PathBuf;
 
 #[derive(Debug)]
 pub struct Files {
     pub matrix: PathBuf,
     pub mass: Option<PathBuf>,
+    /// Whether the generator is transposed.
+    pub transposed: bool,
 }
 
 impl Files {
     pub fn bare(matrix: PathBuf) -> Self {
-        Files { matrix, mass: None }
+        Files { matrix, mass: None, transposed: false }
     }
 }
 
@@ -38,6 +40,7 @@ impl<'a> Model<'a> {
     }
 
     pub fn check(&self) -> Result<Largest, Failure> {
+        let check = if self.files.transposed { transposed::check } else { check };
         check(&self.matrix()).map_err(|error| self.failure(error, |refusal| self.place(refusal)))
     }
 
@@ -48,12 +51,29 @@ impl<'a> Model<'a> {
         }
     }
 
-    /// The sum of the sizes in a row, each divided by the row's mass, as the library adds them up.
-    pub fn row_sum(&self, row: usize) -> f64 {
-        let Matrix { starts, entries, mass, .. } = self.matrix();
-        let divisor = mass.map_or(1.0, |mass| mass[row]);
-        let places = starts[row] as usize..starts[row + 1] as usize;
-        entries[places].iter().fold(0.0, |sum, entry| sum + (entry / divisor).abs())
+    /// The sum of the sizes in a row, or with the generator transposed in a column, each divided by its row's mass, as the library adds them up.
+    pub fn sum(&self, line: usize) -> f64 {
+        let Matrix { n, starts, columns, entries, mass } = self.matrix();
+        let rows = if self.files.transposed { 0..n } else { line..line + 1 };
+        let mut sum = 0.0;
+        for row in rows {
+            let divisor = mass.map_or(1.0, |mass| mass[row]);
+            for k in starts[row] as usize..starts[row + 1] as usize {
+                if !self.files.transposed || columns[k] as usize == line {
+                    sum += (entries[k] / divisor).abs();
+                }
+            }
+        }
+        sum
+    }
+
+    /// What the norm is the largest sum of.
+    pub fn line(&self) -> &'static str {
+        if self.files.transposed {
+            "column"
+        } else {
+            "row"
+        }
     }
 
     /// Where a refusal of the matrix or its mass has its cause.

@@ -3,11 +3,9 @@ use borrow.Author.Needs.{needs}
 use mathlib.Core.Path.{refl}
 use Rattle.general_operator.specs.Csr.{csr}
 use Rattle.generator_action.specs.Mass.{given, generator-checks}
+use Rattle.generator_action.specs.Generator.{forward}
 use Rattle.generator_action.proofs.Answered.{passed-up, refusal-told, norm-told, passed}
-use Rattle.checks.proofs.First.{refused-up}
-use Rattle.combination.proofs.Ends.{refused-by}
-use Rattle.phi_action.specs.declared.TaylorAnswer.the-variants.{Refusal}
-use Rattle.phi_action.specs.Calls.{combination-checks, phi-combination}
+use Rattle.phi_action.proofs.Calls.{combination-refused}
 use Rattle.phi_action.proofs.phi_combination.Statement.{statement}
 use Rattle.phi_action.proofs.phi_combination.Tie as tie
 
@@ -20,14 +18,13 @@ combined-requires c κs =
     rw (g .generator-shape .ensures (a .starts .now) (a .cols .now) (a .vals .now) (a .mass .now) refl) (passed _ (a .with-mass) (a .mass .now) told)
 
 returns : tie.Need-returns
-unfolding phi-combination combination-checks
 returns c =
     let m = c .before .before .before .before in
     let a = m .before .before .before .before .before .before .before .before .args in
     let matrix = csr (a .n) (a .starts .now) (a .cols .now) (a .vals .now) in
     let mass = given (a .with-mass) (a .mass .now) in
     let refusal = passed-up (c .before .before .enum-told .given .1) (c .before .number .ensures) (c .value .ensures) in
-    refused-by Refusal _ (a .out .now) (a .work .now) _ refl (refused-up (generator-checks matrix mass) _ refl (refusal-told matrix mass (m .check-generator .ensures) refusal))
+    combination-refused (forward matrix mass) (a .tau) (a .cap) (a .out .now) (a .work .now) (refusal-told matrix mass (m .check-generator .ensures) refusal) (a .count) (a .w .now)
 
 returns-2 : tie.Need-returns-2
 returns-2 c =

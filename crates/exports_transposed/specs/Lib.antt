@@ -1,0 +1,2 @@
+-- What the exported functions on the transposed matrix hand back.
+pub mod Telling

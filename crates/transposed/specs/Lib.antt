@@ -1,0 +1,3 @@
+-- The calls on the transposed matrix.
+pub mod Transposed
+pub mod Inner

@@ -1,0 +1,244 @@
+// The four calls on the transposed matrix, over buffers that are lent for it.
+use generator_action::MatrixAnswer;
+use generator_action::Shape;
+use phi_action::TaylorAnswer;
+use phi_krylov::KrylovAnswer;
+use phi_krylov::KrylovPhiOptions;
+ghost use mathlib.Core.Path.{_≡_};
+ghost use Rattle.checks.specs.First.{first};
+ghost use Rattle.general_operator.specs.Csr.{csr};
+ghost use Rattle.generator_action.specs.Mass.{given};
+ghost use Rattle.transpose.specs.Transpose.{buffers, lengths, buffers-after, transposed-checks};
+ghost use Rattle.combination.specs.Call.{ends};
+ghost use Rattle.transposed.specs.Transposed.{lends, phi-combination-transposed, phi-action-transposed, phi-action-batched-transposed, phi-combination-krylov-transposed};
+ghost use Rattle.transposed.specs.Inner.{shape-answer};
+
+// A refusal's number and double, or what a job takes from its generator.
+enum ShapeAnswer {
+    Refusal(u32, f64),
+    Passed(Shape),
+}
+
+// Every check of the matrix. The transposed generator has no mass; a job over it needs the working memory of the forward one.
+fn transposed_shape(
+    n: usize,
+    starts: &[u32],
+    cols: &[u32],
+    vals: &[f64],
+    with_mass: bool,
+    mass: &[f64],
+    t_starts: &mut [u32],
+    t_cols: &mut [u32],
+    t_vals: &mut [f64],
+) -> ShapeAnswer
+    ensures { λ r. ⌜ r ≡ shape-answer (csr n (now (starts .entry)) (now (cols .entry)) (now (vals .entry))) (given «with_mass» (now (mass .entry))) (first (transposed-checks (csr n (now (starts .entry)) (now (cols .entry)) (now (vals .entry))) (given «with_mass» (now (mass .entry))) (lengths (buffers (now («t_starts» .entry)) (now («t_cols» .entry)) (now («t_vals» .entry)))))) ⌝ }
+    ensures { λ _. ⌜ buffers (now («t_starts» .exit)) (now («t_cols» .exit)) (now («t_vals» .exit)) ≡ buffers-after (csr n (now (starts .entry)) (now (cols .entry)) (now (vals .entry))) (given «with_mass» (now (mass .entry))) (buffers (now («t_starts» .entry)) (now («t_cols» .entry)) (now («t_vals» .entry))) ⌝ }
+{
+    let matrix = transpose::check_transposed(
+        n,
+        starts,
+        cols,
+        vals,
+        with_mass,
+        mass,
+        t_starts,
+        t_cols,
+        t_vals,
+    );
+    match matrix {
+        MatrixAnswer::Refusal(k, x) => ShapeAnswer::Refusal(k, x),
+        MatrixAnswer::Norm(norm, _) => {
+            let forward = generator_action::generator_shape(n, with_mass, vals.len(), norm);
+            ShapeAnswer::Passed(Shape {
+                n: n,
+                with_mass: false,
+                stored: forward.stored,
+                norm: norm,
+            })
+        }
+    }
+}
+
+// `phi_combination` on the transposed quotients, which stay in the buffers.
+pub fn phi_combination_transposed(
+    n: usize,
+    starts: &[u32],
+    cols: &[u32],
+    vals: &[f64],
+    with_mass: bool,
+    mass: &[f64],
+    t_starts: &mut [u32],
+    t_cols: &mut [u32],
+    t_vals: &mut [f64],
+    tau: f64,
+    cap: u32,
+    count: usize,
+    w: &[f64],
+    out: &mut [f64],
+    work: &mut [f64],
+) -> TaylorAnswer
+    ensures { λ r. ⌜ lends (ends r (now (out .exit)) (now (work .exit))) (buffers (now («t_starts» .exit)) (now («t_cols» .exit)) (now («t_vals» .exit))) ≡ phi-combination-transposed (csr n (now (starts .entry)) (now (cols .entry)) (now (vals .entry))) (given «with_mass» (now (mass .entry))) (buffers (now («t_starts» .entry)) (now («t_cols» .entry)) (now («t_vals» .entry))) tau cap count (now (w .entry)) (now (out .entry)) (now (work .entry)) ⌝ }
+{
+    let shape = transposed_shape(
+        n,
+        starts,
+        cols,
+        vals,
+        with_mass,
+        mass,
+        t_starts,
+        t_cols,
+        t_vals,
+    );
+    match shape {
+        ShapeAnswer::Refusal(k, x) => TaylorAnswer::Refusal(k, x),
+        ShapeAnswer::Passed(g) => {
+            let q_rows = &t_starts[..n + 1];
+            let q_cols = &t_cols[..vals.len()];
+            let q_vals = &t_vals[..vals.len()];
+            let none = &mass[..0];
+            phi_action::combined(
+                q_rows,
+                q_cols,
+                q_vals,
+                none,
+                g,
+                tau,
+                cap,
+                count,
+                w,
+                out,
+                work,
+            )
+        }
+    }
+}
+
+// `phi_action` on them.
+pub fn phi_action_transposed(
+    n: usize,
+    starts: &[u32],
+    cols: &[u32],
+    vals: &[f64],
+    with_mass: bool,
+    mass: &[f64],
+    t_starts: &mut [u32],
+    t_cols: &mut [u32],
+    t_vals: &mut [f64],
+    tau: f64,
+    cap: u32,
+    k: usize,
+    v: &[f64],
+    out: &mut [f64],
+    work: &mut [f64],
+) -> TaylorAnswer
+    ensures { λ r. ⌜ lends (ends r (now (out .exit)) (now (work .exit))) (buffers (now («t_starts» .exit)) (now («t_cols» .exit)) (now («t_vals» .exit))) ≡ phi-action-transposed (csr n (now (starts .entry)) (now (cols .entry)) (now (vals .entry))) (given «with_mass» (now (mass .entry))) (buffers (now («t_starts» .entry)) (now («t_cols» .entry)) (now («t_vals» .entry))) tau cap k (now (v .entry)) (now (out .entry)) (now (work .entry)) ⌝ }
+{
+    let shape = transposed_shape(
+        n,
+        starts,
+        cols,
+        vals,
+        with_mass,
+        mass,
+        t_starts,
+        t_cols,
+        t_vals,
+    );
+    match shape {
+        ShapeAnswer::Refusal(k, x) => TaylorAnswer::Refusal(k, x),
+        ShapeAnswer::Passed(g) => {
+            let q_rows = &t_starts[..n + 1];
+            let q_cols = &t_cols[..vals.len()];
+            let q_vals = &t_vals[..vals.len()];
+            let none = &mass[..0];
+            phi_action::acted(q_rows, q_cols, q_vals, none, g, tau, cap, k, v, out, work)
+        }
+    }
+}
+
+// `phi_action_batched` on them.
+pub fn phi_action_batched_transposed(
+    n: usize,
+    starts: &[u32],
+    cols: &[u32],
+    vals: &[f64],
+    with_mass: bool,
+    mass: &[f64],
+    t_starts: &mut [u32],
+    t_cols: &mut [u32],
+    t_vals: &mut [f64],
+    tau: f64,
+    cap: u32,
+    p: usize,
+    v: &[f64],
+    out: &mut [f64],
+    work: &mut [f64],
+) -> TaylorAnswer
+    ensures { λ r. ⌜ lends (ends r (now (out .exit)) (now (work .exit))) (buffers (now («t_starts» .exit)) (now («t_cols» .exit)) (now («t_vals» .exit))) ≡ phi-action-batched-transposed (csr n (now (starts .entry)) (now (cols .entry)) (now (vals .entry))) (given «with_mass» (now (mass .entry))) (buffers (now («t_starts» .entry)) (now («t_cols» .entry)) (now («t_vals» .entry))) tau cap p (now (v .entry)) (now (out .entry)) (now (work .entry)) ⌝ }
+{
+    let shape = transposed_shape(
+        n,
+        starts,
+        cols,
+        vals,
+        with_mass,
+        mass,
+        t_starts,
+        t_cols,
+        t_vals,
+    );
+    match shape {
+        ShapeAnswer::Refusal(k, x) => TaylorAnswer::Refusal(k, x),
+        ShapeAnswer::Passed(g) => {
+            let q_rows = &t_starts[..n + 1];
+            let q_cols = &t_cols[..vals.len()];
+            let q_vals = &t_vals[..vals.len()];
+            let none = &mass[..0];
+            phi_action::acted_batched(q_rows, q_cols, q_vals, none, g, tau, cap, p, v, out, work)
+        }
+    }
+}
+
+// `phi_combination_krylov` on them.
+pub fn phi_combination_krylov_transposed(
+    n: usize,
+    starts: &[u32],
+    cols: &[u32],
+    vals: &[f64],
+    with_mass: bool,
+    mass: &[f64],
+    t_starts: &mut [u32],
+    t_cols: &mut [u32],
+    t_vals: &mut [f64],
+    tau: f64,
+    count: usize,
+    w: &[f64],
+    o: KrylovPhiOptions,
+    out: &mut [f64],
+    work: &mut [f64],
+) -> KrylovAnswer
+    ensures { λ r. ⌜ lends (ends r (now (out .exit)) (now (work .exit))) (buffers (now («t_starts» .exit)) (now («t_cols» .exit)) (now («t_vals» .exit))) ≡ phi-combination-krylov-transposed (csr n (now (starts .entry)) (now (cols .entry)) (now (vals .entry))) (given «with_mass» (now (mass .entry))) (buffers (now («t_starts» .entry)) (now («t_cols» .entry)) (now («t_vals» .entry))) tau count (now (w .entry)) o (now (out .entry)) (now (work .entry)) ⌝ }
+{
+    let shape = transposed_shape(
+        n,
+        starts,
+        cols,
+        vals,
+        with_mass,
+        mass,
+        t_starts,
+        t_cols,
+        t_vals,
+    );
+    match shape {
+        ShapeAnswer::Refusal(k, x) => KrylovAnswer::Refusal(k, x),
+        ShapeAnswer::Passed(g) => {
+            let q_rows = &t_starts[..n + 1];
+            let q_cols = &t_cols[..vals.len()];
+            let q_vals = &t_vals[..vals.len()];
+            let none = &mass[..0];
+            phi_krylov::combined(q_rows, q_cols, q_vals, none, g, tau, count, w, o, out, work)
+        }
+    }
+}
