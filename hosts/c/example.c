@@ -88,6 +88,24 @@ static uint32_t join(size_t mount_n)
     return number;
 }
 
+/* What 1 K more at each piece at the start adds to the reading, the last piece's temperature, after tau: phi_0 of the transposed generator. */
+static uint32_t sensitivity(double tau, size_t t_len, double *out, double *work, size_t work_len)
+{
+    static const double reading[N] = {0, 0, 0, 1};
+    uint32_t t_starts[N + 1], t_cols[ENTRIES];
+    double value, t_vals[ENTRIES];
+    uint32_t s, m;
+    uint64_t applications;
+    uint32_t number = hazhendu_phi_action_transposed(
+        N, starts, N + 1, cols, ENTRIES, vals, ENTRIES, true, mass, N, t_starts, N + 1, t_cols, t_len, t_vals, ENTRIES, tau, HAZHENDU_MAX_DEGREE, 0,
+        reading, N, out, N, work, work_len, &value, &s, &m, &applications);
+    if (number == HAZHENDU_ACCEPTED)
+        printf("transposed: s %u, m %u, mu %.17g, %llu applications\n", s, m, value, (unsigned long long)applications);
+    else
+        printf("transposed: refused, number %u, double %g\n", number, value);
+    return number;
+}
+
 /* The same job by either solver must give what that solver's own call gave. */
 static bool same_by_choice(bool krylov, const double *field, double *work, size_t work_len)
 {
@@ -129,6 +147,15 @@ int main(void)
         if (!(fabs(taylor[i] - krylov[i]) <= 1e-8))
             return 1;
     if (!same_by_choice(false, taylor, work, taylor_work) || !same_by_choice(true, krylov, work, krylov_work))
+        return 1;
+
+    double moved_by[N];
+    size_t action_work = hazhendu_action_work(N, ENTRIES, true);
+    printf("what 1 K more at each piece adds to the last piece after 60 s, in K; and with a buffer that is short\n");
+    if (action_work > WORK || sensitivity(60, ENTRIES, moved_by, work, action_work) != HAZHENDU_ACCEPTED)
+        return 1;
+    print_field(moved_by);
+    if (sensitivity(60, ENTRIES - 1, moved_by, work, action_work) != HAZHENDU_TRANSPOSED_LENGTH)
         return 1;
 
     printf("a time that is negative\n");
