@@ -88,16 +88,17 @@ static uint32_t join(size_t mount_n)
     return number;
 }
 
-/* What 1 K more at each piece at the start adds to the reading, the last piece's temperature, after tau: phi_0 of the transposed generator. */
+/* What 1 K more at each piece at the start adds to the reading, the last piece's temperature, after tau: phi_0 of the transposed generator. The
+   pieces have other heat capacities here. */
 static uint32_t sensitivity(double tau, size_t t_len, double *out, double *work, size_t work_len)
 {
-    static const double reading[N] = {0, 0, 0, 1};
+    static const double reading[N] = {0, 0, 0, 1}, capacities[N] = {8, 4, 16, 2};
     uint32_t t_starts[N + 1], t_cols[ENTRIES];
     double value, t_vals[ENTRIES];
     uint32_t s, m;
     uint64_t applications;
     uint32_t number = hazhendu_phi_action_transposed(
-        N, starts, N + 1, cols, ENTRIES, vals, ENTRIES, true, mass, N, t_starts, N + 1, t_cols, t_len, t_vals, ENTRIES, tau, HAZHENDU_MAX_DEGREE, 0,
+        N, starts, N + 1, cols, ENTRIES, vals, ENTRIES, true, capacities, N, t_starts, N + 1, t_cols, t_len, t_vals, ENTRIES, tau, HAZHENDU_MAX_DEGREE, 0,
         reading, N, out, N, work, work_len, &value, &s, &m, &applications);
     if (number == HAZHENDU_ACCEPTED)
         printf("transposed: s %u, m %u, mu %.17g, %llu applications\n", s, m, value, (unsigned long long)applications);

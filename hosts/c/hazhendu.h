@@ -14,8 +14,10 @@
  *   hazhendu_phi_action:                                         phi_k(tau G) v
  *   hazhendu_phi_action_batched:                                 phi_0(tau G) v, phi_1(tau G) v, ..., phi_p(tau G) v
  *   hazhendu_check_generator:                                    the norm of G, which is the largest sum of the sizes in a row, and the first row that has it
- *   the first four with _transposed, hazhendu_check_transposed:  the same with the transposed matrix: -A, divided row by row by the mass if
- *                                                                there is one, then transposed. What moves one reading is one such soak
+ *   hazhendu_phi_combination_transposed, hazhendu_phi_combination_krylov_transposed, hazhendu_phi_action_transposed,
+ *   hazhendu_phi_action_batched_transposed, hazhendu_check_transposed:
+ *                                                                the same with the transposed matrix: -A, divided row by row by the mass if
+ *                                                                there is one, then transposed. Which node moves a reading is one such soak
  *   hazhendu_join:                                               two matrices over the same rows, a barrel's and its mount's, as one
  *
  * phi_0 is the exponential, and phi_k(z) = (phi_{k-1}(z) - 1/(k-1)!) / z. For heat, C dT/dt = -A T + q with T = T_0 at time 0, A in W/K,
@@ -24,9 +26,9 @@
  *
  * ACCURACY OF ONE PRODUCT
  *
- * In one product with G without a mass, row i of k entries: the computed flow differs from minus the exact sum of the products
- * A[i][j] * x[j] by at most k * 2^-52 (about 2.2e-16 per stored entry) times the exact sum of their sizes, provided that every exact product
- * is 0 or at least 2^-1022 in size and that nothing becomes infinite. A row without entries is exact. A call makes many such products, and
+ * In one product of G without a mass with a finite x, row i of k stored entries e: the computed flow differs from minus the exact sum of the
+ * products vals[e] * x[cols[e]] by at most k * 2^-52 (about 2.2e-16 per stored entry) times the exact sum of their sizes, provided that every
+ * exact product is 0 or at least 2^-1022 in size and that nothing becomes infinite. A row without entries is exact. A call makes many such products, and
  * nothing is said here of how their errors add up.
  *
  *
@@ -100,7 +102,7 @@
  * WHAT A CALL CHANGES
  *
  *   accepted           out is the answer; the needed length of work holds +0, the rest is unchanged
- *   refused, 1 to 26   out and work are unchanged, and so after 33
+ *   refused, 1 to 26   out and work are unchanged, and so after 30 and 33
  *   refused, 27 to 29  out is the state after the last accepted substep, the needed length of work holds +0. If no substep was accepted
  *                      (28 or 29 in the first), out is w_0 scaled by a power of two and back: its numbers, but for those so small beside
  *                      the largest that the scaling makes them subnormal

@@ -1,6 +1,6 @@
 //! The calls on memory that the caller lends: nothing is allocated.
 //!
-//! A refusal from 1 to 26, or 33, leaves `out` and `work` unchanged. After 27 to 29 `out` holds the state after the last accepted
+//! A refusal from 1 to 26, by 30 or by 33 leaves `out` and `work` unchanged. After 27 to 29 `out` holds the state after the last accepted
 //! substep. After an accepted job, and after 27 to 29, the needed length of `work` holds +0. [`crate::sizes`] says how long
 //! `work` has to be. A refused join changes nothing. [`transposed`] says what the buffers for a transposed matrix hold.
 

@@ -41,8 +41,8 @@ const MEANINGS: [Meaning; 33] = [
     meaning(5, "a column is n or more", "the column", "count columns from 0 to n - 1"),
     meaning(
         6,
-        "an entry of the matrix is infinite or not a number",
-        "the entry",
+        "an entry of the matrix, or the sum of two in a join, is infinite or not a number",
+        "the entry or sum",
         "give finite entries, and to a join entries whose sum is finite",
     ),
     meaning(7, "the mass does not have one number for each row", "how many it has", "give n masses for a matrix of n rows"),
@@ -61,9 +61,9 @@ const MEANINGS: [Meaning; 33] = [
     ),
     meaning(
         11,
-        "the sizes of a row's entries, or transposed of a column's, have no finite sum",
+        "the sizes of a row's entries have no finite sum, or transposed of a column's, each divided by its row's mass if there is one",
         "the sum",
-        "take other units, in which the entries are lower",
+        "take other units, in which the entries are lower or the masses higher",
     ),
     meaning(12, "there are not 1 to 4 vectors", "how many there are", "give w_0 and at most three more"),
     meaning(13, "the index of the phi-function is above 3", "the index", "ask for phi_0 to phi_3"),

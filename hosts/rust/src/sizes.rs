@@ -59,7 +59,7 @@ pub fn starts(n: usize) -> usize {
     n + 1
 }
 
-/// Columns, and entries, that are enough for a join of two matrices with so many entries: no two of them fall on one place.
+/// Columns, and entries, that are enough for a join of two matrices with so many entries, even if no two of them fall on one place.
 pub fn joined(barrel: usize, mount: usize) -> usize {
     if barrel > MAX_ENTRIES || mount > MAX_ENTRIES {
         return 0;

@@ -1,16 +1,20 @@
 //! The calls on the transposed matrix: which node moves a reading.
 //!
-//! One reading of a soak, taken as r . T with weights r, is moved by the start temperature of node i by entry i of phi_0(tau G^T) r, and by a steady
-//! power there by entry i of tau phi_1(tau G^T) r:
+//! One reading of a soak, taken as r . T with weights r, is moved by 1 K more at node i at the start by entry i of phi_0(tau G^T) r, and by 1 W of
+//! steady power there by entry i of tau phi_1(tau G^T) r divided by the mass of node i:
 //!
 //! ```
-//! use hazhendu::{phi_action, transposed, Matrix, TaylorOptions};
+//! use hazhendu::{phi_action, phi_combination, transposed, Matrix, TaylorOptions};
 //!
 //! // Two bodies of 8 and 4 J/K, joined by 0.5 W/K; the second loses 0.1 W/K to the room. The reading is the second's temperature.
 //! let a = Matrix::new(2, &[0, 2, 4], &[0, 1, 0, 1], &[0.5, -0.5, -0.5, 0.6]).with_mass(&[8.0, 4.0]);
 //! let moved_by = transposed::phi_action(&a, 60.0, 0, &[0.0, 1.0], TaylorOptions::default())?.field;
 //! let warmer_first = phi_action(&a, 60.0, 0, &[1.0, 0.0], TaylorOptions::default())?.field;
 //! assert!((moved_by[0] - warmer_first[1]).abs() < 1e-12);
+//!
+//! let per_rate = transposed::phi_action(&a, 60.0, 1, &[0.0, 1.0], TaylorOptions::default())?.field;
+//! let heated = phi_combination(&a, 60.0, 2, &[0.0, 0.0, 1.0 / 8.0, 0.0], TaylorOptions::default())?.field;
+//! assert!((60.0 * per_rate[0] / 8.0 - heated[1]).abs() < 1e-12);
 //! # Ok::<(), hazhendu::Error>(())
 //! ```
 //!

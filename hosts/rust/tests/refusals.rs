@@ -177,6 +177,7 @@ fn limit_leaves_the_state_after_the_last_substep() {
     assert!(state[7] < 20.0 && state[7] > 0.0 && state.iter().all(|x| x.is_finite()));
     let whole = phi_combination_krylov(&ROD, 10.0, 1, &[20.0; 8], KrylovOptions { max_substeps: 100_000, ..short }).unwrap();
     assert!(whole.field[7] < state[7]);
+    assert_eq!((whole.cost.shortest_step, whole.cost.last_step), (6.9e-5, 0.02080099999999918));
 }
 
 #[test]

@@ -1,6 +1,6 @@
 //! The calls on the transposed matrix, over buffers that the caller lends for it.
 //!
-//! A refusal by 1 to 10, by 11 of the matrix itself, or by 30 leaves the buffers unchanged. After every other answer their fronts hold the
+//! A refusal by 1 to 10, by 11 of the matrix itself, or by 30 leaves the buffers unchanged, and `out` and `work` too. After every other answer their fronts hold the
 //! matrix, each row divided by its mass if there is one, transposed; places beyond it are unchanged. Of `out` and `work` holds what
 //! [`crate::lent`] says; `work` is as long as for the same call on the matrix itself.
 
