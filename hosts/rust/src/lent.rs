@@ -4,7 +4,7 @@
 //! substep. After an accepted job, and after 27 to 29, the needed length of `work` holds +0. [`crate::sizes`] says how long
 //! `work` has to be. A refused join changes nothing. [`transposed`] says what the buffers for a transposed matrix hold.
 
-use crate::{sys, Cost, KrylovOptions, Largest, Matrix, Plan, Refusal, Report, Solver, TaylorOptions};
+use crate::{environment, sys, Cost, KrylovOptions, Largest, Matrix, Plan, Refusal, Report, Solver, TaylorOptions};
 
 pub mod transposed;
 
@@ -21,7 +21,7 @@ macro_rules! call {
         let mass = $a.mass.unwrap_or(&[]);
         // SAFETY: every pointer comes from a slice, with that slice's length, or from a local, so that it is aligned, not null and valid
         // for its length; what is written is borrowed exclusively. The functions are proved to stay within the lengths handed in.
-        unsafe {
+        $crate::environment::usual(|| unsafe {
             sys::$name(
                 $a.n,
                 $a.starts.as_ptr(),
@@ -35,7 +35,7 @@ macro_rules! call {
                 mass.len(),
                 $($argument),+
             )
-        }
+        })
     }};
 }
 
@@ -53,7 +53,7 @@ pub fn check(a: &Matrix) -> Result<Largest, Refusal> {
 pub fn join(a: &Matrix, b: &Matrix, starts: &mut [u32], columns: &mut [u32], entries: &mut [f64]) -> Result<usize, Refusal> {
     let (mut value, mut count) = (0.0, 0);
     // SAFETY: as in `call!`; the slices of the result are borrowed exclusively.
-    let number = unsafe {
+    let number = environment::usual(|| unsafe {
         sys::hazhendu_join(
             a.n,
             a.starts.as_ptr(),
@@ -78,7 +78,7 @@ pub fn join(a: &Matrix, b: &Matrix, starts: &mut [u32], columns: &mut [u32], ent
             &mut value,
             &mut count,
         )
-    };
+    });
     unless_refused(number, value, count)
 }
 

@@ -18,17 +18,25 @@
 //!
 //! Every input gets a result or a numbered [`Refusal`]; whether a matrix or a job is valid is the library's to say, and
 //! nothing here panics. The functions here allocate output and working memory; those of [`lent`] work on memory that the
-//! caller lends. A call cannot be interrupted.
+//! caller lends. A call runs to its end, and its thread hears of nothing in between; the process can be stopped at any time. [`matrix_market`]
+//! and [`vectors`] read and write files.
 
 #![deny(unsafe_op_in_unsafe_fn)]
 
+pub mod environment;
 pub mod lent;
+mod lines;
+pub mod matrix_market;
 mod refusal;
 pub mod sizes;
 pub mod sys;
 pub mod transposed;
+mod triplets;
+pub mod vectors;
 
+pub use lines::ReadError;
 pub use refusal::{Error, Refusal};
+pub use triplets::Triplets;
 
 /// A sparse matrix by rows, as it is handed to the library, and a mass if there is one.
 #[derive(Clone, Copy, Debug, PartialEq)]
@@ -248,6 +256,12 @@ pub(crate) fn zeros<T: Copy + Default>(length: usize) -> Result<Vec<T>, Error> {
     memory.try_reserve_exact(length).map_err(|_| Error::OutOfMemory { doubles: length })?;
     memory.resize(length, T::default());
     Ok(memory)
+}
+
+pub(crate) fn push<T>(list: &mut Vec<T>, value: T) -> Result<(), Error> {
+    list.try_reserve(1).map_err(|_| Error::OutOfMemory { doubles: list.len() })?;
+    list.push(value);
+    Ok(())
 }
 
 /// The shortest decimal that reads back as the same double.

@@ -1,66 +1,18 @@
 //! The command line.
 
 use crate::failure::Failure;
+use crate::guard;
+use crate::input::Source;
 use crate::join::Pair;
 use crate::model::Files;
+use crate::sink::is_standard_output;
 use hazhendu::sizes::MAX_DEGREE;
 use hazhendu::{KrylovOptions, Solver, TaylorOptions};
 use std::ffi::OsString;
 use std::path::PathBuf;
 use std::str::FromStr;
 
-pub const HELP: &str = "\
-soak: temperatures of a thermal model after a time, by the proved library hazhendu
-
-  soak MATRIX --tau T --vector FILE [--vector FILE ...] [--mass FILE] [--transpose]
-       [--solver taylor|krylov] [--degree N] [--tol X] [--m N]
-       [--limit N] [--output FILE] [--plot FILE.svg]
-  soak check MATRIX [--mass FILE] [--transpose]
-  soak join BARREL MOUNT [--output FILE]
-
-computes the sum over k of T^k phi_k(T G) w_k, where G = -A, or -A with each row
-divided by its mass. For C dT/dt = -A T + q the mass is C (J/K), w_0 the
-temperatures at the start (K), w_1 = q / C (K/s), and A the conductances (W/K).
-
-  MATRIX           A as a Matrix Market file: coordinate, real or integer, general
-                   or symmetric; entries that repeat add up
-  --tau T          the time, in seconds if the rest is in SI units
-  --vector FILE    w_0, then w_1, and so on, at most four: one number a line;
-                   blank lines and lines that begin with # or % are skipped
-  --mass FILE      one number above 0 for each row, in the same form
-  --transpose      with G transposed: which node moves a reading. For the weights of
-                   a reading as w_0, entry i is what 1 K more at node i at the start
-                   adds to it
-  --solver NAME    taylor (if not given) or krylov
-  --degree N       taylor: the highest degree of a sweep, 1 to 30 (30)
-  --tol X          krylov: accuracy relative to the norm of the start (1e-10)
-  --m N            krylov: columns of a substep, at most 128 (30)
-  --limit N        krylov: most substeps, at most 1000000 (100000)
-  --output FILE    the field goes there, not to the standard output
-  --plot FILE.svg  a plot of the field over its rows
-  --help, --version
-
-soak check makes the checks of the matrix and its mass alone, and prints the
-norm of G, which is the largest sum of the sizes in a row, the first row that
-has it, from 1, and that row's sum; with --transpose column for row.
-
-soak join makes one matrix of a barrel's and its mount's, which have the same
-rows: an entry of both is one rounded sum, the barrel's first, and a sum of 0 is
-kept. In both files the entries of a row are in the order of their columns, each
-column once. The result is a Matrix Market file (coordinate, real, general), row
-by row.
-
-The field is one number a line, the shortest decimal that reads back as the same
-double, so that it can be a --vector again. One line about the work done goes to
-the standard error. A call of the library cannot be interrupted and tells nothing
-on the way: on a terminal the size of the job is told before it and the time it
-took after it, and there is no progress between.
-
-Status: 0; 1 to 22, 24 to 30 or 33 to 36, the number of the library's refusal,
-with what is wrong and what to change; 64 wrong usage; 65 a file with wrong
-contents, as FILE:LINE; 66 a file that cannot be read; 71 no memory; 74 the
-field, plot or matrix cannot be written (without a word if a pipe was closed).
-";
+pub const HELP: &str = include_str!("help.txt");
 
 #[derive(Debug)]
 pub enum Command {
@@ -74,19 +26,39 @@ pub enum Command {
 #[derive(Debug)]
 pub struct Request {
     pub files: Files,
-    pub vectors: Vec<PathBuf>,
+    pub vectors: Vec<Source>,
     pub tau: f64,
     pub solver: Solver,
-    pub output: Option<PathBuf>,
+    pub output: PathBuf,
     pub plot: Option<PathBuf>,
+}
+
+impl Request {
+    /// Where the state goes that a refused run leaves: never under the field's name.
+    pub fn state(&self) -> PathBuf {
+        match is_standard_output(&self.output) {
+            true => self.output.clone(),
+            false => {
+                let mut name = self.output.clone().into_os_string();
+                name.push(".state");
+                name.into()
+            }
+        }
+    }
+
+    fn guarded(&self) -> guard::Files<'_> {
+        let state = Some(self.state()).filter(|path| !is_standard_output(path));
+        let files = guard::Files::default().reads(self.files.sources()).reads(&self.vectors);
+        files.writes("--output", [&self.output]).writes("the state of --output", state).writes("--plot", &self.plot)
+    }
 }
 
 /// What has been given so far.
 #[derive(Default, PartialEq)]
 struct Given {
-    matrices: Vec<PathBuf>,
-    vectors: Vec<PathBuf>,
-    mass: Option<PathBuf>,
+    matrices: Vec<Source>,
+    vectors: Vec<Source>,
+    mass: Option<Source>,
     transposed: bool,
     tau: Option<f64>,
     solver: Option<String>,
@@ -105,8 +77,8 @@ pub fn parse(words: impl Iterator<Item = OsString>) -> Result<Command, Failure> 
     let mut given = Given::default();
     while let Some(word) = words.next() {
         let text = word.to_str().unwrap_or_default();
-        if !text.starts_with('-') {
-            given.matrices.push(PathBuf::from(word));
+        if !text.starts_with('-') || text == "-" {
+            given.matrices.push(Source(word.into()));
             continue;
         }
         match text {
@@ -136,8 +108,8 @@ pub fn parse(words: impl Iterator<Item = OsString>) -> Result<Command, Failure> 
 impl Given {
     fn option(&mut self, name: &str, value: impl FnOnce() -> Result<OsString, Failure>) -> Result<(), Failure> {
         match name {
-            "--vector" => self.vectors.push(value()?.into()),
-            "--mass" => once(name, &mut self.mass, value()?.into())?,
+            "--vector" => self.vectors.push(Source(value()?.into())),
+            "--mass" => once(name, &mut self.mass, Source(value()?.into()))?,
             "--output" => once(name, &mut self.output, value()?.into())?,
             "--plot" => once(name, &mut self.plot, value()?.into())?,
             "--tau" => once(name, &mut self.tau, read(name, value()?, "a number")?)?,
@@ -179,9 +151,12 @@ impl Given {
 
     fn pair(mut self) -> Result<Pair, Failure> {
         let output = self.output.take();
-        let matrices = <[PathBuf; 2]>::try_from(std::mem::take(&mut self.matrices));
+        let matrices = <[Source; 2]>::try_from(std::mem::take(&mut self.matrices));
         match matrices {
-            Ok([barrel, mount]) if self == Given::default() => Ok(Pair { barrel: Files::bare(barrel), mount: Files::bare(mount), output }),
+            Ok([barrel, mount]) if self == Given::default() => {
+                guard::Files::default().reads([&barrel, &mount]).writes("--output", &output).check()?;
+                Ok(Pair { barrel: Files::bare(barrel), mount: Files::bare(mount), output })
+            }
             Ok(_) => Err(Failure::Usage("join takes two matrices and --output alone".into())),
             Err(_) => Err(Failure::Usage("join wants two matrices, BARREL and MOUNT".into())),
         }
@@ -189,6 +164,7 @@ impl Given {
 
     fn files_alone(mut self) -> Result<Files, Failure> {
         let files = self.files()?;
+        guard::Files::default().reads(files.sources()).check()?;
         match self == Given::default() {
             true => Ok(files),
             false => Err(Failure::Usage("check takes a matrix, --mass and --transpose alone".into())),
@@ -196,18 +172,16 @@ impl Given {
     }
 
     fn request(mut self) -> Result<Request, Failure> {
-        let solver = self.solver()?;
-        if self.output.is_some() && self.output == self.plot {
-            return Err(Failure::Usage("--output and --plot name the same file".into()));
-        }
-        Ok(Request {
+        let request = Request {
+            solver: self.solver()?,
             files: self.files()?,
             tau: self.tau.ok_or_else(|| Failure::Usage("--tau is missing".into()))?,
             vectors: self.vectors,
-            solver,
-            output: self.output,
+            output: self.output.unwrap_or_else(|| "-".into()),
             plot: self.plot,
-        })
+        };
+        request.guarded().check()?;
+        Ok(request)
     }
 }
 

@@ -3,7 +3,6 @@
 use hazhendu::Refusal;
 use std::fmt;
 use std::io;
-use std::path::{Path, PathBuf};
 
 #[derive(Debug)]
 pub enum Failure {
@@ -14,7 +13,7 @@ pub enum Failure {
         wrong: String,
     },
     CannotRead {
-        path: PathBuf,
+        name: String,
         error: io::Error,
     },
     OutOfMemory {
@@ -24,16 +23,18 @@ pub enum Failure {
         name: String,
         error: io::Error,
     },
-    /// A refusal of the library; `place` says where in the files or options its cause is, if that is known.
+    /// A refusal of the library; `place` says where in the files or options its cause is, if that is known, and `state` is what a run
+    /// that was begun has left.
     Refused {
         refusal: Refusal,
         place: Option<String>,
+        state: Option<Vec<f64>>,
     },
 }
 
 impl Failure {
-    pub fn cannot_read(path: &Path, error: io::Error) -> Self {
-        Failure::CannotRead { path: path.to_owned(), error }
+    pub fn refused(refusal: Refusal, place: Option<String>) -> Self {
+        Failure::Refused { refusal, place, state: None }
     }
 
     /// A refusal's number is its status; the others are those of sysexits.h, beyond all refusals.
@@ -59,10 +60,10 @@ impl fmt::Display for Failure {
         match self {
             Failure::Usage(wrong) => write!(f, "soak: {wrong}\nsoak --help tells how it is used"),
             Failure::BadFile { place, wrong } => write!(f, "{place}: {wrong}"),
-            Failure::CannotRead { path, error } => write!(f, "soak: cannot read {}: {error}", path.display()),
+            Failure::CannotRead { name, error } => write!(f, "soak: cannot read {name}: {error}"),
             Failure::OutOfMemory { doubles } => write!(f, "soak: no memory for {doubles} numbers"),
             Failure::CannotWrite { name, error } => write!(f, "soak: cannot write {name}: {error}"),
-            Failure::Refused { refusal, place } => {
+            Failure::Refused { refusal, place, .. } => {
                 write!(f, "soak: refused ({}): {}", refusal.number, refusal.wrong())?;
                 if let Some(told) = refusal.told() {
                     write!(f, "\n  {told}")?;

@@ -2,9 +2,9 @@
 
 use crate::arguments::Request;
 use crate::failure::Failure;
+use crate::input::{Source, Vector};
 use crate::memory::joined;
 use crate::model::Model;
-use crate::vector::Vector;
 use hazhendu::sizes::{MAX_DEGREE, MAX_VECTORS};
 use hazhendu::{combine, shortest, transposed, Cost, Refusal, Soaked, Solver};
 
@@ -19,7 +19,7 @@ impl<'a> Job<'a> {
         Ok(Job {
             request,
             model: Model::read(&request.files)?,
-            vectors: request.vectors.iter().map(|path| Vector::read(path)).collect::<Result<_, _>>()?,
+            vectors: request.vectors.iter().map(Source::vector).collect::<Result<_, _>>()?,
         })
     }
 
@@ -70,8 +70,8 @@ impl<'a> Job<'a> {
             19 => Some("--limit".into()),
             20 => Some("--m or --limit".into()),
             21 | 22 => Some("--tau and the vectors from the second on".into()),
-            25 => Some(format!("--tau {}, {}{}", shortest(self.request.tau), self.request.files.matrix.display(), self.degree())),
-            24 => Some(format!("--tau {} and {}", shortest(self.request.tau), self.request.files.matrix.display())),
+            25 => Some(format!("--tau {}, {}{}", shortest(self.request.tau), self.request.files.matrix, self.degree())),
+            24 => Some(format!("--tau {} and {}", shortest(self.request.tau), self.request.files.matrix)),
             27 => Some("--limit".into()),
             _ => self.model.place(refusal),
         }

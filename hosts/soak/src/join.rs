@@ -37,7 +37,7 @@ impl<'a> Parts<'a> {
 
     /// Where a refusal of the two together has its cause.
     fn place(&self, refusal: Refusal) -> Option<String> {
-        let (barrel, mount) = (self.pair.barrel.matrix.display(), self.pair.mount.matrix.display());
+        let (barrel, mount) = (&self.pair.barrel.matrix, &self.pair.mount.matrix);
         match refusal.number {
             3 => Some(format!("{barrel} and {mount} together")),
             6 => self.infinite_sum().map(|(row, column)| format!("the sum of {barrel} and {mount}, row {row}, column {column}")),

@@ -4,24 +4,24 @@
 
 mod arguments;
 mod failure;
+mod guard;
+mod input;
 mod job;
 mod join;
-mod lines;
-mod matrix_market;
 mod memory;
 mod model;
 mod plot;
 mod sink;
-mod vector;
 
 use arguments::{Command, Request};
 use failure::Failure;
-use hazhendu::{shortest, Solver};
+use hazhendu::{matrix_market, shortest, vectors, Cost, Refusal, Soaked, Solver};
 use job::Job;
 use join::{Pair, Parts};
 use model::{Files, Model};
 use sink::Sink;
 use std::io::{self, IsTerminal, Write};
+use std::path::Path;
 use std::process::ExitCode;
 use std::time::Instant;
 
@@ -52,40 +52,77 @@ fn check(files: &Files) -> Result<(), Failure> {
     let largest = model.check()?;
     sink::to_stdout(|to| {
         writeln!(to, "norm {}", shortest(largest.norm))?;
-        writeln!(to, "{} {}, sum {}", model.line(), largest.row + 1, shortest(model.sum(largest.row)))
+        writeln!(to, "{} {}, sum {}", model.line(), largest.row + 1, shortest(model.sums()[largest.row]))
     })
 }
 
 fn join(pair: &Pair) -> Result<(), Failure> {
     let parts = Parts::read(pair)?;
-    let output = pair.output.as_deref().map(Sink::open).transpose()?;
+    let output = Sink::open(pair.output.as_deref().unwrap_or(Path::new("-")))?;
     let joined = parts.joined()?;
-    let write = |to: &mut dyn Write| matrix_market::write(to, &joined);
-    match output {
-        Some(sink) => sink.fill(write)?,
-        None => sink::to_stdout(write)?,
-    }
+    output.fill(|to| matrix_market::write(to, &joined.matrix()))?;
     tell(&parts.cost_line(&joined));
     Ok(())
 }
 
+/// Where a soak writes, each tried before the run.
+struct Sinks {
+    output: Sink,
+    state: Sink,
+    plot: Option<Sink>,
+}
+
+impl Sinks {
+    fn open(request: &Request) -> Result<Self, Failure> {
+        Ok(Sinks {
+            output: Sink::open(&request.output)?,
+            state: Sink::open(&request.state())?,
+            plot: request.plot.as_deref().map(Sink::open).transpose()?,
+        })
+    }
+}
+
 fn soak(request: &Request) -> Result<(), Failure> {
     let job = Job::read(request)?;
-    let output = request.output.as_deref().map(Sink::open).transpose()?;
-    let plot = request.plot.as_deref().map(Sink::open).transpose()?;
-    tell_terminal(&format!("soak: {}, solver {}; a call cannot be interrupted", job.size(), solver_name(request)));
+    let sinks = Sinks::open(request)?;
+    tell_terminal(&format!("soak: {}, solver {}", job.size(), solver_name(request)));
     let begun = Instant::now();
-    let soaked = job.soak()?;
+    let soaked = job.soak();
     tell_terminal(&format!("soak: {:.3} s", begun.elapsed().as_secs_f64()));
-    let write_field = |to: &mut dyn Write| soaked.field.iter().try_for_each(|x| writeln!(to, "{}", shortest(*x)));
-    match output {
-        Some(sink) => sink.fill(write_field)?,
-        None => sink::to_stdout(write_field)?,
+    match soaked {
+        Ok(soaked) => write_field(request, &sinks, &soaked),
+        Err(failure) => {
+            if let Failure::Refused { refusal, state: Some(state), .. } = &failure {
+                write_state(request, &sinks, *refusal, state)?;
+            }
+            Err(failure)
+        }
     }
-    if let Some(sink) = plot {
-        sink.fill(|to| plot::write(to, &title(request), &soaked.field))?;
+}
+
+fn write_field(request: &Request, sinks: &Sinks, soaked: &Soaked<Cost>) -> Result<(), Failure> {
+    sinks.output.fill(|to| vectors::write(to, &soaked.field))?;
+    if let Some(plot) = &sinks.plot {
+        plot.fill(|to| plot::write(to, &title(request), &soaked.field))?;
     }
     tell(&job::cost_line(&soaked.cost));
+    Ok(())
+}
+
+/// A comment says what it is, so that nobody takes it for the field; as a vector it reads back.
+fn write_state(request: &Request, sinks: &Sinks, refusal: Refusal, state: &[f64]) -> Result<(), Failure> {
+    sinks.state.fill(|to| {
+        writeln!(
+            to,
+            "# not the field at tau {}: the state after the last accepted substep of a run refused by {}",
+            shortest(request.tau),
+            refusal.number
+        )?;
+        vectors::write(to, state)
+    })?;
+    let place = request.state();
+    let told = if sink::is_standard_output(&place) { "above".into() } else { format!("in {}", place.display()) };
+    tell(&format!("soak: the state after the last accepted substep, at an earlier time than tau, is {told}"));
     Ok(())
 }
 
@@ -98,7 +135,7 @@ fn solver_name(request: &Request) -> &'static str {
 
 fn title(request: &Request) -> String {
     let transposed = if request.files.transposed { ", transposed" } else { "" };
-    format!("{}{transposed}, tau {}, {}", request.files.matrix.display(), shortest(request.tau), solver_name(request))
+    format!("{}{transposed}, tau {}, {}", request.files.matrix, shortest(request.tau), solver_name(request))
 }
 
 /// Where even this cannot be written, there is nobody to tell.

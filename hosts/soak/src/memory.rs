@@ -2,19 +2,6 @@
 
 use crate::failure::Failure;
 
-pub fn push<T>(list: &mut Vec<T>, value: T) -> Result<(), Failure> {
-    list.try_reserve(1).map_err(|_| Failure::OutOfMemory { doubles: list.len() })?;
-    list.push(value);
-    Ok(())
-}
-
-pub fn filled<T: Copy>(length: usize, value: T) -> Result<Vec<T>, Failure> {
-    let mut list = Vec::new();
-    list.try_reserve_exact(length).map_err(|_| Failure::OutOfMemory { doubles: length })?;
-    list.resize(length, value);
-    Ok(list)
-}
-
 /// One list after the other.
 pub fn joined<'a, T: Copy + 'a>(lists: impl Iterator<Item = &'a [T]> + Clone) -> Result<Vec<T>, Failure> {
     let doubles = lists.clone().map(<[T]>::len).sum();

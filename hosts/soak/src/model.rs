@@ -1,22 +1,24 @@
 //! The matrix and its mass as the files hold them, and where in the files a refusal has its cause.
 
 use crate::failure::Failure;
-use crate::matrix_market;
-use crate::vector::Vector;
+use crate::input::{Source, Vector};
 use hazhendu::sizes::MAX_ROWS;
 use hazhendu::{check, transposed, Csr, Error, Largest, Matrix, Refusal};
-use std::path::PathBuf;
 
-#[derive(Debug)]
+#[derive(Clone, Debug)]
 pub struct Files {
-    pub matrix: PathBuf,
-    pub mass: Option<PathBuf>,
+    pub matrix: Source,
+    pub mass: Option<Source>,
     /// Whether the generator is transposed.
     pub transposed: bool,
 }
 
 impl Files {
-    pub fn bare(matrix: PathBuf) -> Self {
+    pub fn sources(&self) -> impl Iterator<Item = &Source> {
+        std::iter::once(&self.matrix).chain(&self.mass)
+    }
+
+    pub fn bare(matrix: Source) -> Self {
         Files { matrix, mass: None, transposed: false }
     }
 }
@@ -29,8 +31,8 @@ pub struct Model<'a> {
 
 impl<'a> Model<'a> {
     pub fn read(files: &'a Files) -> Result<Self, Failure> {
-        let csr = matrix_market::read(&files.matrix)?;
-        let mass = files.mass.as_deref().map(Vector::read).transpose()?;
+        let csr = files.matrix.matrix()?;
+        let mass = files.mass.as_ref().map(Source::vector).transpose()?;
         Ok(Model { files, csr, mass })
     }
 
@@ -46,25 +48,29 @@ impl<'a> Model<'a> {
 
     pub fn failure(&self, error: Error, place: impl FnOnce(Refusal) -> Option<String>) -> Failure {
         match error {
-            Error::Refused { refusal, .. } => Failure::Refused { refusal, place: place(refusal) },
+            Error::Refused { refusal, state } => Failure::Refused { refusal, place: place(refusal), state },
             Error::OutOfMemory { doubles } => Failure::OutOfMemory { doubles },
         }
     }
 
-    /// The sum of the sizes in a row, or with the generator transposed in a column, each divided by its row's mass, as the library adds them up.
-    pub fn sum(&self, line: usize) -> f64 {
+    /// The sums of the sizes whose largest is the norm.
+    pub fn sums(&self) -> Vec<f64> {
+        self.sums_of(self.files.transposed)
+    }
+
+    /// The sum of the sizes in each row, or column, each divided by its row's mass, as the library adds them up. Of a matrix whose rows
+    /// and columns the library has accepted.
+    fn sums_of(&self, of_columns: bool) -> Vec<f64> {
         let Matrix { n, starts, columns, entries, mass } = self.matrix();
-        let rows = if self.files.transposed { 0..n } else { line..line + 1 };
-        let mut sum = 0.0;
-        for row in rows {
+        let mut sums = vec![0.0; n];
+        for row in 0..n {
             let divisor = mass.map_or(1.0, |mass| mass[row]);
             for k in starts[row] as usize..starts[row + 1] as usize {
-                if !self.files.transposed || columns[k] as usize == line {
-                    sum += (entries[k] / divisor).abs();
-                }
+                let line = if of_columns { columns[k] as usize } else { row };
+                sums[line] += (entries[k] / divisor).abs();
             }
         }
-        sum
+        sums
     }
 
     /// What the norm is the largest sum of.
@@ -79,7 +85,8 @@ impl<'a> Model<'a> {
     /// Where a refusal of the matrix or its mass has its cause.
     pub fn place(&self, refusal: Refusal) -> Option<String> {
         match refusal.number {
-            1 | 3..=6 | 10 | 11 => Some(format!("{}{}", self.files.matrix.display(), self.infinite_entry())),
+            1 | 3..=6 => Some(format!("{}{}", self.files.matrix, self.infinite_entry())),
+            10 | 11 => Some(format!("{}{}", self.files.matrix, self.infinite_sum())),
             7 | 8 => self.mass_place(refusal.number),
             _ => None,
         }
@@ -88,6 +95,16 @@ impl<'a> Model<'a> {
     fn infinite_entry(&self) -> String {
         let place = self.csr.entries.iter().position(|entry| !entry.is_finite());
         place.map_or(String::new(), |place| format!(", {}", self.row_and_column(place)))
+    }
+
+    /// A row of the matrix itself is refused before a column of the transposed one.
+    fn infinite_sum(&self) -> String {
+        let first = |of_columns: bool| self.sums_of(of_columns).iter().position(|sum| !sum.is_finite());
+        match (first(false), first(true)) {
+            (Some(row), _) => format!(", row {}", row + 1),
+            (None, Some(column)) => format!(", column {}", column + 1),
+            (None, None) => String::new(),
+        }
     }
 
     /// Of the entry at a place, as the file counts them.
@@ -103,7 +120,7 @@ impl<'a> Model<'a> {
         let mut behind_others = (0..*n).flat_map(|i| starts[i] as usize + 1..starts[i + 1] as usize);
         let place = behind_others.find(|k| columns[*k] <= columns[k - 1])?;
         let before = u64::from(columns[place - 1]) + 1;
-        Some(format!("{}, {} behind column {before}", self.files.matrix.display(), self.row_and_column(place)))
+        Some(format!("{}, {} behind column {before}", self.files.matrix, self.row_and_column(place)))
     }
 
     fn mass_place(&self, number: u32) -> Option<String> {
@@ -114,8 +131,8 @@ impl<'a> Model<'a> {
         }
     }
 
-    pub fn length_told(&self, Vector { path, numbers, .. }: &Vector) -> String {
+    pub fn length_told(&self, Vector { source, numbers, .. }: &Vector) -> String {
         let more = if numbers.len() > MAX_ROWS { " or more" } else { "" };
-        format!("{} has {}{more} numbers, {} has {} rows", path.display(), numbers.len(), self.files.matrix.display(), self.csr.n)
+        format!("{source} has {}{more} numbers, {} has {} rows", numbers.len(), self.files.matrix, self.csr.n)
     }
 }

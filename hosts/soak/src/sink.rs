@@ -1,49 +1,110 @@
-//! A file to be written. It is opened before the call, so that a place that cannot be written is told before a long run and not after
-//! it; what it held stays until there is something to write, and a new file goes away if there is nothing.
+//! What is written: a file, which appears whole or not at all, or `-` for the standard output.
+//!
+//! A file is written beside its place and then renamed, so that what stood there stays until all is written, and a run that is stopped
+//! leaves nothing. Whether it can be written is tried before the call, so that it is told before a long run and not after it.
 
 use crate::failure::Failure;
-use std::fs::{remove_file, File, OpenOptions};
+use std::ffi::OsString;
+use std::fs::{self, File, OpenOptions};
 use std::io::{self, BufWriter, Write};
 use std::path::{Path, PathBuf};
 
 pub struct Sink {
-    path: PathBuf,
-    file: File,
-    new: bool,
+    /// As it was given.
+    name: PathBuf,
+    place: Place,
+}
+
+enum Place {
+    StandardOutput,
+    /// A device or a pipe: what stands there is not replaced.
+    Device(PathBuf),
+    /// A file, links followed.
+    File(PathBuf),
 }
 
 impl Sink {
-    pub fn open(path: &Path) -> Result<Sink, Failure> {
-        let new = !path.exists();
-        let opened = OpenOptions::new().write(true).create(true).truncate(false).open(path);
-        let file = opened.map_err(|error| cannot_write(path, error))?;
-        Ok(Sink { path: path.to_owned(), file, new })
+    pub fn open(name: &Path) -> Result<Sink, Failure> {
+        let place = if is_standard_output(name) { Ok(Place::StandardOutput) } else { tried(name) };
+        Ok(Sink { name: name.to_owned(), place: place.map_err(|error| cannot_write(name, error))? })
     }
 
-    pub fn fill(mut self, write: impl FnOnce(&mut dyn Write) -> io::Result<()>) -> Result<(), Failure> {
-        self.new = false;
-        self.emptied().and_then(|()| buffered(&self.file, write)).map_err(|error| cannot_write(&self.path, error))
+    pub fn standard_output() -> Sink {
+        Sink { name: "-".into(), place: Place::StandardOutput }
     }
 
-    /// A device or a pipe has no contents to be dropped.
-    fn emptied(&self) -> io::Result<()> {
-        if self.file.metadata()?.is_file() {
-            self.file.set_len(0)?;
-        }
-        Ok(())
-    }
-}
-
-impl Drop for Sink {
-    fn drop(&mut self) {
-        if self.new {
-            let _ = remove_file(&self.path);
-        }
+    pub fn fill(&self, write: impl FnOnce(&mut dyn Write) -> io::Result<()>) -> Result<(), Failure> {
+        let filled = match &self.place {
+            Place::StandardOutput => buffered(io::stdout().lock(), write),
+            Place::Device(path) => OpenOptions::new().write(true).open(path).and_then(|file| buffered(&file, write)),
+            Place::File(path) => replaced(path, write),
+        };
+        filled.map_err(|error| cannot_write(&self.name, error))
     }
 }
 
 pub fn to_stdout(write: impl FnOnce(&mut dyn Write) -> io::Result<()>) -> Result<(), Failure> {
-    buffered(io::stdout().lock(), write).map_err(|error| cannot_write(Path::new("the standard output"), error))
+    Sink::standard_output().fill(write)
+}
+
+pub fn is_standard_output(name: &Path) -> bool {
+    name.as_os_str() == "-"
+}
+
+/// A file beside the place is made and taken away again.
+fn tried(name: &Path) -> io::Result<Place> {
+    let path = name.canonicalize().unwrap_or_else(|_| name.to_owned());
+    if let Ok(found) = fs::metadata(&path) {
+        if found.is_dir() {
+            return Err(io::Error::from_raw_os_error(21));
+        }
+        let file = OpenOptions::new().write(true).open(&path)?;
+        if !file.metadata()?.is_file() {
+            return Ok(Place::Device(path));
+        }
+    }
+    Beside::new(&path)?;
+    Ok(Place::File(path))
+}
+
+/// A file beside a path, which goes away unless it takes the path's place.
+struct Beside<'a> {
+    path: &'a Path,
+    beside: PathBuf,
+    file: File,
+}
+
+impl<'a> Beside<'a> {
+    fn new(path: &'a Path) -> io::Result<Self> {
+        let mut name = OsString::from(".");
+        name.push(path.file_name().ok_or(io::ErrorKind::InvalidInput)?);
+        name.push(format!(".soak-{}", std::process::id()));
+        let beside = path.with_file_name(name);
+        let file = OpenOptions::new().write(true).create_new(true).open(&beside)?;
+        Ok(Beside { path, beside, file })
+    }
+
+    /// What has been written is on the disk before the name is.
+    fn take_place(self) -> io::Result<()> {
+        if let Ok(old) = fs::metadata(self.path) {
+            self.file.set_permissions(old.permissions())?;
+        }
+        self.file.sync_all()?;
+        fs::rename(&self.beside, self.path)
+    }
+}
+
+impl Drop for Beside<'_> {
+    fn drop(&mut self) {
+        // After a renaming there is nothing to remove.
+        let _ = fs::remove_file(&self.beside);
+    }
+}
+
+fn replaced(path: &Path, write: impl FnOnce(&mut dyn Write) -> io::Result<()>) -> io::Result<()> {
+    let new = Beside::new(path)?;
+    buffered(&new.file, write)?;
+    new.take_place()
 }
 
 fn buffered(target: impl Write, write: impl FnOnce(&mut dyn Write) -> io::Result<()>) -> io::Result<()> {
@@ -52,6 +113,7 @@ fn buffered(target: impl Write, write: impl FnOnce(&mut dyn Write) -> io::Result
     writer.flush()
 }
 
-fn cannot_write(path: &Path, error: io::Error) -> Failure {
-    Failure::CannotWrite { name: path.display().to_string(), error }
+fn cannot_write(name: &Path, error: io::Error) -> Failure {
+    let name = if is_standard_output(name) { "the standard output".into() } else { name.display().to_string() };
+    Failure::CannotWrite { name, error }
 }

@@ -25,12 +25,12 @@ fn scratch(name: &str) -> PathBuf {
 
 #[test]
 fn a_field_reads_back_as_a_vector() {
-    let field = scratch("field.txt");
-    let to = |tau: &str, vector: &str| format!("integer.mtx --tau {tau} --vector {vector} --output {}", field.display());
-    assert!(run(&to("1", "two.txt")).status.success());
+    let (field, again) = (scratch("field.txt"), scratch("again.txt"));
+    let soaked = |tau: &str, vector: &str, to: &Path| run(&format!("integer.mtx --tau {tau} --vector {vector} --output {}", to.display()));
+    assert!(soaked("1", "two.txt", &field).status.success());
     let first = fs::read_to_string(&field).unwrap();
-    assert!(run(&to("0", &field.display().to_string())).status.success());
-    assert_eq!(fs::read_to_string(&field).unwrap(), first);
+    assert!(soaked("0", &field.display().to_string(), &again).status.success());
+    assert_eq!(fs::read_to_string(&again).unwrap(), first);
     assert_eq!(first.lines().count(), 2);
 }
 
@@ -60,12 +60,94 @@ fn a_joined_matrix_is_read_again() {
     let first = fs::read_to_string(&both).unwrap();
     assert_eq!(first.lines().count(), 2 + 24);
     assert!(run(&format!("{} --mass mass.txt --tau 60 --vector start.txt", both.display())).status.success());
-    // a third part joined to it, over the file itself; then a refusal, which leaves the file
-    assert!(run(&format!("join {0} mount.mtx --output {0}", both.display())).status.success());
-    let second = fs::read_to_string(&both).unwrap();
+    // A third part joined to it, not over the file itself; then a refusal, which leaves the file.
+    assert_eq!(run(&format!("join {0} mount.mtx --output {0}", both.display())).status.code(), Some(64));
+    let third = scratch("third.mtx");
+    assert!(run(&format!("join {} mount.mtx --output {}", both.display(), third.display())).status.success());
+    let second = fs::read_to_string(&third).unwrap();
     assert!(second.contains("\n2 2 1.5\n") && second.lines().count() == first.lines().count());
-    assert_eq!(run(&format!("join {0} mount-falls.mtx --output {0}", both.display())).status.code(), Some(35));
-    assert_eq!(fs::read_to_string(&both).unwrap(), second);
+    assert_eq!(run(&format!("join {} mount-falls.mtx --output {}", both.display(), third.display())).status.code(), Some(35));
+    assert_eq!(fs::read_to_string(&third).unwrap(), second);
+    assert_eq!(fs::read_to_string(&both).unwrap(), first);
+}
+
+#[test]
+fn what_is_read_is_not_written_over_by_another_name() {
+    let (vector, hard, soft) = (scratch("read.txt"), scratch("hard.txt"), scratch("soft.txt"));
+    fs::write(&vector, "1\n-2\n").unwrap();
+    fs::hard_link(&vector, &hard).unwrap();
+    std::os::unix::fs::symlink(&vector, &soft).unwrap();
+    for name in [&vector, &hard, &soft] {
+        for option in ["--output", "--plot"] {
+            let output = run(&format!("integer.mtx --tau 1 --vector {} {option} {}", vector.display(), name.display()));
+            assert_eq!(output.status.code(), Some(64));
+            assert_eq!(fs::read_to_string(&vector).unwrap(), "1\n-2\n");
+        }
+    }
+}
+
+#[test]
+fn a_link_stays_a_link_and_a_file_keeps_its_permissions() {
+    use std::os::unix::fs::{symlink, PermissionsExt};
+    let (field, link) = (scratch("linked.txt"), scratch("link.txt"));
+    fs::write(&field, "old\n").unwrap();
+    fs::set_permissions(&field, fs::Permissions::from_mode(0o640)).unwrap();
+    symlink(&field, &link).unwrap();
+    assert!(run(&format!("integer.mtx --tau 1 --vector two.txt --output {}", link.display())).status.success());
+    assert!(fs::symlink_metadata(&link).unwrap().is_symlink());
+    assert_eq!(fs::read_to_string(&field).unwrap().lines().count(), 2);
+    assert_eq!(fs::metadata(&field).unwrap().permissions().mode() & 0o777, 0o640);
+}
+
+/// Files in a folder of its own.
+fn listed(folder: &Path) -> Vec<String> {
+    fs::read_dir(folder).unwrap().map(|entry| entry.unwrap().file_name().to_string_lossy().into_owned()).collect()
+}
+
+fn folder(name: &str) -> PathBuf {
+    let path = Path::new(env!("CARGO_TARGET_TMPDIR")).join(name);
+    let _ = fs::remove_dir_all(&path);
+    fs::create_dir(&path).unwrap();
+    path
+}
+
+#[test]
+fn the_state_of_a_refused_run_is_kept_under_another_name() {
+    let folder = folder("state");
+    let field = folder.join("field.txt");
+    fs::write(&field, "kept\n").unwrap();
+    let job = "rod.mtx --mass mass.txt --tau 600 --vector start.txt --solver krylov --m 3 --limit 2";
+    let output = run(&format!("{job} --output {}", field.display()));
+    assert_eq!(output.status.code(), Some(27));
+    assert!(output.stdout.is_empty());
+    assert_eq!(fs::read_to_string(&field).unwrap(), "kept\n");
+    let state = folder.join("field.txt.state");
+    let text = fs::read_to_string(&state).unwrap();
+    assert!(text.starts_with("# not the field at tau 600") && text.lines().count() == 9);
+    assert!(String::from_utf8_lossy(&output.stderr).contains(&format!("is in {}", state.display())));
+    assert!(run(&format!("rod.mtx --mass mass.txt --tau 1 --vector {}", state.display())).status.success());
+}
+
+#[test]
+fn a_run_that_is_stopped_leaves_nothing() {
+    let folder = folder("stopped");
+    let field = folder.join("field.txt");
+    fs::write(&field, "kept\n").unwrap();
+    let words = format!("rod.mtx --tau 1e9 --vector start.txt --output {0} --plot {0}.svg", field.display());
+    let mut child = soak(&words).stderr(Stdio::null()).spawn().unwrap();
+    std::thread::sleep(std::time::Duration::from_millis(300));
+    assert!(child.try_wait().unwrap().is_none(), "the run was to be long");
+    child.kill().unwrap();
+    child.wait().unwrap();
+    assert_eq!(listed(&folder), ["field.txt"]);
+    assert_eq!(fs::read_to_string(&field).unwrap(), "kept\n");
+}
+
+#[test]
+fn a_plot_goes_to_the_standard_output() {
+    let field = scratch("beside-plot.txt");
+    let output = run(&format!("integer.mtx --tau 1 --vector two.txt --output {} --plot -", field.display()));
+    assert!(output.status.success() && output.stdout.starts_with(b"<svg "));
 }
 
 #[test]
