@@ -2,8 +2,9 @@
 """Writes the thermal models of three lens barrels for `soak`; docs/SAMPLES.md describes them.
 
     samples/make.py FOLDER      a folder for each barrel, with conductance.mtx, capacity.txt, start.txt, heating.txt, ramp.txt where
-                                there is one, spacer.json, and arguments, the words that soak wants; where there is a mount also
-                                mount.mtx, and the words name joined.mtx, which soak join is to make of the two; prints the folders
+                                there is one, spacer.json, cells.txt and parts.txt for the pictures, and arguments, the words that
+                                soak wants; where there is a mount also mount.mtx, and the words name joined.mtx, which soak join
+                                is to make of the two; prints the folders
 
 A barrel is a body of revolution, tiled by parts that are rings or discs; a part is divided into cells. Lengths are whole micrometres
 here, so that cells which touch are found by equal numbers, and metres in every formula. All else is in SI units.
@@ -235,6 +236,14 @@ def write_spacer(path, barrel, cells):
         json.dump({"thickness": thickness, "expansion": part.material.expansion, "shares": shares}, file, indent=1)
 
 
+def write_boxes(path, boxes):
+    """Radius and height of each, from and to, in millimetres, and a name if it has one."""
+    with open(path, "w") as file:
+        file.write("# r0/mm r1/mm z0/mm z1/mm\n")
+        for box, name in boxes:
+            file.write(" ".join([f"{x / 1000:g}" for x in (*box.r, *box.z)] + name) + "\n")
+
+
 def write_barrel(folder, barrel):
     check_tiled(barrel)
     cells = cells_of(barrel)
@@ -259,9 +268,12 @@ def write_barrel(folder, barrel):
             write_vector(place(name), comment, numbers)
             vectors.append(name)
     write_spacer(place("spacer.json"), barrel, cells)
+    write_boxes(place("cells.txt"), [(cell, []) for cell in cells])
+    write_boxes(place("parts.txt"), [(part, [part.name]) for part in barrel.parts])
     matrix = "conductance.mtx" if barrel.mount is None else "joined.mtx"
     words = [matrix, "--mass", "capacity.txt", "--tau", f"{barrel.tau:g}"]
     words += [word for name in vectors for word in ("--vector", name)]
+    words += ["--points", "cells.txt", "--outline", "parts.txt"]
     with open(place("arguments"), "w") as file:
         file.write(" ".join(words) + "\n")
 

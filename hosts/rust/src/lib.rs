@@ -84,9 +84,12 @@ impl Csr {
     }
 }
 
+/// docs/CHOOSING.md says which to take.
 #[derive(Clone, Copy, Debug, PartialEq)]
 pub struct KrylovOptions {
-    /// The accuracy wanted, relative to the norm of the start; strictly between 0 and 1.
+    /// The accuracy wanted of the whole run, strictly between 0 and 1: the part of it that a substep may add to the error grows with its
+    /// length. Relative to the 2-norm of the start, all rows of it together with the few numbers that stand for the further vectors. Below
+    /// about tau times the norm times 2^-52 nothing is gained: round-off is not governed by it.
     pub tol: f64,
     /// Columns of a substep.
     pub m: usize,
@@ -96,7 +99,7 @@ pub struct KrylovOptions {
 
 impl Default for KrylovOptions {
     fn default() -> Self {
-        KrylovOptions { tol: 1e-10, m: 30, max_substeps: 100_000 }
+        KrylovOptions { tol: 1e-10, m: 40, max_substeps: 100_000 }
     }
 }
 
@@ -146,7 +149,9 @@ pub struct Report {
     pub matvecs: usize,
     /// Lengths rejected.
     pub rejected: usize,
-    /// Relative to the norm of the start.
+    /// The sum over the substeps of their estimated errors, each at least its share of round-off, (tau times the norm + 2) times 2^-52 of
+    /// the state's norm; relative to the 2-norm of the start, as tol is. It may exceed tol by its round-off, and is mostly far above the
+    /// actual error.
     pub estimated_error: f64,
     /// The shortest substep accepted, as a part of tau; 0 where none was taken.
     pub shortest_step: f64,

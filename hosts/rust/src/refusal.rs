@@ -103,13 +103,13 @@ const MEANINGS: [Meaning; 33] = [
         27,
         "the limit of substeps is used up before tau is reached",
         "estimated error so far, of the scaled start",
-        "raise the limit, raise m, raise tol, or shorten tau",
+        "raise the limit or m (a higher m makes longer substeps), or take the Taylor solver, whose work is known beforehand",
     ),
     meaning(
         28,
         "eleven step lengths were rejected in one substep",
         "error allowed, of the scaled start",
-        "raise tol, raise m, or take the Taylor solver",
+        "take another m (40, then 60 or 20: a lower one may do too), or the Taylor solver; tol is seldom the reason",
     ),
     meaning(
         29,

@@ -5,6 +5,7 @@ use crate::guard;
 use crate::input::Source;
 use crate::join::Pair;
 use crate::model::Files;
+use crate::report;
 use crate::sink::is_standard_output;
 use hazhendu::sizes::MAX_DEGREE;
 use hazhendu::{KrylovOptions, Solver, TaylorOptions};
@@ -31,6 +32,17 @@ pub struct Request {
     pub solver: Solver,
     pub output: PathBuf,
     pub plot: Option<PathBuf>,
+    pub reports: Vec<PathBuf>,
+    pub drawing: Drawing,
+}
+
+/// How pictures are drawn and called.
+#[derive(Debug, Default, PartialEq)]
+pub struct Drawing {
+    pub points: Option<Source>,
+    pub outline: Option<Source>,
+    pub unit: Option<String>,
+    pub title: Option<String>,
 }
 
 impl Request {
@@ -46,10 +58,29 @@ impl Request {
         }
     }
 
+    /// What is said of a picture must have a picture to be said of.
+    fn drawn(&self) -> Result<(), Failure> {
+        if self.drawing.outline.is_some() && self.drawing.points.is_none() {
+            return Err(Failure::Usage("--outline is for --points".into()));
+        }
+        if self.plot.is_none() && self.reports.is_empty() && self.drawing != Drawing::default() {
+            return Err(Failure::Usage("--points, --outline, --unit and --title are for --plot and --report".into()));
+        }
+        match self.reports.iter().find(|path| report::Kind::of(path).is_none()) {
+            Some(path) => Err(Failure::Usage(format!("--report {}: a name that ends in .html, .json or .csv", path.display()))),
+            None => Ok(()),
+        }
+    }
+
     fn guarded(&self) -> guard::Files<'_> {
         let state = Some(self.state()).filter(|path| !is_standard_output(path));
-        let files = guard::Files::default().reads(self.files.sources()).reads(&self.vectors);
-        files.writes("--output", [&self.output]).writes("the state of --output", state).writes("--plot", &self.plot)
+        let drawn = self.drawing.points.iter().chain(&self.drawing.outline);
+        let files = guard::Files::default().reads(self.files.sources()).reads(&self.vectors).reads(drawn);
+        files
+            .writes("--output", [&self.output])
+            .writes("the state of --output", state)
+            .writes("--plot", &self.plot)
+            .writes("--report", &self.reports)
     }
 }
 
@@ -68,6 +99,8 @@ struct Given {
     limit: Option<usize>,
     output: Option<PathBuf>,
     plot: Option<PathBuf>,
+    reports: Vec<PathBuf>,
+    drawing: Drawing,
 }
 
 pub fn parse(words: impl Iterator<Item = OsString>) -> Result<Command, Failure> {
@@ -112,6 +145,11 @@ impl Given {
             "--mass" => once(name, &mut self.mass, Source(value()?.into()))?,
             "--output" => once(name, &mut self.output, value()?.into())?,
             "--plot" => once(name, &mut self.plot, value()?.into())?,
+            "--report" => self.reports.push(value()?.into()),
+            "--points" => once(name, &mut self.drawing.points, Source(value()?.into()))?,
+            "--outline" => once(name, &mut self.drawing.outline, Source(value()?.into()))?,
+            "--unit" => once(name, &mut self.drawing.unit, read(name, value()?, "a unit")?)?,
+            "--title" => once(name, &mut self.drawing.title, read(name, value()?, "a title")?)?,
             "--tau" => once(name, &mut self.tau, read(name, value()?, "a number")?)?,
             "--degree" => once(name, &mut self.degree, read(name, value()?, "a whole number that fits")?)?,
             "--tol" => once(name, &mut self.tol, read(name, value()?, "a number")?)?,
@@ -179,7 +217,10 @@ impl Given {
             vectors: self.vectors,
             output: self.output.unwrap_or_else(|| "-".into()),
             plot: self.plot,
+            reports: self.reports,
+            drawing: self.drawing,
         };
+        request.drawn()?;
         request.guarded().check()?;
         Ok(request)
     }

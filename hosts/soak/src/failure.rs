@@ -30,6 +30,8 @@ pub enum Failure {
         place: Option<String>,
         state: Option<Vec<f64>>,
     },
+    /// The field, which is written, holds numbers that are not finite.
+    NotFinite(String),
 }
 
 impl Failure {
@@ -37,7 +39,7 @@ impl Failure {
         Failure::Refused { refusal, place, state: None }
     }
 
-    /// A refusal's number is its status; the others are those of sysexits.h, beyond all refusals.
+    /// A refusal's number is its status; the others are those of sysexits.h, beyond all refusals, and 80 behind those.
     pub fn status(&self) -> u8 {
         match self {
             Failure::Usage(_) => 64,
@@ -45,6 +47,7 @@ impl Failure {
             Failure::CannotRead { .. } => 66,
             Failure::OutOfMemory { .. } => 71,
             Failure::CannotWrite { .. } => 74,
+            Failure::NotFinite(_) => 80,
             Failure::Refused { refusal, .. } => u8::try_from(refusal.number).unwrap_or(70),
         }
     }
@@ -59,6 +62,7 @@ impl fmt::Display for Failure {
     fn fmt(&self, f: &mut fmt::Formatter) -> fmt::Result {
         match self {
             Failure::Usage(wrong) => write!(f, "soak: {wrong}\nsoak --help tells how it is used"),
+            Failure::NotFinite(told) => write!(f, "{told}"),
             Failure::BadFile { place, wrong } => write!(f, "{place}: {wrong}"),
             Failure::CannotRead { name, error } => write!(f, "soak: cannot read {name}: {error}"),
             Failure::OutOfMemory { doubles } => write!(f, "soak: no memory for {doubles} numbers"),

@@ -20,6 +20,17 @@ impl Source {
         self.0.as_os_str() == "-"
     }
 
+    /// The file and its folder.
+    pub fn short_name(&self) -> String {
+        let whole = self.0.canonicalize().unwrap_or_else(|_| self.0.clone());
+        let parts: Vec<_> = whole.iter().rev().take(2).collect();
+        match parts[..] {
+            _ if self.is_standard_input() => self.to_string(),
+            [file, folder] if folder != "/" => format!("{}/{}", folder.to_string_lossy(), file.to_string_lossy()),
+            _ => self.to_string(),
+        }
+    }
+
     pub fn open(&self) -> Result<Box<dyn BufRead>, Failure> {
         let opened = if self.is_standard_input() { standard_input() } else { file(&self.0) };
         opened.map_err(|error| Failure::CannotRead { name: self.to_string(), error })

@@ -6,7 +6,7 @@ use crate::input::{Source, Vector};
 use crate::memory::joined;
 use crate::model::Model;
 use hazhendu::sizes::{MAX_DEGREE, MAX_VECTORS};
-use hazhendu::{combine, shortest, transposed, Cost, Refusal, Soaked, Solver};
+use hazhendu::{combine, shortest, transposed, Cost, Matrix, Refusal, Soaked, Solver};
 
 pub struct Job<'a> {
     request: &'a Request,
@@ -27,6 +27,20 @@ impl<'a> Job<'a> {
     pub fn size(&self) -> String {
         let a = self.model.matrix();
         format!("rows {}, entries {}, vectors {}", a.n, a.entries.len(), self.vectors.len())
+    }
+
+    pub fn matrix(&self) -> Matrix<'_> {
+        self.model.matrix()
+    }
+
+    /// Of the mean of a field: the mass, or of a sensitivity nothing.
+    pub fn weights(&self) -> Option<&[f64]> {
+        self.model.mass().filter(|_| !self.request.files.transposed)
+    }
+
+    /// The numbers of each vector.
+    pub fn vectors(&self) -> Vec<&[f64]> {
+        self.vectors.iter().map(|vector| vector.numbers.as_slice()).collect()
     }
 
     pub fn soak(&self) -> Result<Soaked<Cost>, Failure> {
@@ -73,8 +87,16 @@ impl<'a> Job<'a> {
             25 => Some(format!("--tau {}, {}{}", shortest(self.request.tau), self.request.files.matrix, self.degree())),
             24 => Some(format!("--tau {} and {}", shortest(self.request.tau), self.request.files.matrix)),
             27 => Some("--limit".into()),
+            28 => Some("--m".into()),
             _ => self.model.place(refusal),
         }
+    }
+}
+
+pub fn solver_name(request: &Request) -> &'static str {
+    match request.solver {
+        Solver::Taylor(_) => "taylor",
+        Solver::Krylov(_) => "krylov",
     }
 }
 

@@ -41,6 +41,10 @@ impl<'a> Model<'a> {
         self.mass.as_ref().map_or(bare, |mass| bare.with_mass(&mass.numbers))
     }
 
+    pub fn mass(&self) -> Option<&[f64]> {
+        self.mass.as_ref().map(|mass| mass.numbers.as_slice())
+    }
+
     pub fn check(&self) -> Result<Largest, Failure> {
         let check = if self.files.transposed { transposed::check } else { check };
         check(&self.matrix()).map_err(|error| self.failure(error, |refusal| self.place(refusal)))

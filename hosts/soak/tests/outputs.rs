@@ -166,9 +166,67 @@ fn a_plot_has_axes_labels_and_a_curve() {
     assert!(run(&words).status.success());
     let text = fs::read_to_string(&plot).unwrap();
     assert!(text.starts_with("<svg ") && text.ends_with("</svg>\n"));
-    for part in [">row</text>", ">field</text>", "rod.mtx, tau 60, taylor", "firebrick"] {
+    for part in [">row</text>", ">temperature, K</text>", "files/rod.mtx, tau 60, taylor", ">18</text>", "#a50026"] {
         assert!(text.contains(part), "no {part}");
     }
+}
+
+#[test]
+fn a_map_has_a_scale_and_the_parts() {
+    let (points, outline, plot) = (scratch("rz.txt"), scratch("parts.txt"), scratch("map.svg"));
+    let boxes: String = (0..8).map(|i| format!("0 5 {} {}\n", 10 * i, 10 * i + 10)).collect();
+    fs::write(&points, format!("# r0/mm r1/mm z0/mm z1/mm\n{boxes}")).unwrap();
+    fs::write(&outline, "0 5 0 40 cold <end>\n0 5 40 80 warm end\n").unwrap();
+    let job = "rod.mtx --mass mass.txt --tau 60 --vector start.txt --title Rod --unit °C";
+    let words = format!("{job} --points {} --outline {} --plot {}", points.display(), outline.display(), plot.display());
+    assert!(run(&words).status.success());
+    let text = fs::read_to_string(&plot).unwrap();
+    for part in [">Rod<", ">z, mm<", ">r, mm<", ">temperature, °C<", ">cold &lt;end&gt;<", ">warm end<", "stroke-dasharray"] {
+        assert!(text.contains(part), "no {part}");
+    }
+}
+
+#[test]
+fn a_job_has_a_page_and_lists_for_programs() {
+    let reports = ["soaked.html", "soaked.json", "soaked.csv"].map(scratch);
+    let [html, json, csv] = reports.each_ref().map(|path| path.display());
+    let words = format!("rod.mtx --mass mass.txt --tau 60 --vector start.txt --report {html} --report {json} --report {csv}");
+    let output = run(&words);
+    assert!(output.status.success());
+    let [html, json, csv] = reports.each_ref().map(|path| fs::read_to_string(path).unwrap());
+    let field = String::from_utf8(output.stdout).unwrap();
+    assert_eq!(csv.lines().next(), Some("row,temperature"));
+    assert!(csv.lines().skip(1).zip(field.lines()).enumerate().all(|(i, (row, value))| row == format!("{},{value}", i + 1)));
+    assert!(json.contains(&format!("\"field\":[{}]", field.lines().collect::<Vec<_>>().join(","))));
+    for part in ["<!DOCTYPE html>", "<svg ", "hottest", "mean, weighed by the mass", "sweeps", "rod.mtx --mass mass.txt", "8 rows"] {
+        assert!(html.contains(part), "no {part}");
+    }
+    assert!(!html.contains("http://") || html.matches("http").count() == html.matches("http://www.w3.org/2000/svg").count());
+}
+
+#[test]
+fn a_refused_job_has_a_page_too() {
+    let reports = ["refused.html", "refused.json", "refused.csv"].map(scratch);
+    let [html, json, csv] = reports.each_ref().map(|path| path.display());
+    let words =
+        format!("rod.mtx --tau 600 --vector start.txt --solver krylov --m 2 --limit 1 --report {html} --report {json} --report {csv}");
+    assert_eq!(run(&words).status.code(), Some(27));
+    let [html, json] = [&reports[0], &reports[1]].map(|path| fs::read_to_string(path).unwrap());
+    assert!(html.contains("Refused: there is no field.") && html.contains("raise the limit"));
+    assert!(json.contains("\"number\":27") && json.contains("\"status\":27"));
+    assert!(!reports[2].exists());
+}
+
+#[test]
+fn a_field_that_is_not_finite_is_written_drawn_and_told() {
+    let (field, plot, json) = (scratch("nan.txt"), scratch("nan.svg"), scratch("nan.json"));
+    let words =
+        format!("turned.mtx --tau 1 --vector two.txt --output {} --plot {} --report {}", field.display(), plot.display(), json.display());
+    assert_eq!(run(&words).status.code(), Some(80));
+    assert_eq!(fs::read_to_string(&field).unwrap(), "NaN\nNaN\n");
+    assert!(fs::read_to_string(&plot).unwrap().contains("no number of the field is finite"));
+    let json = fs::read_to_string(&json).unwrap();
+    assert!(json.contains("\"status\":80") && json.contains("\"field\":[null,null]") && json.contains("heat themselves"));
 }
 
 #[test]

@@ -1,0 +1,78 @@
+//! A soak told to people (HTML) and to programs (JSON, CSV).
+
+mod csv;
+mod html;
+mod json;
+
+use crate::arguments::Request;
+use crate::job::solver_name;
+use crate::plot::{Geometry, Picture};
+use hazhendu::{Cost, Refusal};
+use std::path::{Path, PathBuf};
+
+#[derive(Clone, Copy, Debug, PartialEq)]
+pub enum Kind {
+    Html,
+    Json,
+    Csv,
+}
+
+impl Kind {
+    pub fn of(path: &Path) -> Option<Kind> {
+        match path.extension()?.to_str()?.to_ascii_lowercase().as_str() {
+            "html" | "htm" => Some(Kind::Html),
+            "json" => Some(Kind::Json),
+            "csv" => Some(Kind::Csv),
+            _ => None,
+        }
+    }
+}
+
+/// What was asked, and what came of it.
+pub struct Report<'a> {
+    pub request: &'a Request,
+    pub rows: usize,
+    pub entries: usize,
+    /// Of the call.
+    pub seconds: f64,
+    pub warnings: &'a [String],
+    pub geometry: Option<&'a Geometry>,
+    pub outcome: Outcome<'a>,
+}
+
+pub enum Outcome<'a> {
+    Soaked { cost: &'a Cost, picture: Picture<'a> },
+    Refused { refusal: Refusal, place: Option<&'a str>, state: Option<PathBuf> },
+}
+
+impl Report<'_> {
+    /// A report of a kind; a refused job has no rows to list.
+    pub fn text(&self, kind: Kind) -> Option<String> {
+        match (kind, &self.outcome) {
+            (Kind::Html, _) => Some(html::page(self)),
+            (Kind::Json, _) => Some(json::text(self)),
+            (Kind::Csv, Outcome::Soaked { picture, .. }) => Some(csv::text(picture)),
+            (Kind::Csv, Outcome::Refused { .. }) => None,
+        }
+    }
+
+    fn status(&self) -> u32 {
+        match &self.outcome {
+            Outcome::Refused { refusal, .. } => refusal.number,
+            Outcome::Soaked { picture, .. } if picture.summary.not_finite > 0 => 80,
+            Outcome::Soaked { .. } => 0,
+        }
+    }
+
+    fn solver(&self) -> &'static str {
+        solver_name(self.request)
+    }
+}
+
+/// The words of the command as a shell takes them.
+pub fn command_line() -> String {
+    let words = std::env::args_os().map(|word| word.to_string_lossy().into_owned());
+    let plain = |word: &str| !word.is_empty() && word.chars().all(|c| c.is_alphanumeric() || "-_./=+:,%@".contains(c));
+    let quoted = |word: String| if plain(&word) { word } else { format!("'{}'", word.replace('\'', r"'\''")) };
+    words.map(quoted).collect::<Vec<_>>().join(" ")
+}
