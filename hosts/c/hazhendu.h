@@ -1,8 +1,8 @@
 /*
  * Hazhendu: heat soak by phi-functions. The exported calls of the proved library for C and C++ on x86-64 Linux.
  *
- * Link with target/staticlib/libexports.a and, for the calls on the transposed matrix, libexports_transposed.a, which `rt staticlib exports`
- * and `rt staticlib exports_transposed` write (or `hosts/library` both); hosts/c/run shows how.
+ * `hosts/library` writes target/staticlib/libhazhendu.a, libhazhendu.so and hazhendu.pc for pkg-config; hosts/c/run shows how to link. Most
+ * programs want the calls on structs at the end of this file: hazhendu_check, hazhendu_soak, hazhendu_act and their likes.
  *
  *
  * WHAT IS COMPUTED
@@ -47,8 +47,9 @@
  *   k, p                  the index of a phi-function, 0 to 3
  *   v, v_len              one vector of n numbers
  *   krylov                hazhendu_combine: whether Krylov is asked for, and degree is not looked at; if not, Taylor is, and tol, m and max_substeps are not
- *   tol                   Krylov: the accuracy wanted, relative to the norm of the start, strictly between 0 and 1 (1e-10, say)
- *   m                     Krylov: columns of a substep (30, say); M, which is m brought into the range from 2 to max(2, n + count - 1),
+ *   tol                   Krylov: the error allowed over the whole tau, strictly between 0 and 1 (1e-10, say), relative to the 2-norm of the
+ *                         start: all rows of w_0 with the few numbers that stand for the further vectors. It does not govern round-off
+ *   m                     Krylov: columns of a substep (40, say; docs/CHOOSING.md); M, which is m brought into the range from 2 to max(2, n + count - 1),
  *                         may be at most 128
  *   max_substeps          Krylov: the limit of substeps, 1 to 1,000,000
  *   out, out_len          the answer is written here: n numbers, (p + 1) * n of a batch, the functions one after the other
@@ -71,8 +72,9 @@
  *
  * and what a call tells, each written at every call:
  *
- *   value                 accepted: mu, the shift of the Taylor plan (0 for none), or Krylov's estimated error, relative to the norm of the
- *                         start, or the norm of a matrix that is checked, or 0 of a join; refused: the refusal's double
+ *   value                 accepted: mu, the shift of the Taylor plan (0 for none), or Krylov's estimated error, relative to the same norm as
+ *                         tol (the sum over the substeps, each with at least its round-off, (tau norm + 2) * 2^-52 of the state's norm: it
+ *                         may exceed tol, and is mostly far above the actual error), or the norm of a matrix that is checked, or 0 of a join; refused: the refusal's double
  *   row                   the first row whose sum is the norm, from 0; 0 if the matrix is refused
  *   entries               how many entries the result of a join has; 0 if it is refused
  *   s, plan_m             Taylor's plan: sweeps, and the degree to which each goes
@@ -93,9 +95,12 @@
  *   a transposed matrix and the result of a join writable too.
  * - out, work, the buffers, the result of a join and the places of the numbers told must overlap neither each other nor anything else that is handed in.
  * - with_mass and krylov are 0 or 1.
+ * - The floating-point environment is the one that a program begins with: rounding to nearest, no flush to zero, denormals not taken as
+ *   zero, no exception unmasked. A program or a library built with -ffast-math changes it, and then answers differ and a subnormal mass is
+ *   refused. hazhendu_enter and hazhendu_leave set it and put it back; the calls on structs do so themselves.
  *
  * Nothing else is asked: every input gets a result or a refusal, and no call allocates, stops the program or keeps anything. Calls in
- * several threads do not disturb each other. A call cannot be interrupted, and may take long: Taylor makes s * m products with G,
+ * several threads do not disturb each other. A call tells nothing before its end, and may take long (the process can be stopped at any time): Taylor makes s * m products with G,
  * Krylov at most (M + 1) * max_substeps. A join goes over both matrices a few times.
  *
  *
@@ -117,6 +122,9 @@
 #include <stdbool.h>
 #include <stddef.h>
 #include <stdint.h>
+#include <xmmintrin.h>
+
+#include "hazhendu_refusals.h"
 
 #ifdef __cplusplus
 extern "C" {
@@ -400,6 +408,195 @@ uint32_t hazhendu_phi_combination_krylov_transposed(
     double *out, size_t out_len,
     double *work, size_t work_len,
     double *value, size_t *substeps, size_t *matvecs, size_t *rejected, double *shortest, double *last);
+
+/* ---- the floating-point environment (MXCSR) that the calls assume */
+
+enum { HAZHENDU_USUAL = 0x1f80, HAZHENDU_EXCEPTION_FLAGS = 0x3f };
+
+/* Whether this thread has it; exceptions that have occurred do not count. */
+static inline bool hazhendu_environment_is_usual(void)
+{
+    return (_mm_getcsr() & ~(unsigned)HAZHENDU_EXCEPTION_FLAGS) == HAZHENDU_USUAL;
+}
+
+/* Sets it, and hands back what was there, for hazhendu_leave. */
+static inline uint32_t hazhendu_enter(void)
+{
+    uint32_t saved = _mm_getcsr();
+    _mm_setcsr(HAZHENDU_USUAL);
+    return saved;
+}
+
+static inline void hazhendu_leave(uint32_t saved)
+{
+    _mm_setcsr(saved);
+}
+
+/* ---- the calls on structs: lengths are taken from n, entries and count, and the floating-point environment is seen to. */
+
+struct hazhendu_matrix {
+    size_t n, entries;
+    const uint32_t *starts; /* n + 1 */
+    const uint32_t *cols;   /* entries */
+    const double *vals;     /* entries */
+    const double *mass;     /* n, or a null pointer for none */
+};
+
+/* Where a call writes a matrix: the transposed one (n + 1 row starts, and room for as many entries as A has), or a join. */
+struct hazhendu_buffers {
+    uint32_t *starts;
+    uint32_t *cols;
+    double *vals;
+    size_t room; /* of cols and vals */
+};
+
+struct hazhendu_options {
+    bool krylov;
+    uint32_t degree;                       /* Taylor */
+    double tol;                            /* Krylov */
+    size_t m, max_substeps;                /* Krylov */
+};
+
+/* What a call told. Of a refused one value is the refusal's double, and all else is 0. */
+struct hazhendu_report {
+    double value;
+    uint64_t applications;                 /* products with G, by either solver */
+    uint32_t s, plan_m;                    /* Taylor; value is mu */
+    size_t substeps, rejected;             /* Krylov; value is the estimated error */
+    double shortest, last;
+};
+
+static inline struct hazhendu_options hazhendu_by_taylor(void)
+{
+    struct hazhendu_options options = {false, HAZHENDU_MAX_DEGREE, 1e-10, 40, 100000};
+    return options;
+}
+
+static inline struct hazhendu_options hazhendu_by_krylov(void)
+{
+    struct hazhendu_options options = hazhendu_by_taylor();
+    options.krylov = true;
+    return options;
+}
+
+/* Working memory, in doubles, of a soak with count vectors. */
+static inline size_t hazhendu_work(const struct hazhendu_matrix *a, size_t count, const struct hazhendu_options *options)
+{
+    return options->krylov ? hazhendu_krylov_work(a->n, a->entries, a->mass != NULL, count, options->m)
+                           : hazhendu_taylor_work(a->n, a->entries, a->mass != NULL, count);
+}
+
+/* The matrix as the calls take it; no pointer is null. */
+#define HAZHENDU_NONE ((const void *)&hazhendu_none)
+static const double hazhendu_none = 0;
+
+static inline const uint32_t *hazhendu_cols(const struct hazhendu_matrix *a)
+{
+    return a->cols ? a->cols : (const uint32_t *)HAZHENDU_NONE;
+}
+
+static inline const double *hazhendu_doubles(const double *slice)
+{
+    return slice ? slice : &hazhendu_none;
+}
+
+#define HAZHENDU_MATRIX(a)                                                                                                            \
+    (a)->n, (a)->starts, (a)->n + 1, hazhendu_cols(a), (a)->entries, hazhendu_doubles((a)->vals), (a)->entries, (a)->mass != NULL, \
+        hazhendu_doubles((a)->mass), (a)->mass ? (a)->n : 0
+#define HAZHENDU_BUFFERS(a, t) (t)->starts, (a)->n + 1, (t)->cols, (t)->room, (t)->vals, (t)->room
+
+static inline struct hazhendu_report hazhendu_no_report(void)
+{
+    struct hazhendu_report report = {0, 0, 0, 0, 0, 0, 0, 0};
+    return report;
+}
+
+/* The checks of the matrix alone, its norm, and the first row that has it. */
+static inline uint32_t hazhendu_check(const struct hazhendu_matrix *a, double *norm, size_t *row)
+{
+    uint32_t saved = hazhendu_enter();
+    uint32_t number = hazhendu_check_generator(HAZHENDU_MATRIX(a), norm, row);
+    hazhendu_leave(saved);
+    return number;
+}
+
+/* The sum over k of tau^k phi_k(tau G) w_k: w is count * n long, out n. */
+static inline uint32_t hazhendu_soak(const struct hazhendu_matrix *a, double tau, size_t count, const double *w,
+    const struct hazhendu_options *o, double *out, double *work, size_t work_len, struct hazhendu_report *report)
+{
+    uint64_t first, second, third;
+    uint32_t saved = hazhendu_enter(), number;
+    *report = hazhendu_no_report();
+    number = hazhendu_combine(HAZHENDU_MATRIX(a), tau, o->degree, count, w, count * a->n, o->krylov, o->tol, o->m, o->max_substeps, out, a->n,
+        work, work_len, &report->value, &first, &second, &third, &report->shortest, &report->last);
+    if (o->krylov) {
+        report->substeps = (size_t)first;
+        report->applications = second;
+        report->rejected = (size_t)third;
+    } else {
+        report->s = (uint32_t)first;
+        report->plan_m = (uint32_t)second;
+        report->applications = third;
+    }
+    hazhendu_leave(saved);
+    return number;
+}
+
+/* The same on the transposed matrix, which is written to t. */
+static inline uint32_t hazhendu_soak_transposed(const struct hazhendu_matrix *a, const struct hazhendu_buffers *t, double tau, size_t count,
+    const double *w, const struct hazhendu_options *o, double *out, double *work, size_t work_len, struct hazhendu_report *report)
+{
+    uint32_t saved = hazhendu_enter(), number;
+    size_t applications = 0;
+    *report = hazhendu_no_report();
+    if (o->krylov) {
+        number = hazhendu_phi_combination_krylov_transposed(HAZHENDU_MATRIX(a), HAZHENDU_BUFFERS(a, t), tau, count, w, count * a->n, o->tol, o->m,
+            o->max_substeps, out, a->n, work, work_len, &report->value, &report->substeps, &applications, &report->rejected, &report->shortest,
+            &report->last);
+        report->applications = applications;
+    } else {
+        number = hazhendu_phi_combination_transposed(HAZHENDU_MATRIX(a), HAZHENDU_BUFFERS(a, t), tau, o->degree, count, w, count * a->n, out, a->n,
+            work, work_len, &report->value, &report->s, &report->plan_m, &report->applications);
+    }
+    hazhendu_leave(saved);
+    return number;
+}
+
+/* phi_k(tau G) v, by Taylor; work as hazhendu_action_work says. */
+static inline uint32_t hazhendu_act(const struct hazhendu_matrix *a, double tau, size_t k, const double *v, double *out, double *work,
+    size_t work_len, struct hazhendu_report *report)
+{
+    uint32_t saved = hazhendu_enter(), number;
+    *report = hazhendu_no_report();
+    number = hazhendu_phi_action(HAZHENDU_MATRIX(a), tau, HAZHENDU_MAX_DEGREE, k, v, a->n, out, a->n, work, work_len, &report->value, &report->s,
+        &report->plan_m, &report->applications);
+    hazhendu_leave(saved);
+    return number;
+}
+
+/* phi_0(tau G) v to phi_p(tau G) v: out is (p + 1) * n long. */
+static inline uint32_t hazhendu_act_batched(const struct hazhendu_matrix *a, double tau, size_t p, const double *v, double *out, double *work,
+    size_t work_len, struct hazhendu_report *report)
+{
+    uint32_t saved = hazhendu_enter(), number;
+    *report = hazhendu_no_report();
+    number = hazhendu_phi_action_batched(HAZHENDU_MATRIX(a), tau, HAZHENDU_MAX_DEGREE, p, v, a->n, out, p > HAZHENDU_MAX_INDEX ? 0 : (p + 1) * a->n,
+        work, work_len, &report->value, &report->s, &report->plan_m, &report->applications);
+    hazhendu_leave(saved);
+    return number;
+}
+
+/* Barrel and mount as one matrix, written to t; its masses are not looked at. */
+static inline uint32_t hazhendu_join_to(const struct hazhendu_matrix *barrel, const struct hazhendu_matrix *mount, const struct hazhendu_buffers *t,
+    double *value, size_t *entries)
+{
+    uint32_t saved = hazhendu_enter();
+    uint32_t number = hazhendu_join(barrel->n, barrel->starts, barrel->n + 1, hazhendu_cols(barrel), barrel->entries, hazhendu_doubles(barrel->vals),
+        barrel->entries, mount->n, mount->starts, mount->n + 1, hazhendu_cols(mount), mount->entries, hazhendu_doubles(mount->vals), mount->entries,
+        t->starts, barrel->n + 1, t->cols, t->room, t->vals, t->room, value, entries);
+    hazhendu_leave(saved);
+    return number;
+}
 
 #ifdef __cplusplus
 }

@@ -77,7 +77,7 @@ const MEANINGS: [Meaning; 33] = [
         20,
         "a substep has more than 128 columns, or more than 1,000,000 substeps are allowed",
         "",
-        "take an m of at most 128 (30, say) and a limit of at most 1,000,000",
+        "take an m of at most 128 (40, say) and a limit of at most 1,000,000",
     ),
     meaning(
         21,
@@ -162,10 +162,19 @@ impl Refusal {
         self.meaning().wrong
     }
 
+    /// Whether the library has this number.
+    pub fn is_known(&self) -> bool {
+        self.meaning().number != UNKNOWN.number
+    }
+
+    /// What the double is; nothing where it tells nothing.
+    pub fn value_is(&self) -> Option<&'static str> {
+        Some(self.meaning().value).filter(|is| !is.is_empty())
+    }
+
     /// What the double is, and the double; nothing where it tells nothing.
     pub fn told(&self) -> Option<String> {
-        let is = self.meaning().value;
-        (!is.is_empty()).then(|| format!("{is}: {}", shortest(self.value)))
+        self.value_is().map(|is| format!("{is}: {}", shortest(self.value)))
     }
 
     /// What to change.

@@ -1,0 +1,90 @@
+/* The calls on structs give what the plain calls give, in whatever floating-point environment; built with -ffast-math too. */
+#include "hazhendu.h"
+
+#include <stdio.h>
+#include <string.h>
+
+enum { N = 3, ENTRIES = 7, COUNT = 2, WORK = 4096 };
+
+static const uint32_t starts[N + 1] = {0, 2, 5, 7}, cols[ENTRIES] = {0, 1, 0, 1, 2, 1, 2};
+static const double vals[ENTRIES] = {0.5, -0.5, -0.5, 1.0, -0.5, -0.5, 0.6};
+/* The last is subnormal, and 0 to whoever flushes it. */
+static const double mass[N] = {8, 4, 2}, tiny[N] = {1, 1, 5e-324}, w[COUNT * N] = {20, 19, 18, 0.25, 0, 0.1};
+static const struct hazhendu_matrix a = {N, ENTRIES, starts, cols, vals, mass}, empty = {N, 0, (const uint32_t[]){0, 0, 0, 0}, NULL, NULL, tiny};
+
+static double out[4 * N], again[4 * N], work[WORK];
+static uint32_t t_starts[N + 1], t_cols[2 * ENTRIES];
+static double t_vals[2 * ENTRIES];
+static const struct hazhendu_buffers t = {t_starts, t_cols, t_vals, 2 * ENTRIES};
+static unsigned failed;
+
+static void expect(bool holds, const char *what)
+{
+    if (!holds) {
+        printf("failed: %s\n", what);
+        failed++;
+    }
+}
+
+static void soaks(void)
+{
+    struct hazhendu_report report;
+    struct hazhendu_options options = hazhendu_by_taylor();
+    double value, shortest, last;
+    uint64_t first, second, third;
+    for (int krylov = 0; krylov < 2; krylov++) {
+        options.krylov = krylov;
+        uint32_t number = hazhendu_soak(&a, 60, COUNT, w, &options, out, work, hazhendu_work(&a, COUNT, &options), &report);
+        uint32_t saved = hazhendu_enter();
+        uint32_t plain = hazhendu_combine(N, starts, N + 1, cols, ENTRIES, vals, ENTRIES, true, mass, N, 60, 30, COUNT, w, COUNT * N, krylov, 1e-10, 40,
+            100000, again, N, work, WORK, &value, &first, &second, &third, &shortest, &last);
+        hazhendu_leave(saved);
+        expect(number == 0 && plain == 0 && memcmp(out, again, N * sizeof *out) == 0, "hazhendu_soak");
+        expect(memcmp(&value, &report.value, sizeof value) == 0 && report.applications == (krylov ? second : third), "its report");
+        expect(hazhendu_soak_transposed(&a, &t, 60, COUNT, w, &options, out, work, WORK, &report) == 0, "hazhendu_soak_transposed");
+        expect(t_starts[N] == ENTRIES && t_vals[0] == vals[0] / mass[0] && report.applications > 0, "the transposed matrix");
+    }
+    expect(hazhendu_soak(&a, -1, COUNT, w, &options, out, work, WORK, &report) == HAZHENDU_TAU_RANGE && report.value == -1, "a refusal");
+}
+
+static void others(void)
+{
+    struct hazhendu_report report;
+    double norm;
+    size_t row, entries;
+    expect(hazhendu_check(&a, &norm, &row) == 0 && norm == 0.55 && row == 2, "hazhendu_check");
+    expect(hazhendu_check(&empty, &norm, &row) == 0 && norm == 0, "a subnormal mass is above 0");
+    expect(hazhendu_act(&a, 60, 1, w, out, work, WORK, &report) == 0, "hazhendu_act");
+    expect(hazhendu_act_batched(&a, 60, 3, w, again, work, WORK, &report) == 0, "hazhendu_act_batched");
+    expect(memcmp(out, again + N, N * sizeof *out) == 0, "phi_1 of the batch");
+    expect(hazhendu_act_batched(&a, 60, 4, w, again, work, WORK, &report) == HAZHENDU_INDEX_RANGE, "phi_4");
+    expect(hazhendu_join_to(&a, &a, &t, &norm, &entries) == 0 && entries == ENTRIES && t_vals[0] == 1, "hazhendu_join_to");
+    expect(strcmp(hazhendu_refusal_text(HAZHENDU_TAU_RANGE), "tau is negative, infinite or not a number") == 0, "a text");
+    expect(strcmp(hazhendu_refusal_value(HAZHENDU_TAU_RANGE), "tau") == 0 && *hazhendu_refusal_change(HAZHENDU_TAU_RANGE), "its double and advice");
+}
+
+/* Rounding up, and numbers flushed to zero: the calls on structs do not see it, and it is there afterwards. */
+static void in_environment(uint32_t state, const char *what)
+{
+    uint32_t before = _mm_getcsr();
+    double usual[N];
+    struct hazhendu_report report;
+    struct hazhendu_options options = hazhendu_by_krylov();
+    expect(hazhendu_soak(&a, 60, COUNT, w, &options, usual, work, WORK, &report) == 0, "a soak");
+    _mm_setcsr(state);
+    expect(!hazhendu_environment_is_usual(), what);
+    expect(hazhendu_soak(&a, 60, COUNT, w, &options, again, work, WORK, &report) == 0 && memcmp(again, usual, sizeof usual) == 0, what);
+    others();
+    expect((_mm_getcsr() & ~(unsigned)HAZHENDU_EXCEPTION_FLAGS) == state, "the environment is put back");
+    _mm_setcsr(before);
+}
+
+int main(void)
+{
+    soaks();
+    others();
+    in_environment(0x5f80, "rounding up");
+    in_environment(0x9fc0, "flush to zero");
+    puts(failed ? "structs: failed" : "structs: passed");
+    return failed != 0;
+}

@@ -1,0 +1,235 @@
+#!/usr/bin/env python3
+"""Tests of the Python module, against SciPy. Ends with 'python: N passed, M failed'."""
+
+import ctypes
+import io
+import json
+import os
+import pickle
+import subprocess
+import sys
+import tempfile
+import unittest
+import warnings
+from math import factorial
+
+import numpy as np
+import scipy.io
+import scipy.sparse as sparse
+from scipy.sparse.linalg import expm_multiply
+
+sys.path.insert(0, os.path.dirname(os.path.abspath(__file__)))
+import hazhendu  # noqa: E402
+
+SOAK = os.environ.get("SOAK")
+
+
+def plate(side):
+    """Conduction on a square plate that loses heat along one edge; masses that differ."""
+    line = sparse.diags([-1.0, 2.0, -1.0], [-1, 0, 1], shape=(side, side), format="lil")
+    line[0, 0] = line[side - 1, side - 1] = 1.0
+    one = sparse.identity(side)
+    loss = sparse.kron(sparse.diags([1.0] + [0.0] * (side - 1)), one)
+    a = sparse.csr_matrix(sparse.kron(line, one) + sparse.kron(one, line) + 0.1 * loss)
+    a.sum_duplicates()
+    return a, 1.0 + 0.5 * np.sin(np.arange(side * side))
+
+
+def by_scipy(a, tau, vectors, mass):
+    """The sum over k of tau^k phi_k(tau G) w_k, by expm_multiply on the augmented matrix."""
+    n, d = a.shape[0], len(vectors) - 1
+    g = sparse.diags(-1.0 / mass) @ a
+    chain = sparse.csr_matrix(np.eye(d, k=1)) if d else None
+    w = sparse.csr_matrix(np.column_stack(vectors[:0:-1])) if d else None
+    whole = sparse.bmat([[g, w], [None, chain]], format="csc") if d else g.tocsc()
+    start = np.concatenate([vectors[0], np.zeros(max(d - 1, 0)), np.ones(min(d, 1))])
+    return expm_multiply(tau * whole, start)[:n]
+
+
+class Soaks(unittest.TestCase):
+    def setUp(self):
+        self.a, self.mass = plate(8)
+        self.n = self.a.shape[0]
+        self.vectors = [np.cos(np.arange(self.n) + k) for k in range(4)]
+
+    def test_both_solvers_agree_with_scipy(self):
+        for count in (1, 2, 3, 4):
+            wanted = by_scipy(self.a, 3.0, self.vectors[:count], self.mass)
+            for solver in ("taylor", "krylov"):
+                soaked = hazhendu.soak(self.a, 3.0, self.vectors[:count], self.mass, solver=solver)
+                np.testing.assert_allclose(soaked.field, wanted, rtol=0, atol=1e-11)
+                self.assertGreater(soaked.report.applications, 0)
+
+    def test_every_kind_of_matrix_gives_the_same_bits(self):
+        wanted = hazhendu.soak(self.a, 3.0, self.vectors[:2], self.mass).field
+        large = self.a.copy()
+        large.indices, large.indptr = large.indices.astype(np.int64), large.indptr.astype(np.int64)
+        kinds = [self.a.tocsc(), self.a.tocoo(), self.a.tolil(), self.a.toarray(), np.asfortranarray(self.a.toarray()), large, sparse.csr_array(self.a)]
+        for kind in kinds:
+            for vectors in (self.vectors[:2], np.array(self.vectors[:2]), [list(v) for v in self.vectors[:2]]):
+                field = hazhendu.soak(kind, 3.0, vectors, self.mass).field
+                np.testing.assert_array_equal(field, wanted)
+
+    def test_actions_are_phi_functions(self):
+        v, batch = self.vectors[1], hazhendu.phi_action_batched(self.a, 2.0, 3, self.vectors[1], self.mass)
+        self.assertEqual(batch.field.shape, (4, self.n))
+        for k in range(4):
+            alone = hazhendu.phi_action(self.a, 2.0, k, v, self.mass)
+            np.testing.assert_array_equal(alone.field, batch.field[k])
+            zeros = [np.zeros(self.n)] * k + [v]
+            np.testing.assert_allclose(alone.field, by_scipy(self.a, 2.0, zeros, self.mass) / 2.0**k, rtol=0, atol=1e-12)
+        at_zero = hazhendu.phi_action(self.a, 0.0, 3, v, self.mass).field
+        np.testing.assert_allclose(at_zero, v / factorial(3), rtol=1e-14)
+
+    def test_transposed_calls_run_on_the_transposed_matrix(self):
+        turned = hazhendu.transpose(self.a, self.mass)
+        np.testing.assert_array_equal(turned.toarray(), (self.a.toarray() / self.mass[:, None]).T)
+        for solver in ("taylor", "krylov"):
+            with warnings.catch_warnings():
+                warnings.simplefilter("ignore")
+                wanted = hazhendu.soak(turned, 3.0, self.vectors[:2], solver=solver).field
+            field = hazhendu.soak(self.a, 3.0, self.vectors[:2], self.mass, solver=solver, transposed=True).field
+            np.testing.assert_array_equal(field, wanted)
+        self.assertEqual(hazhendu.phi_action(self.a, 1.0, 0, self.vectors[0], self.mass, transposed=True).field.shape, (self.n,))
+        self.assertEqual(hazhendu.phi_action_batched(self.a, 1.0, 1, self.vectors[0], self.mass, transposed=True).field.shape, (2, self.n))
+
+    def test_check_and_join(self):
+        largest = hazhendu.check(self.a)
+        sums = np.asarray(abs(self.a).sum(axis=1)).ravel()
+        self.assertEqual((largest.norm, largest.row), (sums.max(), int(sums.argmax())))
+        columns = hazhendu.check(self.a, self.mass, transposed=True)
+        self.assertAlmostEqual(columns.norm, abs(sparse.diags(1 / self.mass) @ self.a).sum(axis=0).max(), places=12)
+        mount = sparse.csr_matrix(([0.25, -0.25, -0.25, 0.25], ([0, 0, 9, 9], [0, 9, 0, 9])), shape=self.a.shape)
+        both = hazhendu.join(self.a, mount)
+        np.testing.assert_array_equal(both.toarray(), (self.a + mount).toarray())
+
+    def test_the_state_of_a_refused_run_comes_with_it(self):
+        with self.assertRaises(hazhendu.Refused) as caught:
+            hazhendu.soak(self.a, 300.0, self.vectors[:2], self.mass, solver="krylov", m=2, limit=3)
+        refused = caught.exception
+        self.assertEqual(refused.number, 27)
+        self.assertEqual(refused.state.shape, (self.n,))
+        again = pickle.loads(pickle.dumps(refused))
+        self.assertEqual((again.number, str(again)), (27, str(refused)))
+
+
+class Refusals(unittest.TestCase):
+    A = np.array([[0.5, -0.5], [-0.5, 0.6]])
+
+    def refused(self, *words, **options):
+        with self.assertRaises(hazhendu.Refused) as caught, warnings.catch_warnings():
+            warnings.simplefilter("ignore")
+            hazhendu.soak(*words, **options)
+        self.assertIn(f"refused ({caught.exception.number})", str(caught.exception))
+        self.assertTrue(caught.exception.wrong and caught.exception.change)
+        return caught.exception.number, caught.exception.value
+
+    def test_numbers_and_doubles(self):
+        a, w = self.A, [[20.0, 20.0]]
+        krylov = {"solver": "krylov"}
+        self.assertEqual(self.refused(a, -1.0, w), (14, -1.0))
+        self.assertEqual(self.refused(np.zeros((0, 0)), 1.0, w)[0], 1)
+        self.assertEqual(self.refused([[np.nan, 0], [0, 1]], 1.0, w)[0], 6)
+        self.assertEqual(self.refused(a, 1.0, w, mass=[1.0]), (7, 1.0))
+        self.assertEqual(self.refused(a, 1.0, w, mass=[1.0, 0.0]), (8, 0.0))
+        self.assertEqual(self.refused(a, 1.0, []), (12, 0.0))
+        self.assertEqual(self.refused(a, 1.0, w * 5), (12, 5.0))
+        self.assertEqual(self.refused(a, 1.0, [[1.0, 2.0, 3.0], [1.0]]), (16, 3.0))
+        self.assertEqual(self.refused(a, 1.0, [[1.0, np.inf]]), (17, np.inf))
+        self.assertEqual(self.refused(a, 1.0, w, tol=1.0, **krylov), (18, 1.0))
+        self.assertEqual(self.refused(a, 1.0, w, limit=0, **krylov)[0], 19)
+        self.assertEqual(self.refused(a, 1.0, w, limit=2**40, **krylov)[0], 20)
+        self.assertEqual(self.refused(a, 1.0, w, degree=2**32 + 30)[0], 33)
+        self.assertEqual(self.refused(a, 1e300, w)[0], 25)
+        with self.assertRaises(hazhendu.Refused) as caught:
+            hazhendu.phi_action(a, 1.0, 4, [1.0, 2.0])
+        self.assertEqual((caught.exception.number, caught.exception.value_is), (13, "the index"))
+
+    def test_a_column_that_does_not_fit_is_refused(self):
+        a = sparse.csr_matrix(self.A)
+        a.indices = a.indices.astype(np.int64)
+        a.indices[1] = 2**32
+        with self.assertRaises(hazhendu.Refused) as caught:
+            hazhendu.check(a)
+        self.assertEqual(caught.exception.number, 5)
+
+    def test_what_is_no_real_square_matrix_is_an_error(self):
+        for a, error in ((np.ones((2, 3)), ValueError), (np.ones(4), ValueError), (self.A * 1j, TypeError)):
+            with self.assertRaises(error):
+                hazhendu.check(a)
+        with self.assertRaises(TypeError):
+            hazhendu.soak(self.A, 1.0, [np.array([1j, 0])])
+        with self.assertRaises(TypeError):
+            hazhendu.soak(self.A, 1.0, np.array([1.0, 2.0]))
+        for options in ({"solver": "auto-"}, {"solver": "krylov", "m": -1}):
+            with self.assertRaises(ValueError):
+                hazhendu.soak(self.A, 1.0, [[1.0, 2.0]], **options)
+
+
+class Warnings(unittest.TestCase):
+    def test_rows_that_heat_themselves(self):
+        turned = np.array([[-2000.0, 1000.0], [1000.0, -2000.0]])
+        self.assertEqual(list(hazhendu.heating_rows(turned)), [0, 1])
+        self.assertEqual(list(hazhendu.heating_rows(-turned)), [])
+        with warnings.catch_warnings(record=True) as caught:
+            warnings.simplefilter("always")
+            field = hazhendu.soak(turned, 1.0, [[1.0, -2.0]]).field
+        self.assertFalse(np.isfinite(field).all())
+        self.assertEqual([w.category for w in caught], [hazhendu.HeatingWarning, hazhendu.NotFiniteWarning])
+        self.assertTrue(all(w.filename == __file__ for w in caught))
+        with warnings.catch_warnings():
+            warnings.simplefilter("error")
+            hazhendu.soak(-turned, 1.0, [[1.0, -2.0]])
+
+
+class Environment(unittest.TestCase):
+    def test_rounding_of_the_caller_does_not_matter(self):
+        upward, nearest = 0x800, 0
+        math = ctypes.CDLL("libm.so.6")
+        a, mass = plate(4)
+        wanted = hazhendu.soak(a, 3.0, [mass, mass]).field
+        self.assertEqual(math.fesetround(upward), 0)
+        try:
+            field = hazhendu.soak(a, 3.0, [mass, mass]).field
+            self.assertEqual(math.fegetround(), upward)
+        finally:
+            math.fesetround(nearest)
+        np.testing.assert_array_equal(field, wanted)
+
+
+@unittest.skipUnless(SOAK, "SOAK does not name the command")
+class Command(unittest.TestCase):
+    """The command on what SciPy writes, and its reports."""
+
+    def test_files_of_mmwrite_and_savetxt(self):
+        a, mass = plate(5)
+        w = np.cos(np.arange(25.0))
+        wanted = hazhendu.soak(a, 2.0, [w, mass], mass).field
+        with tempfile.TemporaryDirectory() as folder:
+            place = lambda name: os.path.join(folder, name)  # noqa: E731
+            np.savetxt(place("mass.txt"), mass[None])
+            scipy.io.mmwrite(place("w1.mtx"), mass.reshape(-1, 1), precision=17)
+            np.savetxt(place("w0.txt"), w)
+            for matrix, options in ((a, {}), (a, {"symmetry": "general"}), (a.toarray(), {}), (a.toarray(), {"symmetry": "general"})):
+                scipy.io.mmwrite(place("a.mtx"), matrix, precision=17, **options)
+                words = [SOAK, place("a.mtx"), "--mass", place("mass.txt"), "--tau", "2", "--vector", place("w0.txt"), "--vector", place("w1.mtx")]
+                words += ["--report", place("report.json")]
+                printed = subprocess.run(words, capture_output=True, text=True, check=True).stdout
+                np.testing.assert_allclose(np.loadtxt(io.StringIO(printed)), wanted, rtol=0, atol=1e-14)
+                with open(place("report.json")) as file:
+                    report = json.load(file)
+                np.testing.assert_array_equal(report["field"], np.loadtxt(io.StringIO(printed)))
+                self.assertEqual(report["hottest"]["row"], int(np.argmax(report["field"])) + 1)
+                self.assertAlmostEqual(report["mean"], np.average(report["field"], weights=mass), places=12)
+
+
+class Counted(unittest.TextTestResult):
+    def line(self):
+        bad = len(self.failures) + len(self.errors)
+        return f"python: {self.testsRun - bad - len(self.skipped)} passed, {bad} failed"
+
+
+if __name__ == "__main__":
+    result = unittest.TextTestRunner(resultclass=Counted, verbosity=1).run(unittest.defaultTestLoader.loadTestsFromModule(sys.modules[__name__]))
+    print(result.line())
+    sys.exit(not result.wasSuccessful())
