@@ -217,7 +217,7 @@ static inline const char *hazhendu_refusal_change(uint32_t number)
     case 27:
         return "raise the limit or m (a higher m makes longer substeps), or take the Taylor solver, whose work is known beforehand";
     case 28:
-        return "take another m (40, then 60 or 20: a lower one may do too), or the Taylor solver; tol is seldom the reason";
+        return "take another m (60, say; a lower one may do too), or the Taylor solver; tol is seldom the reason";
     case 29:
         return "shorten tau, check its units, or take the Taylor solver";
     case 30:

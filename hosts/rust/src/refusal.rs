@@ -109,7 +109,7 @@ const MEANINGS: [Meaning; 33] = [
         28,
         "eleven step lengths were rejected in one substep",
         "error allowed, of the scaled start",
-        "take another m (40, then 60 or 20: a lower one may do too), or the Taylor solver; tol is seldom the reason",
+        "take another m (60, say; a lower one may do too), or the Taylor solver; tol is seldom the reason",
     ),
     meaning(
         29,

@@ -9,6 +9,8 @@ use std::io::{self, BufRead, BufReader, Read, Seek, SeekFrom};
 use std::path::{Path, PathBuf};
 use std::process::{Child, ChildStdout, Command, Stdio};
 
+/// A longer line of places is not read into memory.
+const LONGEST: u64 = 65_536;
 /// The bytes that a gzip file begins with.
 const GZIP: [u8; 2] = [0x1f, 0x8b];
 
@@ -34,6 +36,24 @@ impl Source {
     pub fn open(&self) -> Result<Box<dyn BufRead>, Failure> {
         let opened = if self.is_standard_input() { standard_input() } else { file(&self.0) };
         opened.map_err(|error| Failure::CannotRead { name: self.to_string(), error })
+    }
+
+    /// Hands on each line with its number from 1, without its end and without blanks around it.
+    pub fn each_line(&self, mut take: impl FnMut(usize, &str) -> Result<(), Failure>) -> Result<(), Failure> {
+        let mut reader = self.open()?;
+        for number in 1.. {
+            let mut bytes = Vec::new();
+            let read = reader.by_ref().take(LONGEST).read_until(b'\n', &mut bytes);
+            let read = read.map_err(|error| Failure::CannotRead { name: self.to_string(), error })?;
+            if read == 0 {
+                break;
+            }
+            if read as u64 == LONGEST {
+                return Err(Failure::BadFile { place: format!("{self}:{number}"), wrong: format!("a line of {LONGEST} bytes or more") });
+            }
+            take(number, String::from_utf8_lossy(&bytes).trim_start_matches('\u{feff}').trim())?;
+        }
+        Ok(())
     }
 
     pub fn matrix(&self) -> Result<Csr, Failure> {

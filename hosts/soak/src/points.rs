@@ -4,7 +4,7 @@ use crate::failure::Failure;
 use crate::input::Source;
 use crate::plot::geometry::{Cell, Part};
 use crate::plot::Geometry;
-use std::io::BufRead;
+use hazhendu::sizes::MAX_ROWS;
 
 /// A line's numbers, and what stands behind them.
 struct Line {
@@ -62,26 +62,23 @@ fn bad(source: &Source, line: &Line, wrong: &str) -> Failure {
 /// names of the columns.
 fn table(source: &Source) -> Result<(Option<Vec<String>>, Vec<Line>), Failure> {
     let (mut names, mut lines) = (None, vec![]);
-    for (i, read) in source.open()?.lines().enumerate() {
-        let text = read.map_err(|error| Failure::CannotRead { name: source.to_string(), error })?;
-        let text = text.trim_start_matches('\u{feff}').trim();
-        let comment = text.starts_with(['#', '%']);
+    source.each_line(|number, text| {
         let words: Vec<&str> = text.trim_start_matches(['#', '%']).split([' ', '\t', ',']).filter(|word| !word.is_empty()).collect();
         let values: Vec<f64> = words.iter().take(4).map_while(|word| word.parse().ok()).collect();
-        if words.is_empty() {
-            continue;
-        }
-        if comment || (values.is_empty() && lines.is_empty()) {
-            if lines.is_empty() && names.is_none() {
-                names = Some(words.into_iter().map(str::to_owned).collect());
+        let heading = text.starts_with(['#', '%']) || (values.is_empty() && lines.is_empty());
+        if heading && lines.is_empty() && names.is_none() && !words.is_empty() {
+            names = Some(words.into_iter().map(str::to_owned).collect());
+        } else if !heading && !words.is_empty() {
+            let line = Line { number, rest: words[values.len()..].join(" "), values };
+            if lines.len() == MAX_ROWS {
+                return Err(bad(source, &line, "more lines than a matrix may have rows"));
             }
-            continue;
+            if line.values.is_empty() || line.values.iter().any(|value| !value.is_finite()) {
+                return Err(bad(source, &line, "not finite numbers"));
+            }
+            lines.push(line);
         }
-        let line = Line { number: i + 1, rest: words[values.len()..].join(" "), values };
-        match line.values.iter().all(|value| value.is_finite()) && !line.values.is_empty() {
-            true => lines.push(line),
-            false => return Err(bad(source, &line, "not finite numbers")),
-        }
-    }
+        Ok(())
+    })?;
     Ok((names, lines))
 }

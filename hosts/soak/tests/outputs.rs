@@ -189,11 +189,11 @@ fn a_map_has_a_scale_and_the_parts() {
 #[test]
 fn a_job_has_a_page_and_lists_for_programs() {
     let reports = ["soaked.html", "soaked.json", "soaked.csv"].map(scratch);
-    let [html, json, csv] = reports.each_ref().map(|path| path.display());
+    let [html, json, csv] = reports.clone().map(|path| path.display().to_string());
     let words = format!("rod.mtx --mass mass.txt --tau 60 --vector start.txt --report {html} --report {json} --report {csv}");
     let output = run(&words);
     assert!(output.status.success());
-    let [html, json, csv] = reports.each_ref().map(|path| fs::read_to_string(path).unwrap());
+    let [html, json, csv] = reports.map(|path| fs::read_to_string(path).unwrap());
     let field = String::from_utf8(output.stdout).unwrap();
     assert_eq!(csv.lines().next(), Some("row,temperature"));
     assert!(csv.lines().skip(1).zip(field.lines()).enumerate().all(|(i, (row, value))| row == format!("{},{value}", i + 1)));
@@ -207,7 +207,7 @@ fn a_job_has_a_page_and_lists_for_programs() {
 #[test]
 fn a_refused_job_has_a_page_too() {
     let reports = ["refused.html", "refused.json", "refused.csv"].map(scratch);
-    let [html, json, csv] = reports.each_ref().map(|path| path.display());
+    let [html, json, csv] = reports.clone().map(|path| path.display().to_string());
     let words =
         format!("rod.mtx --tau 600 --vector start.txt --solver krylov --m 2 --limit 1 --report {html} --report {json} --report {csv}");
     assert_eq!(run(&words).status.code(), Some(27));

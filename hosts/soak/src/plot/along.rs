@@ -34,10 +34,11 @@ pub fn draw(picture: &Picture, geometry: &Geometry) -> String {
     }
     let mut mean = String::new();
     for (x, y) in slices.iter().map(|(x, slice)| place((*x, slice.sum / slice.count))) {
-        let _ = write!(mean, "{}{x:.1} {y:.1}", if mean.is_empty() { 'M' } else { 'L' });
+        // With a round cap a line without length is a point.
+        let _ = write!(mean, "{}{x:.1} {y:.1}h0", if mean.is_empty() { 'M' } else { 'L' });
     }
-    svg.path(&mean, r##"stroke="#a50026" stroke-width="1.5" fill="none""##);
-    svg.label(FRAME.right, FRAME.top - 6.0, Anchor::End, "line: mean of the rows there; band: from the coldest to the hottest");
+    svg.path(&mean, r##"stroke="#a50026" stroke-width="1.5" stroke-linecap="round" fill="none""##);
+    svg.label(FRAME.right, FRAME.bottom + 38.0, Anchor::End, "line: mean of the rows; band: coldest to hottest");
     svg.end()
 }
 

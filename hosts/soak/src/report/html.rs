@@ -2,8 +2,10 @@
 
 use super::{command_line, Outcome, Report};
 use crate::plot::{escaped, Picture};
+use crate::sink::is_standard_output;
 use crate::summary::{rounded, Extreme, Summary};
 use hazhendu::{shortest, Cost, Refusal, Solver};
+use std::path::PathBuf;
 
 /// A field of more rows is not listed.
 const LISTED: usize = 5000;
@@ -27,11 +29,13 @@ pub fn page(report: &Report) -> String {
     let body = match &report.outcome {
         Outcome::Soaked { cost, picture } => soaked(report, cost, picture),
         Outcome::Refused { refusal, place, state } => {
-            let state = state.as_ref().map(|path| path.display().to_string());
+            let told = |path: &PathBuf| if is_standard_output(path) { "the standard output".into() } else { path.display().to_string() };
+            let state = state.as_ref().map(told);
             refused(*refusal, *place, state.as_deref())
         }
     };
-    let warnings: String = report.warnings.iter().map(|warning| format!("<p class=\"warning\">{}</p>\n", escaped(warning))).collect();
+    let warning = |text: &String| format!("<p class=\"warning\">{}</p>\n", escaped(text.trim_start_matches("soak: ")));
+    let warnings: String = report.warnings.iter().map(warning).collect();
     format!(
         "<!DOCTYPE html>\n<html lang=\"en\">\n<head>\n<meta charset=\"utf-8\">\n<title>{title}</title>\n<style>\n{STYLE}</style>\n</head>\n<body>\n\
          <h1>{title}</h1>\n{warnings}{body}{}<h2>The command</h2>\n<pre>{}</pre>\n<p>soak {}, over the proved library hazhendu.</p>\n</body>\n</html>\n",
