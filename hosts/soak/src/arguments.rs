@@ -46,16 +46,13 @@ pub struct Drawing {
 }
 
 impl Request {
-    /// Where the state goes that a refused run leaves: never under the field's name.
-    pub fn state(&self) -> PathBuf {
-        match is_standard_output(&self.output) {
-            true => self.output.clone(),
-            false => {
-                let mut name = self.output.clone().into_os_string();
-                name.push(".state");
-                name.into()
-            }
+    /// Where the state goes that a refused run leaves, never under the field's name; Taylor leaves none.
+    pub fn state(&self) -> Option<PathBuf> {
+        let mut name = self.output.clone().into_os_string();
+        if !is_standard_output(&self.output) {
+            name.push(".state");
         }
+        matches!(self.solver, Solver::Krylov(_)).then_some(name.into())
     }
 
     /// What is said of a picture must have a picture to be said of.
@@ -73,7 +70,7 @@ impl Request {
     }
 
     fn guarded(&self) -> guard::Files<'_> {
-        let state = Some(self.state()).filter(|path| !is_standard_output(path));
+        let state = self.state().filter(|path| !is_standard_output(path));
         let drawn = self.drawing.points.iter().chain(&self.drawing.outline);
         let files = guard::Files::default().reads(self.files.sources()).reads(&self.vectors).reads(drawn);
         files

@@ -67,10 +67,23 @@ impl Run<'_> {
 
     fn refused(self, failure: Failure) -> Result<(), Failure> {
         if let Failure::Refused { refusal, place, state } = &failure {
-            let kept = state.as_ref().map(|state| keep_state(self.request, &self.sinks, *refusal, state)).transpose()?;
+            let kept = state.as_ref().map(|state| self.keep_state(*refusal, state)).transpose()?.flatten();
             self.report(Outcome::Refused { refusal: *refusal, place: place.as_deref(), state: kept })?;
         }
         Err(failure)
+    }
+
+    /// A comment says what it is, so that nobody takes it for the field; as a vector it reads back. Where it is.
+    fn keep_state(&self, refusal: Refusal, state: &[f64]) -> Result<Option<PathBuf>, Failure> {
+        let (Some(sink), Some(place)) = (&self.sinks.state, self.request.state()) else { return Ok(None) };
+        let (tau, number) = (shortest(self.request.tau), refusal.number);
+        sink.fill(|to| {
+            writeln!(to, "# not the field at tau {tau}: the state after the last accepted substep of a run refused by {number}")?;
+            vectors::write(to, state)
+        })?;
+        let told = if is_standard_output(&place) { "above".into() } else { format!("in {}", place.display()) };
+        tell(&format!("soak: the state after the last accepted substep, at an earlier time than tau, is {told}"));
+        Ok(Some(place))
     }
 
     fn not_finite(&self, summary: &Summary, n: usize) -> Option<String> {
@@ -113,7 +126,7 @@ impl Run<'_> {
 /// Where a soak writes, each tried before the run.
 struct Sinks {
     output: Sink,
-    state: Sink,
+    state: Option<Sink>,
     plot: Option<Sink>,
     reports: Vec<(Kind, Sink)>,
 }
@@ -122,7 +135,7 @@ impl Sinks {
     fn open(request: &Request) -> Result<Self, Failure> {
         Ok(Sinks {
             output: Sink::open(&request.output)?,
-            state: Sink::open(&request.state())?,
+            state: request.state().as_deref().map(Sink::open).transpose()?,
             plot: request.plot.as_deref().map(Sink::open).transpose()?,
             reports: request.reports.iter().filter_map(|path| Some((Kind::of(path)?, path))).map(opened).collect::<Result<_, _>>()?,
         })
@@ -137,20 +150,6 @@ fn geometry(request: &Request, job: &Job) -> Result<Option<Geometry>, Failure> {
     let drawing = &request.drawing;
     let read = |source| points::read(source, drawing.outline.as_ref(), job.matrix().n, &request.files.matrix);
     drawing.points.as_ref().map(read).transpose()
-}
-
-/// A comment says what it is, so that nobody takes it for the field; as a vector it reads back.
-/// Where it is.
-fn keep_state(request: &Request, sinks: &Sinks, refusal: Refusal, state: &[f64]) -> Result<PathBuf, Failure> {
-    let (tau, number) = (shortest(request.tau), refusal.number);
-    sinks.state.fill(|to| {
-        writeln!(to, "# not the field at tau {tau}: the state after the last accepted substep of a run refused by {number}")?;
-        vectors::write(to, state)
-    })?;
-    let place = request.state();
-    let told = if is_standard_output(&place) { "above".into() } else { format!("in {}", place.display()) };
-    tell(&format!("soak: the state after the last accepted substep, at an earlier time than tau, is {told}"));
-    Ok(place)
 }
 
 /// Of a sensitivity K for each K at the start.
