@@ -4,7 +4,6 @@
     samples/choosing.py times         time, work and error of each way, at the barrels' own tau
     samples/choosing.py accuracy      error of both solvers, and Krylov's estimate, over tau
     samples/choosing.py refusals      where Krylov refuses by 28, over tau and tol, for several m
-    samples/choosing.py rescue        for each job that m 30 refuses, which other m takes it
 """
 
 import os
@@ -140,23 +139,8 @@ def refusals():
     print("| of 216 jobs | | " + " | ".join(str(total) for total in totals.values()) + " |")
 
 
-def rescue():
-    others = (10, 15, 20, 25, 35, 40, 50, 60, 80)
-    taken, jobs = {m: 0 for m in others}, 0
-    for barrel in BARRELS:
-        problem = load(barrel)
-        for tau in TAUS:
-            for tol in TOLS:
-                if number(problem, tau, tol, 30):
-                    jobs += 1
-                    for m in others:
-                        taken[m] += number(problem, tau, tol, m) == 0
-    print(f"| of {jobs} jobs that m 30 refuses, m | " + " | ".join(str(m) for m in others) + " |\n|" + "---|" * (len(others) + 1))
-    print("| takes | " + " | ".join(str(taken[m]) for m in others) + " |")
-
-
 def main():
-    tables = {"times": times, "accuracy": accuracy, "refusals": refusals, "rescue": rescue}
+    tables = {"times": times, "accuracy": accuracy, "refusals": refusals}
     if len(sys.argv) != 2 or sys.argv[1] not in tables:
         sys.exit(__doc__)
     tables[sys.argv[1]]()
