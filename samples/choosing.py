@@ -2,6 +2,7 @@
 """Measures the tables of docs/CHOOSING.md on the sample barrels, as markdown. Needs python3-scipy, and samples/run to have run.
 
     samples/choosing.py times         time, work and error of each way, at the barrels' own tau
+    samples/choosing.py plates        the same on square plates, mild and stiffer
     samples/choosing.py accuracy      error of both solvers, and Krylov's estimate, over tau
     samples/choosing.py refusals      where Krylov refuses by 28, over tau and tol, for several m
 """
@@ -95,6 +96,21 @@ def times():
             print(f"| {barrel} | {name} | {best * 1e3:.3g} | {report.applications} | {steps[0]} | {steps[1]} | {error:.1e} |", flush=True)
 
 
+def plate(side):
+    line, one = sparse.diags([-1.0, 2.0, -1.0], [-1, 0, 1], shape=(side, side)), sparse.identity(side)
+    return sparse.csr_matrix(sparse.kron(line, one) + sparse.kron(one, line))
+
+
+def plates():
+    ways = ({"solver": "taylor"}, {"solver": "krylov", "m": 30}, {"solver": "krylov", "m": 40})
+    print("| rows | tau × norm | taylor | krylov, m 30 | krylov, m 40 |\n|---|---|---|---|---|")
+    for argument in (60, 1000):
+        for side in (8, 32, 100):
+            a, w = plate(side), [np.cos(np.arange(side**2)), np.ones(side**2)]
+            best = [timed(lambda: hazhendu.soak(a, argument / 8, w, **way))[0] for way in ways]
+            print(f"| {side**2} | {argument} | " + " | ".join(f"{seconds * 1e3:.3g}" for seconds in best) + " |", flush=True)
+
+
 def start_norm(tau, w):
     """The 2-norm of the augmented start, to which tol and the estimate are relative, in the field's unit."""
     size = sum(tau**j * np.abs(w[j]).max() for j in range(1, len(w)))
@@ -140,7 +156,7 @@ def refusals():
 
 
 def main():
-    tables = {"times": times, "accuracy": accuracy, "refusals": refusals}
+    tables = {"times": times, "plates": plates, "accuracy": accuracy, "refusals": refusals}
     if len(sys.argv) != 2 or sys.argv[1] not in tables:
         sys.exit(__doc__)
     tables[sys.argv[1]]()
