@@ -2,7 +2,7 @@
 use mathlib.Core.Path.{_≡_, refl, sym, ap, _∙_, subst}
 use mathlib.Core.Logic.{inl, inr}
 use mathlib.Core.Bool.{true, false, true≢false}
-use mathlib.Core.List.{List, []}
+use mathlib.Core.List.{List, [], _∷_}
 use Prim.Native.Nat.{ℕ, _+_, _≤_, _<_, zero-le}
 use native.Mathlib.Nat.{le-trans, le-of-eq, lt-irrefl}
 use native.Mathlib.Omega.{arith}
@@ -17,10 +17,11 @@ use Rattle.vectors.specs.Vectors.{scale}
 use Rattle.pow2.specs.declared.Scale.{Scale}
 use Rattle.pow2.specs.declared.Prescale.{Prescale}
 use Rattle.pow2.specs.declared.Prescale.the-variants.{By, None}
-use Rattle.arnoldi.specs.Basis.{Setting, norm2}
-use Rattle.phi_krylov_arnoldi.specs.Run.{State, End, finished, refused, unfinished, empty-report, started, relative-report}
+use Rattle.arnoldi.specs.Basis.{Setting, len, norm2}
+use Rattle.phi_krylov_arnoldi.specs.Run.{State, End, finished, refused, unfinished, substep, empty-report, started, relative-report}
+use Rattle.phi_krylov_arnoldi.proofs.Long.{FieldLong, substep-long}
 use Rattle.phi_krylov_arnoldi.specs.declared.KrylovPhiReport.{KrylovPhiReport}
-use Rattle.demand_3.specs.Trace.{trace, attempts, total, last-after, field-after, estimate-after, Run, unscaled, relative, status-of, accepted-by, tried-by, time-of, field-of, estimate-of}
+use Rattle.demand_3.specs.Trace.{runs, trace, attempts, total, last-after, field-after, estimate-after, Run, unscaled, relative, status-of, accepted-by, tried-by, time-of, field-of, estimate-of}
 use Rattle.demand_3.specs.Krylov.{euclidean, Each, Zeros, Shortest, Steps, Counted, GoesOn, Finished, Failed, KrylovCost}
 use Rattle.demand_3.proofs.Runs.{trace-settings}
 use Rattle.demand_3.proofs.Counts.{reached, Recorded, run-recorded, trace-products, trace-few}
@@ -28,6 +29,17 @@ use Rattle.demand_3.proofs.Limit.{Going, Over, run-kept}
 use Rattle.demand_3.proofs.Lengths.{Timed, run-timed, finished-time, norm-left, trace-steps, attempts-short, started-timed}
 use Rattle.demand_3.proofs.Attempts.{Judged, run-judged, run-told}
 use Rattle.demand_3.proofs.Shortest.{shortest-is}
+
+reached-long : (n : ℕ) (o : Turn State End) → FieldLong n o → length (reached o .y) ≡ n
+reached-long n (on s) h = h
+reached-long n (out (finished s)) h = h
+reached-long n (out (refused k x s)) h = h
+
+pub runs-long : (n : ℕ) (ps : List Setting) (o : Turn State End) → Each (λ p. len p ≡ n) ps → length (reached o .y) ≡ n → length (reached (runs ps o) .y) ≡ n
+unfolding runs
+runs-long n [] o ls e = e
+runs-long n (p ∷ ps) (on s) ls e = runs-long n ps (substep p s) (ls .1) (reached-long n (substep p s) (subst (λ (m : ℕ). FieldLong m (substep p s)) (ls .0) (substep-long p s (e ∙ sym (ls .0)))))
+runs-long n (p ∷ ps) (out e) ls h = h
 
 module _ (u : Run) where
   -- the state that it reached: the last one accepted
@@ -74,6 +86,10 @@ module _ (u : Run) where
         shortest = h .shortest;
         last = h .last;
       }
+
+  -- ---- the field keeps its number of values, where each setting is of as many
+  pub run-long : (n : ℕ) → Each (λ p. len p ≡ n) (u .settings) → length (u .field) ≡ n → length (state-of .y) ≡ n
+  run-long n ls e = runs-long n (u .settings) (on (started (u .first) (u .field))) ls (unfold started in e)
 
   -- ---- where it stands
   abbrev pub Stands : Turn State End → Type 0
