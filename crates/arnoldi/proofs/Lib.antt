@@ -3,4 +3,5 @@ pub mod GramSchmidt
 pub mod Turns
 pub mod Answers
 pub mod Products
+pub mod Long
 pub mod Examples

@@ -1,9 +1,9 @@
 -- Each length tried was accepted or rejected: the substeps and the rejections together are the lengths tried, and before 28 eleven more. Assumes nothing.
 use mathlib.Core.Path.{_≡_, refl, sym, ap, _∙_, subst}
 use mathlib.Core.Bool.{Bool, true, false}
-use mathlib.Core.List.{List}
+use mathlib.Core.List.{List, [], _∷_}
 use Prim.Native.Nat.{ℕ, zero, suc, _+_, _≤_}
-use native.Mathlib.Nat.{le-of-eq, add-zero, add-assoc, zero-add}
+use native.Mathlib.Nat.{add-zero, add-assoc, zero-add}
 use native.Mathlib.Omega.{arith}
 use lib.ListN.{length, length-append}
 use lib.Ieee.{Float}
@@ -13,19 +13,20 @@ use Rattle.hess_exp.specs.HessExp.{Small, unplanned, column, hess-exp-e1}
 use Rattle.arnoldi.specs.Basis.{Setting, dim, Basis, breakdown, full}
 use Rattle.trial_steps.specs.declared.Estimate.{Estimate}
 use Rattle.trial_steps.specs.Trials.{Trying, Tried, accepted, stuck, verdict, judge, try-step, exact-step, trials}
-use Rattle.phi_krylov_arnoldi.specs.Run.{State, End, finished, refused, applied-of, columns-of, counted, advance, unfinished, standing, settle, substep, spent, run, started}
-use Rattle.demand_3.specs.Trace.{Accepted, accepted-in, made, trace, total, lengths, tried-on, attempts}
+use Rattle.phi_krylov_arnoldi.specs.Run.{State, End, finished, refused, applied-of, columns-of, counted, advance, unfinished, standing, settle, substep, started}
+use Rattle.demand_3.specs.Trace.{accepted-in, made, runs, trace, total, lengths, tried-on, attempts, Run, status-of, accepted-by, tried-by}
 use Rattle.trial_steps.proofs.Few.{Few, trials-few}
-use Rattle.demand_3.proofs.Counts.{last, reached, basis-of, trials-of, total-append, standing-state, spent-state}
+use Rattle.demand_3.proofs.Counts.{reached, basis-of, trials-of, total-append, standing-state}
 
 -- the lengths judged: accepted or rejected
 abbrev pub judged : State → ℕ
 judged s = s .report .rejected + s .report .substeps
 
--- 29 leaves its last length, and those rejected before it, uncounted
-abbrev pub Judged : ℕ → End → Type 0
-Judged n (finished s) = judged s ≡ n
-Judged n (refused r x s) = (r ≡ 27 → judged s ≡ n) × (r ≡ 28 → judged s + 11 ≡ n) × (judged s ≤ n)
+-- after n lengths tried: all are judged, but for the eleven of 28; 29 leaves its last length, and those rejected before it, uncounted
+abbrev pub Judged : ℕ → Turn State End → Type 0
+Judged n (on s) = judged s ≡ n
+Judged n (out (finished s)) = judged s ≡ n
+Judged n (out (refused r x s)) = (r ≡ 28 → judged s + 11 ≡ n) × (judged s ≤ n)
 
 -- ---- one substep
 -- n lengths tried: all rejected, or all but the last. A length with no inner plan is neither
@@ -70,45 +71,33 @@ tried-tally p s (full b avnorm) =
     subst (λ (m : ℕ). Tally m (walk step 11 0 o)) (zero-add (length (lengths step (s .control .time) 11 0 o)))
     (walk-tally step (s .control .time) (λ i t. unfold try-step in judge-tally p (s .control .beta) avnorm t (hess-exp-e1 (b .h) (dim p) (dim p) (t .t))) 11 0 o 0 refl)
 
--- ---- the run, after n lengths tried
-abbrev Judging : ℕ → Turn State End → Type 0
-Judging n (on s) = judged s ≡ n
-Judging n (out e) = Judged n e
-
-standing-judged : (n : ℕ) (s : State) (b : Bool) → judged s ≡ n → Judging n (standing s b)
+-- ---- the run
+standing-judged : (n : ℕ) (s : State) (b : Bool) → judged s ≡ n → Judged n (standing s b)
 standing-judged n s true h = h
 standing-judged n s false h = h
 
-settle-judged : (p : Setting) (s : State) (b : Basis) (o : Turn Trying Tried) (n l : ℕ) → judged s ≡ n → Few 11 o → Tally l o → Judging (n + l) (settle p s b o)
+settle-judged : (p : Setting) (s : State) (b : Basis) (o : Turn Trying Tried) (n l : ℕ) → judged s ≡ n → Few 11 o → Tally l o → Judged (n + l) (settle p s b o)
 unfolding settle
-settle-judged p s b (on t) n l h f k = ((λ e. absurd (omega (arith, e))), (λ e. omega (arith, h, f, k)), omega (arith, h))
-settle-judged p s b (out (stuck arg)) n l h f k = ((λ e. absurd (omega (arith, e))), (λ e. absurd (omega (arith, e))), omega (arith, h))
+settle-judged p s b (on t) n l h f k = ((λ e. omega (arith, h, f, k)), omega (arith, h))
+settle-judged p s b (out (stuck arg)) n l h f k = ((λ e. absurd (omega (arith, e))), omega (arith, h))
 settle-judged p s b (out (accepted r t g err)) n l h f k =
     let m = advance p s (applied-of b) (columns-of b) r t g err in
     standing-judged (n + l) m (unfinished m) (unfold counted advance in omega (arith, h, k))
 
-walk-judged : (p : Setting) (k i : ℕ) (o : Turn State End) (n : ℕ) → Judging n o → Judging (n + length (attempts p k o)) (walk (λ _ t. substep p t) k i o)
-unfolding walk attempts substep
-walk-judged p zero i o n h = subst (λ (m : ℕ). Judging m o) (sym (add-zero n)) h
-walk-judged p (suc k) i (on s) n h =
+pub runs-judged : (ps : List Setting) (o : Turn State End) (n : ℕ) → Judged n o → Judged (n + length (attempts ps o)) (runs ps o)
+unfolding runs attempts substep
+runs-judged [] o n h = subst (λ (m : ℕ). Judged m o) (sym (add-zero n)) h
+runs-judged (p ∷ ps) (on s) n h =
     let here = tried-on p s (basis-of p s) in
-    let later = attempts p k (substep p s) in
-    subst (λ (m : ℕ). Judging m (walk (λ _ t. substep p t) k (i + 1) (substep p s))) (add-assoc n (length here) (length later) ∙ ap (λ (m : ℕ). n + m) (sym (length-append here later)))
-    (walk-judged p k (i + 1) (substep p s) (n + length here)
+    let later = attempts ps (substep p s) in
+    subst (λ (m : ℕ). Judged m (runs ps (substep p s))) (add-assoc n (length here) (length later) ∙ ap (λ (m : ℕ). n + m) (sym (length-append here later)))
+    (runs-judged ps (substep p s) (n + length here)
     (settle-judged p s (basis-of p s) (trials-of p s) n (length here) h (trials-few p (s .control .beta) (s .control .next) (1f ⊖ s .control .time) (basis-of p s)) (tried-tally p s (basis-of p s))))
-walk-judged p (suc k) i (out e) n h = subst (λ (m : ℕ). Judging m (out e)) (sym (add-zero n)) h
+runs-judged (p ∷ ps) (out e) n h = subst (λ (m : ℕ). Judged m (out e)) (sym (add-zero n)) h
 
-spent-judged : (n : ℕ) (o : Turn State End) → Judging n o → Judged n (spent o)
-unfolding spent
-spent-judged n (on s) h = ((λ _. h), (λ e. absurd (omega (arith, e))), le-of-eq h)
-spent-judged n (out e) h = h
-
-pub run-judged : (p : Setting) (limit : ℕ) (y : List Float) → Judged (length (attempts p limit (on (started p y)))) (run p limit (started p y))
-unfolding run
-run-judged p limit y =
-    let l = length (attempts p limit (on (started p y))) in
-    spent-judged l (walk (λ _ t. substep p t) limit 0 (on (started p y)))
-    (subst (λ (m : ℕ). Judging m (walk (λ _ t. substep p t) limit 0 (on (started p y)))) (zero-add l) (walk-judged p limit 0 (on (started p y)) 0 (unfold started in refl)))
+pub run-judged : (u : Run) → Judged (length (tried-by u)) (status-of u)
+run-judged u =
+    subst (λ (m : ℕ). Judged m (status-of u)) (zero-add (length (tried-by u))) (runs-judged (u .settings) (on (started (u .first) (u .field))) 0 (unfold started in refl))
 
 -- ---- by the accepted substeps: the lengths judged are those tried in them
 settle-told : (p : Setting) (s : State) (b : Basis) (o : Turn Trying Tried) → Tally (length (tried-on p s b)) o → judged (reached (settle p s b o)) ≡ judged s + total (λ a. length (a .tried)) (accepted-in p s b o)
@@ -119,16 +108,15 @@ settle-told p s b (out (accepted r t f err)) h =
     let n = advance p s (applied-of b) (columns-of b) r t f err in
     ap judged (standing-state n (unfinished n)) ∙ (unfold counted advance in omega (arith, h))
 
-walk-told : (p : Setting) (k i : ℕ) (o : Turn State End) → judged (reached (walk (λ _ t. substep p t) k i o)) ≡ judged (reached o) + total (λ a. length (a .tried)) (trace p k o)
-unfolding walk trace substep made total
-walk-told p zero i o = sym (add-zero _)
-walk-told p (suc k) i (on s) =
+pub runs-told : (ps : List Setting) (o : Turn State End) → judged (reached (runs ps o)) ≡ judged (reached o) + total (λ a. length (a .tried)) (trace ps o)
+unfolding runs trace substep made total
+runs-told [] o = sym (add-zero _)
+runs-told (p ∷ ps) (on s) =
     let a = settle-told p s (basis-of p s) (trials-of p s) (tried-tally p s (basis-of p s)) in
-    let b = walk-told p k (i + 1) (substep p s) in
-    let c = total-append (λ a. length (a .tried)) (made p s) (trace p k (substep p s)) in
+    let b = runs-told ps (substep p s) in
+    let c = total-append (λ a. length (a .tried)) (made p s) (trace ps (substep p s)) in
     omega (arith, a, b, c)
-walk-told p (suc k) i (out e) = sym (add-zero _)
+runs-told (p ∷ ps) (out e) = sym (add-zero _)
 
-pub run-told : (p : Setting) (limit : ℕ) (y : List Float) → judged (last (run p limit (started p y))) ≡ total (λ a. length (a .tried)) (trace p limit (on (started p y)))
-unfolding run
-run-told p limit y = ap judged (spent-state (walk (λ _ t. substep p t) limit 0 (on (started p y)))) ∙ walk-told p limit 0 (on (started p y)) ∙ (unfold started in zero-add _)
+pub run-told : (u : Run) → judged (reached (status-of u)) ≡ total (λ a. length (a .tried)) (accepted-by u)
+run-told u = runs-told (u .settings) (on (started (u .first) (u .field))) ∙ (unfold started in zero-add _)

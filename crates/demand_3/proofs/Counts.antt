@@ -2,19 +2,19 @@
 use mathlib.Core.Path.{_≡_, refl, sym, ap, _∙_, subst}
 use mathlib.Core.Bool.{Bool, true, false}
 use mathlib.Core.List.{List, [], _∷_, _++_}
-use Prim.Native.Nat.{ℕ, zero, suc, _+_, _*_, _≤_, zero-le}
+use Prim.Native.Nat.{ℕ, suc, _+_, _*_, _≤_, zero-le}
 use native.Mathlib.Nat.{le-refl, le-trans, le-of-eq, add-zero, add-assoc, zero-add, mul-suc, add-le-add}
 use native.Mathlib.Omega.{arith}
 use lib.ListN.{length, length-append, length-map}
 use lib.Ieee.{Float}
-use Rattle.lists.specs.Walk.{Turn, on, out, walk}
+use Rattle.lists.specs.Walk.{Turn, on, out}
 use Rattle.doubles.specs.F64.{_⊕_, _⊖_, _⊗_, +0, 1f, maxNum}
 use Rattle.arnoldi.specs.Basis.{Setting, Basis, norm2, apply, arnoldi}
 use Rattle.trial_steps.specs.Trials.{Trying, Tried, accepted, stuck, trials}
 use Rattle.trial_steps.proofs.Few.{Few, trials-few}
-use Rattle.phi_krylov_arnoldi.specs.Run.{State, End, finished, refused, EPSILON, applied-of, columns-of, combined, shorter, counted, advance, unfinished, standing, settle, substep, spent, run, started}
+use Rattle.phi_krylov_arnoldi.specs.Run.{State, End, finished, refused, EPSILON, applied-of, columns-of, combined, shorter, counted, advance, unfinished, standing, settle, substep, started}
 use Rattle.phi_krylov_arnoldi.proofs.Turns.{applied-few, each-once}
-use Rattle.demand_3.specs.Trace.{Accepted, accepted-in, made, trace, total, time-after, last-after, field-after, estimate-after}
+use Rattle.demand_3.specs.Trace.{Accepted, accepted-in, made, runs, trace, total, time-after, last-after, field-after, estimate-after, Run, status-of, accepted-by}
 use Rattle.demand_3.specs.Krylov.{Each}
 
 -- the last accepted state
@@ -43,20 +43,20 @@ unfoldable pub shortest-after : ℕ → Float → List Accepted → Float
 shortest-after k t [] = t
 shortest-after k t (a ∷ l) = shortest-after (suc k) (shorter k t (a .t)) l
 
-pub record Adds (anorm : Float) (s s' : State) (l : List Accepted) : Type 0 where
+pub record Adds (s s' : State) (l : List Accepted) : Type 0 where
   pub substeps : s' .report .substeps ≡ s .report .substeps + length l
   pub matvecs : s' .report .matvecs ≡ s .report .matvecs + total (λ a. length (a .products)) l
   pub rejected : s' .report .rejected ≤ s .report .rejected + 10 * length l
-  pub estimate : s' .report .«est_error» ≡ estimate-after anorm (s .report .«est_error») l
+  pub estimate : s' .report .«est_error» ≡ estimate-after (s .report .«est_error») l
   pub shortest : s' .report .shortest ≡ shortest-after (s .report .substeps) (s .report .shortest) l
   pub last : s' .report .last ≡ last-after (s .report .last) l
   pub time : s' .control .time ≡ time-after (s .control .time) l
   pub field : s' .y ≡ field-after (s .y) l
   pub norm : Normed s'
 
-adds-none : (anorm : Float) (s : State) → Normed s → Adds anorm s s []
+adds-none : (s : State) → Normed s → Adds s s []
 unfolding total time-after field-after estimate-after shortest-after last-after
-adds-none anorm s h =
+adds-none s h =
     record { substeps = sym (add-zero _); matvecs = sym (add-zero _); rejected = omega arith; estimate = refl; shortest = refl; last = refl; time = refl; field = refl; norm = h }
 
 pub total-append : (f : Accepted → ℕ) (l l' : List Accepted) → total f (l ++ l') ≡ total f l + total f l'
@@ -74,10 +74,10 @@ unfolding field-after
 field-append y [] l' = refl
 field-append y (a ∷ l) l' = field-append (a .to) l l'
 
-estimate-append : (anorm e : Float) (l l' : List Accepted) → estimate-after anorm e (l ++ l') ≡ estimate-after anorm (estimate-after anorm e l) l'
+estimate-append : (e : Float) (l l' : List Accepted) → estimate-after e (l ++ l') ≡ estimate-after (estimate-after e l) l'
 unfolding estimate-after
-estimate-append anorm e [] l' = refl
-estimate-append anorm e (a ∷ l) l' = estimate-append anorm (e ⊕ maxNum (a .err) (anorm ⊗ EPSILON ⊗ norm2 (a .from))) l l'
+estimate-append e [] l' = refl
+estimate-append e (a ∷ l) l' = estimate-append (e ⊕ maxNum (a .err) (a .setting .anorm ⊗ EPSILON ⊗ norm2 (a .from))) l l'
 
 last-append : (t : Float) (l l' : List Accepted) → last-after t (l ++ l') ≡ last-after (last-after t l) l'
 unfolding last-after
@@ -94,12 +94,12 @@ shortest-append k t (a ∷ l) l' =
     one-on : (k n : ℕ) → suc k + n ≡ k + suc n
     one-on k n = omega arith
 
-adds-both : {anorm : Float} {s s' s'' : State} {l l' : List Accepted} → Adds anorm s s' l → Adds anorm s' s'' l' → Adds anorm s s'' (l ++ l')
-adds-both {anorm} {s} {s'} {s''} {l} {l'} a b = record {
+adds-both : {s s' s'' : State} {l l' : List Accepted} → Adds s s' l → Adds s' s'' l' → Adds s s'' (l ++ l')
+adds-both {s} {s'} {s''} {l} {l'} a b = record {
   substeps = more (s .report .substeps) (length l) (length l') (a .substeps) (b .substeps) (length-append l l');
   matvecs = more (s .report .matvecs) (total (λ a. length (a .products)) l) (total (λ a. length (a .products)) l') (a .matvecs) (b .matvecs) (total-append _ l l');
   rejected = omega (arith, a .rejected, b .rejected, length-append l l');
-  estimate = b .estimate ∙ ap (λ (x : Float). estimate-after anorm x l') (a .estimate) ∙ sym (estimate-append anorm _ l l');
+  estimate = b .estimate ∙ ap (λ (x : Float). estimate-after x l') (a .estimate) ∙ sym (estimate-append _ l l');
   shortest = b .shortest ∙ (λ i. shortest-after (a .substeps i) (a .shortest i) l') ∙ sym (shortest-append _ _ l l');
   last = b .last ∙ ap (λ (x : Float). last-after x l') (a .last) ∙ sym (last-append _ l l');
   time = b .time ∙ ap (λ (x : Float). time-after x l') (a .time) ∙ sym (time-append _ l l');
@@ -114,14 +114,14 @@ pub standing-state : (s : State) (b : Bool) → reached (standing s b) ≡ s
 standing-state s true = refl
 standing-state s false = refl
 
-settle-adds : (p : Setting) (s : State) (b : Basis) (o : Turn Trying Tried) → Normed s → applied-of b ≡ length (columns-of b) → Few 11 o → Adds (p .anorm) s (reached (settle p s b o)) (accepted-in p s b o)
+settle-adds : (p : Setting) (s : State) (b : Basis) (o : Turn Trying Tried) → Normed s → applied-of b ≡ length (columns-of b) → Few 11 o → Adds s (reached (settle p s b o)) (accepted-in p s b o)
 unfolding settle accepted-in counted advance total time-after field-after estimate-after shortest-after last-after
-settle-adds p s b (on t) h once few = adds-none (p .anorm) s h
-settle-adds p s b (out (stuck arg)) h once few = adds-none (p .anorm) s h
+settle-adds p s b (on t) h once few = adds-none s h
+settle-adds p s b (out (stuck arg)) h once few = adds-none s h
 settle-adds p s b (out (accepted r t f err)) h once few =
     let n = advance p s (applied-of b) (columns-of b) r t f err in
     let e = s .report .«est_error» in
-    subst (λ (z : State). Adds (p .anorm) s z (accepted-in p s b (out (accepted r t f err)))) (sym (standing-state n (unfinished n)))
+    subst (λ (z : State). Adds s z (accepted-in p s b (out (accepted r t f err)))) (sym (standing-state n (unfinished n)))
     (record {
       substeps = omega arith;
       matvecs = omega (arith, once, length-map (columns-of b) (apply p));
@@ -134,39 +134,30 @@ settle-adds p s b (out (accepted r t f err)) h once few =
       norm = refl;
     })
 
-walk-adds : (p : Setting) (k i : ℕ) (o : Turn State End) → Normed (reached o) → Adds (p .anorm) (reached o) (reached (walk (λ _ t. substep p t) k i o)) (trace p k o)
-unfolding walk trace substep made
-walk-adds p zero i o h = adds-none (p .anorm) (reached o) h
-walk-adds p (suc k) i (on s) h =
+pub runs-adds : (ps : List Setting) (o : Turn State End) → Normed (reached o) → Adds (reached o) (reached (runs ps o)) (trace ps o)
+unfolding runs trace substep made
+runs-adds [] o h = adds-none (reached o) h
+runs-adds (p ∷ ps) (on s) h =
     let a = settle-adds p s _ _ h (each-once p (s .y) (s .control .beta)) (trials-few p (s .control .beta) (s .control .next) (1f ⊖ s .control .time) (basis-of p s)) in
-    adds-both a (walk-adds p k (i + 1) (substep p s) (a .norm))
-walk-adds p (suc k) i (out e) h = adds-none (p .anorm) (last e) h
-
-pub spent-state : (o : Turn State End) → last (spent o) ≡ reached o
-unfolding spent
-spent-state (on s) = refl
-spent-state (out e) = refl
-
-run-adds : (p : Setting) (limit : ℕ) (s : State) → Normed s → Adds (p .anorm) s (last (run p limit s)) (trace p limit (on s))
-unfolding run
-run-adds p limit s h = subst (λ (z : State). Adds (p .anorm) s z (trace p limit (on s))) (sym (spent-state _)) (walk-adds p limit 0 (on s) h)
+    adds-both a (runs-adds ps (substep p s) (a .norm))
+runs-adds (p ∷ ps) (out e) h = adds-none (last e) h
 
 -- ---- from the start y: what the state s records is what the substeps l did
-pub record Recorded (anorm : Float) (y : List Float) (l : List Accepted) (s : State) : Type 0 where
+pub record Recorded (y : List Float) (l : List Accepted) (s : State) : Type 0 where
   pub substeps : s .report .substeps ≡ length l
   pub matvecs : s .report .matvecs ≡ total (λ a. length (a .products)) l
   pub rejected : s .report .rejected ≤ 10 * length l
-  pub estimate : s .report .«est_error» ≡ estimate-after anorm +0 l
+  pub estimate : s .report .«est_error» ≡ estimate-after +0 l
   pub shortest : s .report .shortest ≡ shortest-after 0 +0 l
   pub last : s .report .last ≡ last-after +0 l
   pub time : s .control .time ≡ time-after +0 l
   pub field : s .y ≡ field-after y l
   pub norm : s .control .beta ≡ norm2 (field-after y l)
 
-pub run-recorded : (p : Setting) (limit : ℕ) (y : List Float) → Recorded (p .anorm) y (trace p limit (on (started p y))) (last (run p limit (started p y)))
+pub run-recorded : (u : Run) → Recorded (u .field) (accepted-by u) (reached (status-of u))
 unfolding started
-run-recorded p limit y =
-    let a = run-adds p limit (started p y) refl in
+run-recorded u =
+    let a = runs-adds (u .settings) (on (started (u .first) (u .field))) refl in
     record {
       substeps = a .substeps ∙ zero-add _;
       matvecs = a .matvecs ∙ zero-add _;
@@ -199,11 +190,12 @@ unfolding made
 made-modest p s =
     accepted-modest p s (basis-of p s) (trials-of p s) (le-trans (le-of-eq (sym (each-once p (s .y) (s .control .beta)))) (applied-few p (s .y) (s .control .beta)))
 
-trace-modest : (p : Setting) (k : ℕ) (o : Turn State End) → Each (Modest (p .m)) (trace p k o)
+trace-modest : (M : ℕ) (ps : List Setting) (o : Turn State End) → Each (λ p. p .m ≡ M) ps → Each (Modest M) (trace ps o)
 unfolding trace
-trace-modest p zero o = tt
-trace-modest p (suc k) (on s) = each-append (Modest (p .m)) (made p s) (trace p k (substep p s)) (made-modest p s) (trace-modest p k (substep p s))
-trace-modest p (suc k) (out e) = tt
+trace-modest M [] o h = tt
+trace-modest M (p ∷ ps) (on s) h =
+    each-append (Modest M) (made p s) (trace ps (substep p s)) (subst (λ (m : ℕ). Each (Modest m) (made p s)) (h .0) (made-modest p s)) (trace-modest M ps (substep p s) (h .1))
+trace-modest M (p ∷ ps) (out e) h = tt
 
 total-under : (f : Accepted → ℕ) (c : ℕ) (l : List Accepted) → Each (λ a. f a ≤ c) l → total f l ≤ c * length l
 unfolding total
@@ -214,8 +206,8 @@ total-under f c (a ∷ l) h = le-trans (add-le-add (h .0) (total-under f c l (h 
     swap a b = omega arith
 
 -- at most (M + 1) × substeps products
-pub trace-products : (p : Setting) (k : ℕ) (o : Turn State End) → total (λ a. length (a .products)) (trace p k o) ≤ suc (p .m) * length (trace p k o)
-trace-products p k o = total-under (λ a. length (a .products)) (suc (p .m)) (trace p k o) (trace-modest p k o)
+pub trace-products : (M : ℕ) (ps : List Setting) (o : Turn State End) → Each (λ p. p .m ≡ M) ps → total (λ a. length (a .products)) (trace ps o) ≤ suc M * length (trace ps o)
+trace-products M ps o h = total-under (λ a. length (a .products)) (suc M) (trace ps o) (trace-modest M ps o h)
 
 accepted-once : (p : Setting) (s : State) (b : Basis) (o : Turn Trying Tried) → length (accepted-in p s b o) ≤ 1
 unfolding accepted-in
@@ -223,11 +215,11 @@ accepted-once p s b (on t) = zero-le
 accepted-once p s b (out (stuck arg)) = zero-le
 accepted-once p s b (out (accepted r t f err)) = le-refl 1
 
-pub trace-few : (p : Setting) (k : ℕ) (o : Turn State End) → length (trace p k o) ≤ k
+pub trace-few : (ps : List Setting) (o : Turn State End) → length (trace ps o) ≤ length ps
 unfolding trace made
-trace-few p zero o = zero-le
-trace-few p (suc k) (on s) = le-trans (le-of-eq (length-append (made p s) (trace p k (substep p s)))) (le-trans (add-le-add (accepted-once p s _ _) (trace-few p k (substep p s))) (one-more k))
+trace-few [] o = zero-le
+trace-few (p ∷ ps) (on s) = le-trans (le-of-eq (length-append (made p s) (trace ps (substep p s)))) (le-trans (add-le-add (accepted-once p s _ _) (trace-few ps (substep p s))) (one-more (length ps)))
   where
     one-more : (k : ℕ) → 1 + k ≤ suc k
     one-more k = omega arith
-trace-few p (suc k) (out e) = zero-le
+trace-few (p ∷ ps) (out e) = zero-le

@@ -1,19 +1,17 @@
 -- The Krylov half of demand 3 for `expv`: what a run that gave a result did, and 27 exactly at the limit. Assumes nothing.
 use mathlib.Core.Path.{_≡_, refl, sym, ap, _∙_, subst}
 use mathlib.Core.Logic.{_⊎_, inl, inr}
-use mathlib.Core.Bool.{Bool, true, false, not, _&&_, true≢false}
-use mathlib.Core.List.{List, [], _∷_}
-use Prim.Native.Nat.{ℕ, zero, _+_, _<_, zero-le}
-use native.Mathlib.Nat.{le-trans, le-of-eq}
+use mathlib.Core.Bool.{Bool, true, false}
+use mathlib.Core.List.{List}
+use Prim.Native.Nat.{ℕ, zero, suc, _<_}
+use native.Mathlib.Nat.{le-of-eq}
 use native.Mathlib.Omega.{arith}
 use lib.Dec.{T}
-use lib.ListN.{length}
+use lib.ListN.{length, replicate, length-replicate}
 use lib.Ieee.{Float, eq}
-use lib.Ieee.Bits.{is-true}
-use Rattle.lists.specs.Walk.{on}
+use Rattle.lists.specs.Walk.{Turn, on, out}
 use Rattle.lists.specs.Window.{window}
 use Rattle.doubles.specs.F64.{if_then_else_, _⋖_, +0, 1f, at, is-finite}
-use Rattle.vectors.specs.Vectors.{scale}
 use Rattle.pow2.specs.Pow2.{sup, pow2-scale}
 use Rattle.pow2.specs.declared.Scale.{Scale}
 use Rattle.pow2.specs.declared.Prescale.{Prescale}
@@ -21,152 +19,120 @@ use Rattle.pow2.specs.declared.Prescale.the-variants.{By, None}
 use Rattle.pow2.proofs.Largest.{sup-zero, zero-sup}
 use Rattle.phi_action_helpers.specs.Augmented.{Augmented}
 use Rattle.arnoldi.specs.Basis.{Setting, norm2}
-use Rattle.phi_krylov_arnoldi.specs.Run.{State, End, finished, refused, unfinished, run, started, relative-report, scaled-back, back, clamp-m, idle, expv-by, expv}
-use Rattle.phi_krylov_arnoldi.specs.declared.KrylovPhiReport.{KrylovPhiReport}
-use Rattle.demand_3.specs.Trace.{Accepted, trace, attempts, total, time-after, last-after, field-after, estimate-after, Run, scaled, unscaled, allowed, run-by, run-of, accepted-by, time-of, field-of, estimate-of, relative}
-use Rattle.demand_3.specs.Krylov.{Each, Zeros, Shortest, Steps, KrylovCost}
-use Rattle.demand_3.proofs.Counts.{last, Recorded, run-recorded, trace-products, trace-few}
-use Rattle.demand_3.proofs.Limit.{Ends, run-ends, not-27, always-27}
-use Rattle.demand_3.proofs.Lengths.{TimedEnd, run-timed, finished-time, norm-left, trace-steps, attempts-short, started-timed}
-use Rattle.demand_3.proofs.Attempts.{judged, run-told}
-use Rattle.demand_3.proofs.Shortest.{shortest-is}
+use Rattle.phi_krylov_arnoldi.specs.Run.{State, End, finished, refused, spent, run, started, scaled-back, back, clamp-m, idle, expv-by, expv}
+use Rattle.demand_3.specs.Trace.{trace, Run, scaled, allowed, run-by, run-of, status-of, accepted-by, time-of, field-of, estimate-of}
+use Rattle.demand_3.specs.Krylov.{Each, Zeros, KrylovCost}
+use Rattle.demand_3.proofs.Runs.{run-runs}
+use Rattle.demand_3.proofs.Counts.{last, reached, Recorded, run-recorded}
+use Rattle.demand_3.proofs.Moments.{state-of, Stands, run-stands, goes-on, finished-cost, idle-cost}
 
 -- ---- all values are zeros exactly where there are no factors
-abbrev Finite : List Float → Type 0
+abbrev pub Finite : List Float → Type 0
 Finite y = (i : ℕ) → i < length y → is-finite (at y i) ≡ true
 
-none-zero : (y : List Float) → pow2-scale y ≡ None → eq (sup y) +0 ≡ true
+pub none-zeros : (y : List Float) → Finite y → pow2-scale y ≡ None → Zeros y
 unfolding pow2-scale
-none-zero y e = go (eq (sup y) +0) _ e
+none-zeros y fin e = sup-zero y fin (go (eq (sup y) +0) _ e)
   where
     go : (b : Bool) (s : Scale) → (if b then None else By s) ≡ None → b ≡ true
     go true s e = refl
     go false s e = let z : zero ≡ 1 = cc in absurd (omega (arith, z))
 
-zero-none : (y : List Float) → eq (sup y) +0 ≡ true → pow2-scale y ≡ None
+pub zeros-none : (y : List Float) → Zeros y → pow2-scale y ≡ None
 unfolding pow2-scale
-zero-none y e = rw e refl
+zeros-none y z = rw (zero-sup y z) refl
 
--- ---- the run from y to its end
+pub by-not-zeros : (y : List Float) (f : Scale) → pow2-scale y ≡ By f → Zeros y → ⊥
+by-not-zeros y f e z = let k : None ≡ By f = sym (zeros-none y z) ∙ e in let o : zero ≡ 1 = cc in absurd (omega (arith, o))
+
+-- ---- the run from y to its end, each substep with the setting p
+not-27 : (r : ℕ) → (r ≡ 28) ⊎ (r ≡ 29) → r ≡ 27 → ⊥
+not-27 r (inl e) h = omega (arith, e, h)
+not-27 r (inr e) h = omega (arith, e, h)
+
+same-m : (p : Setting) (k : ℕ) → Each (λ q. q .m ≡ p .m) (replicate k p)
+same-m p zero = tt
+same-m p (suc k) = (refl, same-m p k)
+
 module _ (p : Setting) (limit : ℕ) (y : List Float) (f : Prescale) where
-  abbrev l : List Accepted
-  l = trace p limit (on (started p y))
-
   abbrev u : Run
-  u = record { setting = p; limit = limit; field = y; prescale = f }
+  u = record { first = p; settings = replicate limit p; field = y; prescale = f }
 
-  some-substep : (s : State) → run p limit (started p y) ≡ finished s → 0 < length l
-  some-substep s e =
-      let h = subst (Ends limit) e (run-ends p limit y) in
-      let r = subst (λ (x : End). Recorded (p .anorm) y l (last x)) e (run-recorded p limit y) in
-      subst (λ (n : ℕ). 0 < n) (r .substeps) (h .0)
-
-  reached-end : (s : State) → run p limit (started p y) ≡ finished s → (eq (norm2 (field-of u)) +0 ≡ true) ⊎ (time-of u ≡ 1f)
-  reached-end s e =
-      let h = subst (Ends limit) e (run-ends p limit y) in
-      let r = subst (λ (x : End). Recorded (p .anorm) y l (last x)) e (run-recorded p limit y) in
-      elim (finished-time s (subst TimedEnd e (run-timed p limit y)) (h .2)) [
-        | inl z ↦ inl (subst (λ (b : Float). eq b +0 ≡ true) (r .norm) z)
-        | inr t ↦ inr (sym (r .time) ∙ t)
-      ]
-
-  -- what the report of a run that finished in s says
-  pub finished-cost : (start output : List Float) (s : State) {n M : ℕ} {r : KrylovPhiReport} → run p limit (started p y) ≡ finished s → p .m ≡ M
-      → r .substeps ≡ s .report .substeps → r .matvecs ≡ s .report .matvecs → r .rejected ≡ s .report .rejected → r .«est_error» ≡ relative (s .report .«est_error») y f → r .shortest ≡ s .report .shortest → r .last ≡ s .report .last
-      → (Zeros start → ⊥) → output ≡ window 0 n (unscaled (s .y) f) → KrylovCost n M limit start output u r
-  unfolding norm2
-  finished-cost start output s {n} {M} {r} e em es ea er ee ex el z eo =
-      let c = subst (λ (x : End). Recorded (p .anorm) y l (last x)) e (run-recorded p limit y) in
-      let j = sym (ap (λ (x : End). judged (last x)) e) ∙ run-told p limit y in
-      let k : r .substeps ≡ length l = es ∙ c .substeps in
-      let steps : Steps p +0 y l = unfold started in trace-steps p limit (on (started p y)) (started-timed p y) refl in
-      record {
-        substeps = k;
-        applications = ea ∙ c .matvecs;
-        rejections = omega (arith, j, es, er);
-        few-substeps = le-trans (le-of-eq k) (trace-few p limit (on (started p y)));
-        few-applications = rw (ea ∙ c .matvecs, k, ← em) (trace-products p limit (on (started p y)));
-        few-rejections = rw (er, k) (c .rejected);
-        short = attempts-short p limit (on (started p y)) (started-timed p y);
-        steps = steps;
-        idle = ((λ g. absurd (no-none (some-substep s e) g)), (λ h. absurd (z h)));
-        reached = inr (reached-end s e);
-        estimate = ee ∙ ap (λ (x : Float). relative x y f) (c .estimate);
-        shortest = subst (Shortest l) (sym (ex ∙ c .shortest)) (shortest-is p +0 y l steps);
-        last = el ∙ c .last;
-        fields = eo ∙ ap (λ (x : List Float). window 0 n (unscaled x f)) (c .field);
-      }
+  -- a result is that of its last substep
+  pub finished-status : (s : State) → run p limit (started p y) ≡ finished s → status-of u ≡ out (finished s)
+  unfolding spent
+  finished-status s e = go (status-of u) (sym (run-runs p limit (started p y)) ∙ e)
     where
-      no-none : 0 < length l → l ≡ [] → ⊥
-      no-none h g = let n : length l ≡ 0 = ap length g in absurd (omega (arith, h, n))
+      go : (o : Turn State End) → spent o ≡ finished s → o ≡ out (finished s)
+      go (on t) h = let z : zero ≡ 1 = cc in absurd (omega (arith, z))
+      go (out t) h = ap (λ (x : End). out x) h
 
   -- ---- 27
   pub only-27 : (x : Float) (s : State) → 0 < limit → run p limit (started p y) ≡ refused 27 x s
-      → (length l ≡ limit) × T (time-of u ⋖ 1f) × (eq (norm2 (field-of u)) +0 ≡ false) × (x ≡ estimate-of u)
-  only-27 x s some e =
-      let c = subst (λ (z : End). Recorded (p .anorm) y l (last z)) e (run-recorded p limit y) in
-      let t = subst TimedEnd e (run-timed p limit y) in
-      elim (subst (Ends limit) e (run-ends p limit y)) [
-        | inl h ↦ (
-          sym (c .substeps) ∙ h .2,
-          subst (λ (z : Float). T (z ⋖ 1f)) (c .time) (t .1),
-          subst (λ (b : Float). eq b +0 ≡ false) (c .norm) (norm-left s (h .3 some)),
-          h .1 ∙ c .estimate,
-        )
-        | inr h ↦ absurd (not-27 27 (h .0) refl)
-      ]
+      → (length (accepted-by u) ≡ limit) × T (time-of u ⋖ 1f) × (eq (norm2 (field-of u)) +0 ≡ false) × (x ≡ estimate-of u)
+  unfolding spent norm2
+  only-27 x s some e = go (status-of u) (run-stands u) (run-recorded u) (sym (run-runs p limit (started p y)) ∙ e)
+    where
+      told : End → Float
+      told (finished t) = x
+      told (refused r z t) = z
 
-  pub if-27 : length l ≡ limit → T (time-of u ⋖ 1f) → eq (norm2 (field-of u)) +0 ≡ false → (s : State) × (run p limit (started p y) ≡ refused 27 (estimate-of u) s)
-  unfolding unfinished
+      number : End → ℕ
+      number (finished t) = 0
+      number (refused r z t) = r
+
+      go : (o : Turn State End) → Stands u o → Recorded y (accepted-by u) (reached o) → spent o ≡ refused 27 x s
+          → (length (accepted-by u) ≡ limit) × T (time-of u ⋖ 1f) × (eq (norm2 (field-of u)) +0 ≡ false) × (x ≡ estimate-of u)
+      go (on t) h c k =
+          let n = h .all ∙ length-replicate limit p in
+          (n, h .below-one, h .norm-left (subst (λ (i : ℕ). 0 < i) (sym n) some), sym (ap told k) ∙ c .estimate)
+      go (out (finished t)) h c k = let z : zero ≡ 1 = cc in absurd (omega (arith, z))
+      go (out (refused r z t)) h c k = absurd (not-27 r (h .number) (ap number k))
+
+  pub if-27 : length (accepted-by u) ≡ limit → T (time-of u ⋖ 1f) → eq (norm2 (field-of u)) +0 ≡ false → (s : State) × (run p limit (started p y) ≡ refused 27 (estimate-of u) s)
+  unfolding spent norm2
   if-27 n t b =
-      let c = run-recorded p limit y in
-      let s = last (run p limit (started p y)) in
-      let go-on : unfinished s ≡ true = rw (c .norm, b, c .time, is-true (time-of u ⋖ 1f) t) refl in
-      (s, always-27 p limit y (c .substeps ∙ n) go-on ∙ ap (λ (x : Float). refused 27 x s) (c .estimate))
+      let s = state-of u in
+      let g = goes-on u (record { all = n ∙ sym (length-replicate limit p); below-one = t; norm-left = λ _. b }) in
+      (s, run-runs p limit (started p y) ∙ ap spent g ∙ ap (λ (x : Float). refused 27 x s) (run-recorded u .estimate))
+
+  -- a run refuses by 27, 28 or 29
+  pub run-late : (r : ℕ) (x : Float) (s : State) → run p limit (started p y) ≡ refused r x s → (26 < r) × (r < 30)
+  unfolding spent
+  run-late r x s e = go (status-of u) (run-stands u) (sym (run-runs p limit (started p y)) ∙ e)
+    where
+      number : End → ℕ
+      number (finished t) = 0
+      number (refused k z t) = k
+
+      go : (o : Turn State End) → Stands u o → spent o ≡ refused r x s → (26 < r) × (r < 30)
+      go (on t) h k = let i : 27 ≡ r = ap number k in (omega (arith, i), omega (arith, i))
+      go (out (finished t)) h k = let z : zero ≡ 1 = cc in absurd (omega (arith, z))
+      go (out (refused j z t)) h k = elim (h .number) [
+        | inl i ↦ (omega (arith, i, ap number k), omega (arith, i, ap number k))
+        | inr i ↦ (omega (arith, i, ap number k), omega (arith, i, ap number k))
+      ]
 
 -- ---- `expv`
 module _ (b : Augmented) (tau anorm tol : Float) (m limit : ℕ) (y : List Float) where
-  -- a start of zeros: no substep, and nothing tried
-  idle-cost : {n : ℕ} {r : KrylovPhiReport} → pow2-scale y ≡ None → Finite y → r ≡ idle y .report → KrylovCost n (clamp-m m (length y)) limit y (window 0 n y) (run-by b tau anorm tol m limit y None) r
-  unfolding idle run-by scaled unscaled allowed relative trace attempts total field-after estimate-after last-after
-  idle-cost {n} {r} e f g =
-      let z : Zeros y = sup-zero y f (none-zero y e) in
-      rw g
-      (record {
-        substeps = refl;
-        applications = refl;
-        rejections = refl;
-        few-substeps = zero-le;
-        few-applications = zero-le;
-        few-rejections = zero-le;
-        short = tt;
-        steps = tt;
-        idle = ((λ _. z), (λ _. refl));
-        reached = inl z;
-        estimate = refl;
-        shortest = refl;
-        last = refl;
-        fields = refl;
-      })
-
   cost-by : (f : Prescale) {n : ℕ} {s : State} → pow2-scale y ≡ f → Finite y → expv-by b tau anorm tol m limit y f ≡ finished s → KrylovCost n (clamp-m m (length y)) limit y (window 0 n (s .y)) (run-by b tau anorm tol m limit y f) (s .report)
-  unfolding expv-by run-by scaled unscaled allowed relative back relative-report scaled-back idle norm2
-  cost-by None {n} {s} e fin g = subst (λ (x : List Float). KrylovCost n (clamp-m m (length y)) limit y (window 0 n x) (run-by b tau anorm tol m limit y None) (s .report)) (ap (λ (x : End). last x .y) g) (idle-cost e fin (ap (λ (x : End). last x .report) (sym g)))
+  unfolding expv-by run-by scaled allowed back scaled-back idle
+  cost-by None {n} {s} e fin g =
+      let w = run-by b tau anorm tol m limit y None in
+      subst (λ (z : State). KrylovCost n (clamp-m m (length y)) limit y (window 0 n (z .y)) w (z .report)) (ap last g) (idle-cost n (clamp-m m (length y)) limit (w .first) y (none-zeros y fin e))
   cost-by (By f) {n} {s} e fin g = go (run _ limit (started _ _)) refl g
     where
-      p : Setting
-      p = run-by b tau anorm tol m limit y (By f) .setting
+      w : Run
+      w = run-by b tau anorm tol m limit y (By f)
 
-      y₀ : List Float
-      y₀ = run-by b tau anorm tol m limit y (By f) .field
+      M : ℕ
+      M = clamp-m m (length y)
 
-      nonzero : Zeros y → ⊥
-      nonzero z = let w : None ≡ By f = sym (zero-none y (zero-sup y z)) ∙ e in let o : zero ≡ 1 = cc in absurd (omega (arith, o))
-
-      go : (x : End) → run p limit (started p y₀) ≡ x → back (f .up) (norm2 y₀) x ≡ finished s → KrylovCost n (clamp-m m (length y)) limit y (window 0 n (s .y)) (run-by b tau anorm tol m limit y (By f)) (s .report)
+      go : (x : End) → run (w .first) limit (started (w .first) (w .field)) ≡ x → back (f .up) (norm2 (w .field)) x ≡ finished s → KrylovCost n M limit y (window 0 n (s .y)) w (s .report)
       go (finished t) h k =
-          let q : scaled-back (f .up) (norm2 y₀) t ≡ s = ap last k in
-          finished-cost p limit y₀ (By f) y _ t h refl (ap (λ (z : State). z .report .substeps) (sym q)) (ap (λ (z : State). z .report .matvecs) (sym q)) (ap (λ (z : State). z .report .rejected) (sym q)) (ap (λ (z : State). z .report .«est_error») (sym q)) (ap (λ (z : State). z .report .shortest) (sym q)) (ap (λ (z : State). z .report .last) (sym q)) nonzero (ap (λ (z : State). window 0 n (z .y)) (sym q))
+          let q = finished-status (w .first) limit (w .field) (By f) t h in
+          let c = finished-cost w n M limit y f refl (same-m (w .first) limit) (le-of-eq (length-replicate limit (w .first))) (by-not-zeros y f e) (subst (Stands w) q (run-stands w)) in
+          subst (λ (z : State). KrylovCost n M limit y (window 0 n (z .y)) w (z .report)) (ap (λ (o : Turn State End). scaled-back (f .up) (norm2 (w .field)) (reached o)) q ∙ ap last k) c
       go (refused r x t) h k = let o : zero ≡ 1 = cc in absurd (omega (arith, o))
 
   pub expv-cost : {n : ℕ} {s : State} → Finite y → expv b tau anorm tol m limit y ≡ finished s → KrylovCost n (clamp-m m (length y)) limit y (window 0 n (s .y)) (run-of b tau anorm tol m limit y) (s .report)
@@ -183,7 +149,7 @@ module _ (b : Augmented) (tau anorm tol : Float) (m limit : ℕ) (y : List Float
   only-by (By f) {x} {s} some g = go (run _ limit (started _ _)) refl g
     where
       p : Setting
-      p = run-by b tau anorm tol m limit y (By f) .setting
+      p = run-by b tau anorm tol m limit y (By f) .first
 
       y₀ : List Float
       y₀ = run-by b tau anorm tol m limit y (By f) .field
@@ -211,7 +177,7 @@ module _ (b : Augmented) (tau anorm tol : Float) (m limit : ℕ) (y : List Float
   if-by (By f) {x} some h = go (if-27 _ limit _ (By f) (h .0) (h .1) (h .2))
     where
       p : Setting
-      p = run-by b tau anorm tol m limit y (By f) .setting
+      p = run-by b tau anorm tol m limit y (By f) .first
 
       y₀ : List Float
       y₀ = run-by b tau anorm tol m limit y (By f) .field
@@ -226,23 +192,27 @@ module _ (b : Augmented) (tau anorm tol : Float) (m limit : ℕ) (y : List Float
   -- ---- a start of zeros
   pub expv-idle : Zeros y → expv b tau anorm tol m limit y ≡ finished (idle y)
   unfolding expv expv-by
-  expv-idle z = rw (zero-none y (zero-sup y z)) refl
+  expv-idle z = rw (zeros-none y z) refl
 
   -- ---- a run refuses by 27, 28 or 29
   late-by : (f : Prescale) {r : ℕ} {x : Float} {s : State} → expv-by b tau anorm tol m limit y f ≡ refused r x s → (26 < r) × (r < 30)
-  unfolding expv-by back
+  unfolding expv-by run-by scaled allowed back
   late-by None g = let o : zero ≡ 1 = cc in absurd (omega (arith, o))
-  late-by (By f) {r} {x} {s} g = go (run _ limit (started _ _)) (run-ends _ limit _) g
+  late-by (By f) {r} {x} {s} g = go (run _ limit (started _ _)) refl g
     where
+      p : Setting
+      p = run-by b tau anorm tol m limit y (By f) .first
+
+      y₀ : List Float
+      y₀ = run-by b tau anorm tol m limit y (By f) .field
+
       number : End → ℕ
       number (finished t) = 0
       number (refused k z t) = k
 
-      go : (e : End) → Ends limit e → back (f .up) (norm2 (scale (f .down) y)) e ≡ refused r x s → (26 < r) × (r < 30)
+      go : (e : End) → run p limit (started p y₀) ≡ e → back (f .up) (norm2 y₀) e ≡ refused r x s → (26 < r) × (r < 30)
       go (finished t) h k = let o : zero ≡ 1 = cc in absurd (omega (arith, o))
-      go (refused k z t) (inl h) j = (omega (arith, h .0, ap number j), omega (arith, h .0, ap number j))
-      go (refused k z t) (inr (inl h, u, v)) j = (omega (arith, h, ap number j), omega (arith, h, ap number j))
-      go (refused k z t) (inr (inr h, u, v)) j = (omega (arith, h, ap number j), omega (arith, h, ap number j))
+      go (refused k z t) h j = subst (λ (i : ℕ). (26 < i) × (i < 30)) (ap number j) (run-late p limit y₀ (By f) k z t h)
 
   pub expv-late : {r : ℕ} {x : Float} {s : State} → expv b tau anorm tol m limit y ≡ refused r x s → (26 < r) × (r < 30)
   unfolding expv

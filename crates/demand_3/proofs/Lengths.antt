@@ -26,12 +26,13 @@ use Rattle.hess_exp.specs.HessExp.{Small, unplanned, column, hess-exp-e1}
 use Rattle.arnoldi.specs.Basis.{Setting, dim, Basis, breakdown, full, norm2, apply, arnoldi}
 use Rattle.trial_steps.specs.declared.Estimate.{Estimate}
 use Rattle.trial_steps.specs.Trials.{Trying, Tried, accepted, stuck, local-error, verdict, judge, try-step, exact-step, trials}
-use Rattle.phi_krylov_arnoldi.specs.Run.{State, End, finished, refused, applied-of, columns-of, advance, unfinished, standing, settle, substep, spent, run, first-length, started}
-use Rattle.demand_3.specs.Trace.{Accepted, Attempt, accepted-in, made, trace, lengths, tried-on, attempts}
+use Rattle.phi_krylov_arnoldi.specs.Run.{State, End, finished, refused, applied-of, columns-of, advance, unfinished, standing, settle, substep, first-length, started}
+use Rattle.demand_3.specs.Trace.{Accepted, Attempt, accepted-in, made, runs, trace, lengths, tried-on, attempts, Run, status-of}
 use Rattle.lists.proofs.Walk.{Kept, walk-keeps}
 use Rattle.demand_3.specs.Krylov.{Each, Within, Step, Short, Landed, Begun, Based, Unended, Steps}
 use Rattle.demand_3.proofs.Built.{own-first, own-based}
-use Rattle.demand_3.proofs.Counts.{each-append, last, reached, Normed, basis-of, trials-of}
+use Rattle.demand_3.proofs.Runs.{trace-over}
+use Rattle.demand_3.proofs.Counts.{each-append, reached, Normed, basis-of, trials-of}
 
 pub clear-of : (t : Float) → T (+0 ⋖ t) → T (nonneg t)
 clear-of t h = above-zero t (is-true (+0 ⋖ t) h)
@@ -194,24 +195,19 @@ started-timed p y = (
   unfold lt ofBits in tt,
 )
 
-walk-timed : (p : Setting) (k i : ℕ) (o : Turn State End) → Timed o → Timed (walk (λ _ t. substep p t) k i o)
-unfolding walk
-walk-timed p zero i o h = h
-walk-timed p (suc k) i (on s) h = walk-timed p k (i + 1) (substep p s) (substep-timed p s (h .0) (h .1))
-walk-timed p (suc k) i (out e) h = h
+pub runs-timed : (ps : List Setting) (o : Turn State End) → Timed o → Timed (runs ps o)
+unfolding runs
+runs-timed [] o h = h
+runs-timed (p ∷ ps) (on s) h = runs-timed ps (substep p s) (substep-timed p s (h .0) (h .1))
+runs-timed (p ∷ ps) (out e) h = h
 
-spent-timed : (o : Turn State End) → Timed o → TimedEnd (spent o)
-unfolding spent
-spent-timed (on s) h = h
-spent-timed (out e) h = h
+pub run-timed : (u : Run) → Timed (status-of u)
+run-timed u = runs-timed (u .settings) (on (started (u .first) (u .field))) (started-timed (u .first) (u .field))
 
-pub run-timed : (p : Setting) (limit : ℕ) (y : List Float) → TimedEnd (run p limit (started p y))
-unfolding run
-run-timed p limit y = spent-timed (walk (λ _ t. substep p t) limit 0 (on (started p y))) (walk-timed p limit 0 (on (started p y)) (started-timed p y))
-
-pub timed-last : (e : End) → TimedEnd e → Timely (last e)
-timed-last (finished s) h = h
-timed-last (refused r x s) h = h .0
+pub timed-last : (o : Turn State End) → Timed o → Timely (reached o)
+timed-last (on s) h = h .0
+timed-last (out (finished s)) h = h
+timed-last (out (refused r x s)) h = h .0
 
 -- a state that is not unfinished has norm 0 or its time is exactly 1
 pub finished-time : (s : State) → Timely s → unfinished s ≡ false → (eq (s .control .beta) +0 ≡ true) ⊎ (s .control .time ≡ 1f)
@@ -319,10 +315,10 @@ unfolding norm2
 unended y [] h = tt
 unended y (a ∷ l) h = h
 
-settle-steps : (p : Setting) (s : State) (b : Basis) (later : Turn State End → List Accepted) → ((e : End) → later (out e) ≡ []) → ((o : Turn State End) → Timed o → Normed (reached o) → Steps p (reached o .control .time) (reached o .y) (later o))
+settle-steps : (p : Setting) (s : State) (b : Basis) (later : Turn State End → List Accepted) → ((e : End) → later (out e) ≡ []) → ((o : Turn State End) → Timed o → Normed (reached o) → Steps (reached o .control .time) (reached o .y) (later o))
     → (h : Timely s) (l : T (s .control .time ⋖ 1f)) (o : Turn Trying Tried) → Trials (1f ⊖ s .control .time) (rest-step (h .time) l .0) (rest-step (h .time) l .1) 11 o
     → Normed s → Each Short (tried-on p s b) → Lands (s .control .time) (tried-on p s b) o → Begun b (s .control .beta) (s .y) → Based p b (map (apply p) (columns-of b))
-    → Steps p (s .control .time) (s .y) (accepted-in p s b o ++ later (settle p s b o))
+    → Steps (s .control .time) (s .y) (accepted-in p s b o ++ later (settle p s b o))
 unfolding settle accepted-in norm2
 settle-steps p s b later none rest h l (on t) k nm sh la bg me = rest (out (refused 28 (p .tol) s)) (h, l) nm
 settle-steps p s b later none rest h l (out (stuck arg)) k nm sh la bg me = rest (out (refused 29 arg s)) (h, l) nm
@@ -345,26 +341,21 @@ settle-steps p s b later none rest h l (out (accepted r t f err)) k nm sh la bg 
     follows n true e f = unended (n .y) (later (on n)) (subst (λ (z : Float). eq z +0 ≡ false) f (norm-left n e))
     follows n false e f = subst (Unended (n .y)) (sym (none (finished n))) tt
 
-    go : (n : State) (b : Bool) → Timed (standing n b) → Normed n → Steps p (n .control .time) (n .y) (later (standing n b))
+    go : (n : State) (b : Bool) → Timed (standing n b) → Normed n → Steps (n .control .time) (n .y) (later (standing n b))
     go n true t e = rest (on n) t e
     go n false t e = rest (out (finished n)) t e
 
-trace-over : (p : Setting) (k : ℕ) (e : End) → trace p k (out e) ≡ []
-unfolding trace
-trace-over p zero e = refl
-trace-over p (suc k) e = refl
-
-pub trace-steps : (p : Setting) (k : ℕ) (o : Turn State End) → Timed o → Normed (reached o) → Steps p (reached o .control .time) (reached o .y) (trace p k o)
+pub trace-steps : (ps : List Setting) (o : Turn State End) → Timed o → Normed (reached o) → Steps (reached o .control .time) (reached o .y) (trace ps o)
 unfolding trace made substep
-trace-steps p zero o h nm = tt
-trace-steps p (suc k) (on s) h nm = settle-steps p s (basis-of p s) (trace p k) (trace-over p k) (trace-steps p k) (h .0) (h .1) (trials-of p s) (own-trials p s (h .0) (h .1)) nm (tried-short p s (basis-of p s) (h .0) (h .1)) (own-lands p s (basis-of p s)) (own-first p (s .y) (s .control .beta)) (own-based p (s .y) (s .control .beta))
-trace-steps p (suc k) (out e) h nm = tt
+trace-steps [] o h nm = tt
+trace-steps (p ∷ ps) (on s) h nm = settle-steps p s (basis-of p s) (trace ps) (trace-over ps) (trace-steps ps) (h .0) (h .1) (trials-of p s) (own-trials p s (h .0) (h .1)) nm (tried-short p s (basis-of p s) (h .0) (h .1)) (own-lands p s (basis-of p s)) (own-first p (s .y) (s .control .beta)) (own-based p (s .y) (s .control .beta))
+trace-steps (p ∷ ps) (out e) h nm = tt
 
 -- ---- all lengths of a run
-pub attempts-short : (p : Setting) (k : ℕ) (o : Turn State End) → Timed o → Each Short (attempts p k o)
+pub attempts-short : (ps : List Setting) (o : Turn State End) → Timed o → Each Short (attempts ps o)
 unfolding attempts
-attempts-short p zero o h = tt
-attempts-short p (suc k) (on s) h =
-    each-append Short (tried-on p s (basis-of p s)) (attempts p k (substep p s)) (tried-short p s (basis-of p s) (h .0) (h .1))
-    (attempts-short p k (substep p s) (substep-timed p s (h .0) (h .1)))
-attempts-short p (suc k) (out e) h = tt
+attempts-short [] o h = tt
+attempts-short (p ∷ ps) (on s) h =
+    each-append Short (tried-on p s (basis-of p s)) (attempts ps (substep p s)) (tried-short p s (basis-of p s) (h .0) (h .1))
+    (attempts-short ps (substep p s) (substep-timed p s (h .0) (h .1)))
+attempts-short (p ∷ ps) (out e) h = tt

@@ -1,9 +1,11 @@
+pub mod Runs
 pub mod Built
 pub mod Counts
 pub mod Limit
 pub mod Lengths
 pub mod Attempts
 mod Shortest
+pub mod Moments
 pub mod Krylov
 pub mod Products
 pub mod Taylor

@@ -11,7 +11,6 @@ use lib.Ieee.{Float, isNan}
 use Rattle.doubles.specs.F64.{_⊕_, _⩽_, +0, minNum}
 use Rattle.doubles.proofs.Total.{⩽-refl, ⩽-trans, lt-numbers}
 use Rattle.doubles.proofs.Extremes.{min-of-two}
-use Rattle.arnoldi.specs.Basis.{Setting}
 use Rattle.phi_krylov_arnoldi.specs.Run.{shorter}
 use Rattle.demand_3.specs.Trace.{Accepted}
 use Rattle.demand_3.specs.Krylov.{Each, OneOf, Shortest, Steps}
@@ -21,9 +20,9 @@ use Rattle.demand_3.proofs.Counts.{shortest-after}
 abbrev Numbers : List Accepted → Type 0
 Numbers l = Each (λ a. T (not (isNan (a .t)))) l
 
-steps-numbers : (p : Setting) (time : Float) (y : List Float) (l : List Accepted) → Steps p time y l → Numbers l
-steps-numbers p time y [] h = tt
-steps-numbers p time y (a ∷ l) h = (lt-numbers +0 (a .t) (h .4 .above) .1, steps-numbers p (time ⊕ a .t) (a .to) l (h .10))
+steps-numbers : (time : Float) (y : List Float) (l : List Accepted) → Steps time y l → Numbers l
+steps-numbers time y [] h = tt
+steps-numbers time y (a ∷ l) h = (lt-numbers +0 (a .t) (h .4 .above) .1, steps-numbers (time ⊕ a .t) (a .to) l (h .10))
 
 -- from x on: the result is x or one of these, at most x and at most each
 pub record From (x : Float) (l : List Accepted) (t : Float) : Type 0 where
@@ -58,10 +57,10 @@ shortest-from k x (a ∷ l) n h = elim (min-of-two x (a .t) n (h .0)) [
     shortened : {t : Float} → T (a .t ⩽ x) → From (a .t) l t → From x (a ∷ l) t
     shortened {t} le f = record { among = here (f .among); most = ⩽-trans t (a .t) x (f .most) le; each = (f .most, f .each) }
 
-pub shortest-is : (p : Setting) (time : Float) (y : List Float) (l : List Accepted) → Steps p time y l → Shortest l (shortest-after 0 +0 l)
+pub shortest-is : (time : Float) (y : List Float) (l : List Accepted) → Steps time y l → Shortest l (shortest-after 0 +0 l)
 unfolding shortest-after shorter
-shortest-is p time y [] h = refl
-shortest-is p time y (a ∷ l) h =
-    let n = steps-numbers p time y (a ∷ l) h in
+shortest-is time y [] h = refl
+shortest-is time y (a ∷ l) h =
+    let n = steps-numbers time y (a ∷ l) h in
     let f = shortest-from 0 (a .t) l (n .0) (n .1) in
     (f .among, (f .most, f .each))

@@ -1,12 +1,12 @@
--- The Krylov half of demand 3: what an accepted run did, and when 27 refuses (document 01, 'What demand 3 counts'). Every line speaks of the substeps
--- accepted, the products made, the lengths tried and the field reached. Definitions only.
+-- The Krylov half of demand 3: what a run did, at every moment and where it was accepted, and when 27 refuses (document 01, 'What demand 3 counts'). Every line
+-- speaks of the substeps accepted, the products made, the lengths tried and the field reached. Definitions only.
 use mathlib.Core.Path.{_≡_}
 use mathlib.Core.Logic.{_⊎_}
 use mathlib.Core.Bool.{true, false}
-use mathlib.Core.List.{List, [], _∷_}
+use mathlib.Core.List.{List, [], _∷_, map}
 use Prim.Native.Nat.{ℕ, suc, _+_, _-_, _*_, _≤_, _<_}
 use lib.Dec.{T}
-use lib.ListN.{length, getD}
+use lib.ListN.{length, getD, take}
 use lib.Ieee.{Float, nan, binary64, eq, fits}
 use Rattle.lists.specs.Window.{window}
 use Rattle.doubles.specs.F64.{_⊕_, _⊖_, _⊘_, _⩽_, _⋖_, +0, 1f, at, nonneg}
@@ -91,12 +91,12 @@ Unended y [] = Unit {0}
 Unended y (a ∷ l) = eq (euclidean y) +0 ≡ false
 
 -- each substep starts from the field that the one before it gave, at a time from +0 to below 1; its length is no NaN, above 0 and within the rounded 1 - time
-abbrev pub Steps : Setting → Float → List Float → List Accepted → Type 0
-Steps p time y [] = Unit {0}
-Steps p time y (a ∷ l) = (a .from ≡ y) × (a .norm ≡ euclidean y) × Within 1f time × T (time ⋖ 1f) × Step (1f ⊖ time) (a .t) × Each Short (a .tried) × Landed time (a .t) (a .tried) × Begun (a .basis) (a .norm) (a .from) × Based p (a .basis) (a .products) × Unended (a .to) l × Steps p (time ⊕ a .t) (a .to) l
+abbrev pub Steps : Float → List Float → List Accepted → Type 0
+Steps time y [] = Unit {0}
+Steps time y (a ∷ l) = (a .from ≡ y) × (a .norm ≡ euclidean y) × Within 1f time × T (time ⋖ 1f) × Step (1f ⊖ time) (a .t) × Each Short (a .tried) × Landed time (a .t) (a .tried) × Begun (a .basis) (a .norm) (a .from) × Based (a .setting) (a .basis) (a .products) × Unended (a .to) l × Steps (time ⊕ a .t) (a .to) l
 
--- an accepted job of n rows and dimension M: `start` are its n + d values, `output` is what it left, u is its run, r its report
-pub record KrylovCost (n M limit : ℕ) (start output : List Float) (u : Run) (r : KrylovPhiReport) : Type 0 where
+-- a run u of dimension M at any moment, ended or not, with the report r
+pub record Counted (M limit : ℕ) (u : Run) (r : KrylovPhiReport) : Type 0 where
   -- each count is the number made: substeps accepted, products, and lengths tried and not accepted
   pub substeps : r .substeps ≡ length (accepted-by u)
   pub applications : r .matvecs ≡ total (λ a. length (a .products)) (accepted-by u)
@@ -105,17 +105,44 @@ pub record KrylovCost (n M limit : ℕ) (start output : List Float) (u : Run) (r
   pub few-substeps : r .substeps ≤ limit
   pub few-applications : r .matvecs ≤ suc M * r .substeps
   pub few-rejections : r .rejected ≤ 10 * r .substeps
+  -- the substeps accepted are the first, each made with its own setting
+  pub settings : map (λ a. a .setting) (accepted-by u) ≡ take (length (accepted-by u)) (u .settings)
   -- no length tried is above the rounded 1 - time, and the steps run below 1
   pub short : Each Short (tried-by u)
-  pub steps : Steps (u .setting) +0 (u .field) (accepted-by u)
+  pub steps : Steps +0 (u .field) (accepted-by u)
+  -- the shortest and the last length accepted, both +0 where there is none
+  pub shortest : Shortest (accepted-by u) (r .shortest)
+  pub last : r .last ≡ last-after +0 (accepted-by u)
+
+-- ---- where a run stands at a moment (document 02, N5)
+-- it goes on: its substeps so far are all accepted, their rounded sum is below 1, and the norm after one is not 0
+pub record GoesOn (u : Run) : Type 0 where
+  pub all : length (accepted-by u) ≡ length (u .settings)
+  pub below-one : T (time-of u ⋖ 1f)
+  pub norm-left : 0 < length (accepted-by u) → eq (euclidean (field-of u)) +0 ≡ false
+
+-- a substep ended it with a result: the rounded sum of the steps is 1, or the norm of the field reached is 0
+pub record Finished (u : Run) : Type 0 where
+  pub some : 0 < length (accepted-by u)
+  pub reached : (eq (euclidean (field-of u)) +0 ≡ true) ⊎ (time-of u ≡ 1f)
+
+-- a substep that is not accepted ended it by k: 28 with its eleventh rejection, or 29
+pub record Failed (u : Run) (k : ℕ) : Type 0 where
+  pub number : (k ≡ 28) ⊎ (k ≡ 29)
+  pub eleven : k ≡ 28 → length (tried-by u) ≡ total (λ a. length (a .tried)) (accepted-by u) + 11
+  pub fewer : length (accepted-by u) < length (u .settings)
+  pub below-one : T (time-of u ⋖ 1f)
+  pub norm-left : 0 < length (accepted-by u) → eq (euclidean (field-of u)) +0 ≡ false
+
+-- ---- whole calls
+-- an accepted job of n rows and dimension M: `start` are its n + d values, `output` is what it left, u is its run, r its report
+pub record KrylovCost (n M limit : ℕ) (start output : List Float) (u : Run) (r : KrylovPhiReport) : Type 0 where
+  pub counted : Counted M limit u r
   -- no substep exactly where all values are zeros; else the rounded sum of the steps is 1, or the norm of the field reached is 0
   pub idle : (accepted-by u ≡ [] → Zeros start) × (Zeros start → accepted-by u ≡ [])
   pub reached : Zeros start ⊎ ((eq (euclidean (field-of u)) +0 ≡ true) ⊎ (time-of u ≡ 1f))
   -- the estimate is that of the substeps, relative to the norm of the first field
   pub estimate : r .«est_error» ≡ relative (estimate-of u) (u .field) (u .prescale)
-  -- the shortest and the last length accepted, both +0 where there is none
-  pub shortest : Shortest (accepted-by u) (r .shortest)
-  pub last : r .last ≡ last-after +0 (accepted-by u)
   -- the output is the field reached
   pub fields : output ≡ window 0 n (left-by u)
 

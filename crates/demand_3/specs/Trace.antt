@@ -1,7 +1,8 @@
--- What a Krylov run did: its accepted substeps one by one, and every length tried (document 01, 'What demand 3 counts'). Definitions only.
+-- What a Krylov run did: its accepted substeps one by one, and every length tried (document 01, 'What demand 3 counts'). A substep has its own setting, since matrix,
+-- tau, vectors and tol of a paused run may change at each (document 02, N5); a whole call's run has the same for all. Definitions only.
 use mathlib.Core.List.{List, [], _∷_, _++_, map}
 use Prim.Native.Nat.{ℕ, zero, suc, _+_}
-use lib.ListN.{length}
+use lib.ListN.{length, replicate}
 use lib.Ieee.{Float}
 use Rattle.lists.specs.Walk.{Turn, on, out}
 use Rattle.doubles.specs.F64.{_⊕_, _⊖_, _⊗_, _⊘_, +0, 1f, minNum, maxNum}
@@ -31,9 +32,10 @@ unfoldable pub tried-on : Setting → State → Basis → List Attempt
 tried-on p s (breakdown b) = record { time = s .control .time; t = 1f ⊖ s .control .time } ∷ []
 tried-on p s (full b avnorm) = lengths (try-step p (s .control .beta) (b .h) avnorm) (s .control .time) 11 0 (on (record { rejections = 0; t = minNum (s .control .next) (1f ⊖ s .control .time) }))
 
--- an accepted substep: the field it starts from, and the norm taken for it; its basis, and the products made, one with each column; the lengths tried on it; the
--- length accepted and its error; the field it gives
+-- an accepted substep: what it was made with; the field it starts from, and the norm taken for it; its basis, and the products made, one with each column; the
+-- lengths tried on it; the length accepted and its error; the field it gives
 pub record Accepted : Type 0 where
+  pub setting : Setting
   pub from : List Float
   pub norm : Float
   pub basis : Basis
@@ -48,7 +50,7 @@ unfoldable pub accepted-in : Setting → State → Basis → Turn Trying Tried �
 accepted-in p s b (on t) = []
 accepted-in p s b (out (stuck arg)) = []
 accepted-in p s b (out (accepted r t f err)) =
-    record { from = s .y; norm = s .control .beta; basis = b; products = map (apply p) (columns-of b); tried = tried-on p s b; t = t; err = err; to = combined (s .control .beta) (columns-of b) f (length (s .y)) } ∷ []
+    record { setting = p; from = s .y; norm = s .control .beta; basis = b; products = map (apply p) (columns-of b); tried = tried-on p s b; t = t; err = err; to = combined (s .control .beta) (columns-of b) f (length (s .y)) } ∷ []
 
 -- the substep from s, where it is accepted: the columns once, then lengths tried on them
 unfoldable pub made : Setting → State → List Accepted
@@ -56,11 +58,17 @@ made p s =
     let b = arnoldi p (s .y) (s .control .beta) in
     accepted-in p s b (trials p (s .control .beta) (s .control .next) (1f ⊖ s .control .time) b)
 
--- the accepted substeps of at most k
-unfoldable pub trace : Setting → ℕ → Turn State End → List Accepted
-trace p zero o = []
-trace p (suc k) (on s) = made p s ++ trace p k (substep p s)
-trace p (suc k) (out e) = []
+-- substeps with these settings, one after the other, until the run ends
+unfoldable pub runs : List Setting → Turn State End → Turn State End
+runs [] o = o
+runs (p ∷ ps) (on s) = runs ps (substep p s)
+runs (p ∷ ps) (out e) = out e
+
+-- those of them that are accepted
+unfoldable pub trace : List Setting → Turn State End → List Accepted
+trace [] o = []
+trace (p ∷ ps) (on s) = made p s ++ trace ps (substep p s)
+trace (p ∷ ps) (out e) = []
 
 -- a count over all substeps
 unfoldable pub total : (Accepted → ℕ) → List Accepted → ℕ
@@ -83,23 +91,25 @@ field-after y [] = y
 field-after y (a ∷ l) = field-after (a .to) l
 
 -- the estimate after them: each adds its error, or the round-off of its products where that is larger (phi_krylov_arnoldi.rs, `substeps`)
-unfoldable pub estimate-after : Float → Float → List Accepted → Float
-estimate-after anorm e [] = e
-estimate-after anorm e (a ∷ l) = estimate-after anorm (e ⊕ maxNum (a .err) (anorm ⊗ EPSILON ⊗ norm2 (a .from))) l
+unfoldable pub estimate-after : Float → List Accepted → Float
+estimate-after e [] = e
+estimate-after e (a ∷ l) = estimate-after (e ⊕ maxNum (a .err) (a .setting .anorm ⊗ EPSILON ⊗ norm2 (a .from))) l
 
--- every length tried in at most k substeps
-unfoldable pub attempts : Setting → ℕ → Turn State End → List Attempt
-attempts p zero o = []
-attempts p (suc k) (on s) = tried-on p s (arnoldi p (s .y) (s .control .beta)) ++ attempts p k (substep p s)
-attempts p (suc k) (out e) = []
+-- every length tried in substeps with these settings
+unfoldable pub attempts : List Setting → Turn State End → List Attempt
+attempts [] o = []
+attempts (p ∷ ps) (on s) = tried-on p s (arnoldi p (s .y) (s .control .beta)) ++ attempts ps (substep p s)
+attempts (p ∷ ps) (out e) = []
 
--- ---- `expv`
--- its run: the setting, how many substeps it may take, the field from which it starts, and the power of two by which that was scaled
+-- a run: the setting by which its first length is proposed; those of its substeps, one for each that it may take, of a paused run for each so far; the field
+-- from which it starts, and the power of two by which that was scaled
 pub record Run : Type 0 where
-  pub setting : Setting
-  pub limit : ℕ
+  pub first : Setting
+  pub settings : List Setting
   pub field : List Float
   pub prescale : Prescale
+
+-- ---- `expv`
 
 -- the n + d values scaled by a power of two; zeros as they are
 unfoldable pub scaled : List Float → Prescale → List Float
@@ -121,20 +131,26 @@ unfoldable pub allowed : ℕ → Prescale → ℕ
 allowed limit None = 0
 allowed limit (By f) = limit
 
--- by its factors (phi_krylov_arnoldi.rs, `expv`): tol times the first norm, M, the limit
+-- its run by the factors (phi_krylov_arnoldi.rs, `expv`): tol times the first norm, M, the limit
 unfoldable pub run-by : Augmented → Float → Float → Float → ℕ → ℕ → List Float → Prescale → Run
 run-by b tau anorm tol m limit y f =
-    record { setting = setting b tau anorm (tol ⊗ norm2 (scaled y f)) (clamp-m m (length y)); limit = allowed limit f; field = scaled y f; prescale = f }
+    let p = setting b tau anorm (tol ⊗ norm2 (scaled y f)) (clamp-m m (length y)) in
+    record { first = p; settings = replicate (allowed limit f) p; field = scaled y f; prescale = f }
 
 unfoldable pub run-of : Augmented → Float → Float → Float → ℕ → ℕ → List Float → Run
 run-of b tau anorm tol m limit y = run-by b tau anorm tol m limit y (pow2-scale y)
 
--- the substeps it accepted, and the lengths it tried
+-- ---- what a run did
+-- where it stands: going on, or ended
+abbrev pub status-of : Run → Turn State End
+status-of u = runs (u .settings) (on (started (u .first) (u .field)))
+
+-- the substeps accepted, and the lengths tried
 abbrev pub accepted-by : Run → List Accepted
-accepted-by u = trace (u .setting) (u .limit) (on (started (u .setting) (u .field)))
+accepted-by u = trace (u .settings) (on (started (u .first) (u .field)))
 
 abbrev pub tried-by : Run → List Attempt
-tried-by u = attempts (u .setting) (u .limit) (on (started (u .setting) (u .field)))
+tried-by u = attempts (u .settings) (on (started (u .first) (u .field)))
 
 -- the time and the field that it reached, and the estimate of its error
 abbrev pub time-of : Run → Float
@@ -148,4 +164,4 @@ abbrev pub left-by : Run → List Float
 left-by u = unscaled (field-of u) (u .prescale)
 
 abbrev pub estimate-of : Run → Float
-estimate-of u = estimate-after (u .setting .anorm) +0 (accepted-by u)
+estimate-of u = estimate-after +0 (accepted-by u)

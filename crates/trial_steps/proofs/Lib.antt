@@ -1,3 +1,4 @@
 pub mod Tries
 pub mod Few
+pub mod Coefficients
 pub mod Error
