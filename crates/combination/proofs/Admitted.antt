@@ -23,8 +23,8 @@ use Rattle.expmv.specs.Select.{select-s-m}
 use Rattle.expmv.specs.declared.Selected.{Selected}
 use Rattle.expmv.specs.declared.Selected.the-variants.{NoRow, Row}
 use Rattle.phi_shift.specs.Plan.{argument}
-use Rattle.combination.specs.Combination.{vector, column-places, combination-start, init-aug-vector}
-use Rattle.combination.specs.Checks.{no-row, count-checks, index-checks, plan-checks, length-checks, finite-checks, magnitude-checks, schedule-checks, memory-checks, vector-checks, sweep-checks, job-checks}
+use Rattle.combination.specs.Combination.{vector, eta-of, column-places, combination-start, init-aug-vector}
+use Rattle.combination.specs.Checks.{no-row, count-checks, index-checks, plan-checks, length-checks, finite-checks, magnitude-checks, schedule-checks, memory-checks, vector-checks-by, vector-checks, sweep-checks, job-checks}
 use Rattle.combination.specs.Inner.{row-sweeps, row-degree, one-column, Coupled}
 
 -- ---- 12 to 17
@@ -40,7 +40,7 @@ above-0 (suc k) h = omega arith
 
 pub vectors-known : (n : ℕ) (ts : List Check) (count : ℕ) (w : List Float) (output : ℕ) {r : Checked} → r ≡ Sound → r ≡ first (vector-checks n ts count w output)
     → Vectors n count (length w) output
-unfolding vector-checks count-checks length-checks
+unfolding vector-checks vector-checks-by count-checks length-checks
 vectors-known n ts count w output e f =
     let s = sound-append (count-checks count) _ (sym e ∙ f) in
     let c = or-false (eqb count 0) (ltb 4 count) (sound-cons _ _ _ _ (s .0) .0) in
@@ -55,30 +55,33 @@ vectors-known n ts count w output e f =
       flat = eqb-true (length w) (count * n) (not-false _ (b .0));
     }
 
--- d = count - 1: the vectors from w_0 to w_d fill the slice
-vectors-fill : (count n : ℕ) → 1 ≤ count → (count - 1 + 1) * n ≡ count * n
-vectors-fill zero n h = absurd (omega arith)
-vectors-fill (suc d) n h = ap (λ (k : ℕ). k * n) (omega arith)
+-- with nothing between 16 and 17
+pub of-one-slice : (n : ℕ) (ts : List Check) (count : ℕ) (w : List Float) (output : ℕ) {r : Checked}
+    → r ≡ first (vector-checks-by ts (length-checks output n (length w) (count * n) ++ []) count w)
+    → r ≡ first (vector-checks n ts count w output)
+unfolding vector-checks length-checks
+of-one-slice n ts count w output e = e
 
-first-vector : (count n : ℕ) → 1 ≤ count → n ≤ count * n
-first-vector zero n h = absurd (omega arith)
-first-vector (suc d) n h = rw (suc-mul d n) (omega arith)
+-- d = count - 1: w_0 and the vectors from w_1 to w_d fill the slice
+vectors-fill : (count n : ℕ) → 1 ≤ count → (count - 1) * n + n ≡ count * n
+vectors-fill zero n h = absurd (omega arith)
+vectors-fill (suc d) n h = ap (λ (k : ℕ). k * n + n) (omega arith) ∙ sym (suc-mul d n)
 
 module _ {n count long output : ℕ} (v : Vectors n count long output) where
-  pub vectors-within : (count - 1 + 1) * n ≤ long
-  vectors-within = omega (arith, vectors-fill count n (v .some), v .flat)
+  pub further-within : (count - 1) * n ≤ long - n
+  further-within = omega (arith, vectors-fill count n (v .some), v .flat)
 
   pub first-within : n ≤ long
-  first-within = omega (arith, first-vector count n (v .some), v .flat)
+  first-within = omega (arith, vectors-fill count n (v .some), v .flat)
 
 -- the columns lie in the slice
-columns-in : (n d long : ℕ) → (d + 1) * n ≤ long → d ≤ 3 → (j : ℕ) → j < d → getD (column-places n d) j 0 + n ≤ long
+columns-in : (n d long : ℕ) → d * n ≤ long → d ≤ 3 → (j : ℕ) → j < d → getD (column-places n d) j 0 + n ≤ long
 unfolding column-places
 columns-in n d long h few j l =
-    let w = column-within (d - j) (d + 1) n (omega arith) in
+    let w = column-within (d - j - 1) d n (omega arith) in
     rw (getD-tabulate {A = ℕ} 3 _ j 0 (omega arith), lt-ltb j d l) (omega (arith, w))
 
-pub coupled-in : (n d long : ℕ) (gains : List Float) → (d + 1) * n ≤ long → d ≤ 3 → Coupled (record { places = column-places n d; gains = gains; count = d }) n d long
+pub coupled-in : (n d long : ℕ) (gains : List Float) → d * n ≤ long → d ≤ 3 → Coupled (record { places = column-places n d; gains = gains; count = d }) n d long
 coupled-in n d long gains h few = record { few = few; chained = omega arith; short = few; columns = columns-in n d long h few }
 
 pub coupled-one : (n long : ℕ) (eta : Float) → long ≡ n → Coupled (one-column eta) n 3 long
@@ -110,9 +113,9 @@ planned-known norm tau cap memory need e =
     record { row = row-is _ (sound-cons _ _ _ _ (a .1) .0); room = enough-known memory need (t .1) }
 
 -- ---- 21, 22 and 24 to 26 of a combination
-pub sweeps-known : (n : ℕ) (tau : Float) (cap d : ℕ) (w : List Float) (norm : Float) (memory need : ℕ) → Sound ≡ first (sweep-checks n tau cap d w norm memory need) → Planned tau cap norm memory need
+pub sweeps-known : (n : ℕ) (tau : Float) (cap d : ℕ) (f : List Float) (norm : Float) (memory need : ℕ) → Sound ≡ first (sweep-checks n tau cap d f norm memory need) → Planned tau cap norm memory need
 unfolding sweep-checks
-sweeps-known n tau cap d w norm memory need e = planned-known norm tau cap memory need (sound-append (magnitude-checks n w tau d) _ e .1)
+sweeps-known n tau cap d f norm memory need e = planned-known norm tau cap memory need (sound-append (magnitude-checks n f tau d (eta-of n f tau d .eta)) _ e .1)
 
 -- ---- 13 to 17, 33 and 24 to 26 of an action
 pub index-known : (k : ℕ) {r : Checked} → r ≡ Sound → r ≡ first (index-checks k) → k ≤ 3

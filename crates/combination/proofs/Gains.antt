@@ -9,6 +9,7 @@ use lib.Dec.{eqb, ltb}
 use borrow.Author.Tests.{lt-ltb, ltb-true, ltb-false}
 use Rattle.lists.specs.Find.{find, exists}
 use Rattle.lists.proofs.Bounds.{product-within}
+use Rattle.lists.proofs.Find.{find-ext}
 use Rattle.lists.proofs.Loop.{getD-tabulate, tabulate-ext}
 use Rattle.doubles.specs.F64.{if_then_else_, _⊗_, 1f, at}
 use Rattle.checks.specs.First.{first}
@@ -24,17 +25,9 @@ use Rattle.pow2.specs.Pow2.{eta-scaling}
 use Rattle.pow2.specs.declared.Scaling.{Scaling}
 use Rattle.combination.specs.Combination.{gain, magnitude, eta-of, column-places, scaled-gains}
 use Rattle.combination.specs.Checks.{count-checks, bad-gain, magnitude-checks, schedule-checks}
-use Rattle.combination.specs.Inner.{powers-of, not-finite-by, power-checks, reversed-by, weights, argument-checks, schedule}
+use Rattle.combination.specs.Inner.{powers-of, not-finite-by, power-checks, reversed-by, weights-by, weights, argument-checks, schedule}
 use Rattle.combination.specs.declared.Powers.{Powers}
-
--- two tests that agree below n find the same
-find-ext : (p q : ℕ → Bool) (n : ℕ) → ((k : ℕ) → k < n → p k ≡ q k) → find p n ≡ find q n
-unfolding find
-find-ext p q zero h = refl
-find-ext p q (suc n) h =
-    let first-test = h 0 (omega arith) in
-    let others = find-ext (λ k. p (suc k)) (λ k. q (suc k)) n (λ k l. h (suc k) (omega arith)) in
-    λ i. elim (first-test i) [ true ↦ 0 | false ↦ suc (others i) ]
+use Rattle.combination.specs.declared.Weights.{Weights}
 
 -- a search that ends below n
 pub found-some : (p : ℕ → Bool) (n : ℕ) {i : ℕ} → i ≡ find p n → i < n → exists p n ≡ true
@@ -42,33 +35,37 @@ unfolding exists
 found-some p n {i} e l = rw (← e) (lt-ltb i n l)
 
 -- ---- 21 and 22
-module _ (n : ℕ) (w : List Float) (tau : Float) (d : ℕ) (few : d ≤ 3) where
-  power-at : (j : ℕ) → j < d → at (powers-of n w tau d .gains) j ≡ gain n w tau (j + 1)
+module _ (n : ℕ) (f : List Float) (tau : Float) (d : ℕ) (few : d ≤ 3) where
+  power-at : (j : ℕ) → j < d → at (powers-of n f tau d .gains) j ≡ gain n f tau j
   power-at j l = getD-tabulate 3 _ j nan (omega arith) ∙ rw (lt-ltb j d l) refl
 
-  pub magnitude-told : first (power-checks (magnitude n w tau d) (powers-of n w tau d .gains) d (eta-of n w tau d .eta)) ≡ first (magnitude-checks n w tau d)
+  pub magnitude-told : (eta : Float) → first (power-checks (magnitude n f tau d) (powers-of n f tau d .gains) d eta) ≡ first (magnitude-checks n f tau d eta)
   unfolding magnitude-checks exists bad-gain
-  magnitude-told =
-      rw (find-ext (not-finite-by (powers-of n w tau d .gains) (eta-of n w tau d .eta)) (bad-gain n w tau d) d (λ j l. rw (power-at j l) refl)) refl
+  magnitude-told eta =
+      rw (find-ext (not-finite-by (powers-of n f tau d .gains) eta) (bad-gain n f tau eta) d (λ j l. rw (power-at j l) refl)) refl
 
-  pub gains-told : (eta : Float) → reversed-by (powers-of n w tau d .gains) d eta ≡ scaled-gains n w tau d eta
+  pub gains-told : (eta : Float) → reversed-by (powers-of n f tau d .gains) d eta ≡ scaled-gains n f tau d eta
   unfolding scaled-gains
   gains-told eta = tabulate-ext 3 _ _ (λ j l. go j (ltb j d) refl)
     where
-      go : (j : ℕ) (t : Bool) → ltb j d ≡ t → (if t then at (powers-of n w tau d .gains) (d - j - 1) ⊗ eta else 1f) ≡ (if t then gain n w tau (d - j) ⊗ eta else 1f)
-      go j true e = ap (λ (x : Float). x ⊗ eta) (power-at (d - j - 1) (omega (arith, ltb-true j d e)) ∙ ap (gain n w tau) (omega (arith, ltb-true j d e)))
+      go : (j : ℕ) (t : Bool) → ltb j d ≡ t → (if t then at (powers-of n f tau d .gains) (d - j - 1) ⊗ eta else 1f) ≡ (if t then gain n f tau (d - j - 1) ⊗ eta else 1f)
+      go j true e = ap (λ (x : Float). x ⊗ eta) (power-at (d - j - 1) (omega (arith, ltb-true j d e)))
       go j false e = refl
 
-  pub weighed-is : {p : Powers} {eta : Scaling} {r : Checked} {places : List ℕ} {gains : List Float} → p ≡ powers-of n w tau d → eta ≡ eta-scaling (p .sum) → places ≡ column-places n d
+  pub weighed-is : {p : Powers} (eta : Scaling) {r : Checked} {places : List ℕ} {gains : List Float} → p ≡ powers-of n f tau d → places ≡ column-places n d
       → gains ≡ reversed-by (p .gains) d (eta .eta)
       → r ≡ first (power-checks (p .sum) (p .gains) d (eta .eta))
-      → record { checked = r; inv = eta .inv; b = record { places = places; gains = gains; count = d } } ≡ weights n w tau d
-  unfolding eta-of
-  weighed-is {p} {eta} {r} {places} {gains} e f h k g =
-      let eta-is : eta ≡ eta-of n w tau d = f ∙ ap (λ (x : Powers). eta-scaling (x .sum)) e in
-      let gains-are : gains ≡ scaled-gains n w tau d (eta-of n w tau d .eta) = (rw (e, eta-is) at k) ∙ gains-told (eta-of n w tau d .eta) in
-      let checked : r ≡ first (magnitude-checks n w tau d) = (rw (e, eta-is) at g) ∙ magnitude-told in
-      λ i. record { checked = checked i; inv = eta-is i .inv; b = record { places = h i; gains = gains-are i; count = d } }
+      → record { checked = r; inv = eta .inv; b = record { places = places; gains = gains; count = d } } ≡ weights-by n f tau d eta
+  weighed-is {p} eta {r} {places} {gains} e h k g =
+      let gains-are : gains ≡ scaled-gains n f tau d (eta .eta) = (rw e at k) ∙ gains-told (eta .eta) in
+      let checked : r ≡ first (magnitude-checks n f tau d (eta .eta)) = (rw e at g) ∙ magnitude-told (eta .eta) in
+      λ i. record { checked = checked i; inv = eta .inv; b = record { places = h i; gains = gains-are i; count = d } }
+
+-- by the job's own eta
+pub own-weights : (n : ℕ) (f : List Float) (tau : Float) (d : ℕ) {p : Powers} {eta : Scaling} {r : Weights} → p ≡ powers-of n f tau d → eta ≡ eta-scaling (p .sum) → r ≡ weights-by n f tau d eta
+    → r ≡ weights n f tau d
+unfolding eta-of
+own-weights n f tau d e h w = w ∙ ap (weights-by n f tau d) (h ∙ ap (λ (x : Powers). eta-scaling (x .sum)) e)
 
 -- ---- 24 and 25
 module _ (m-max : ℕ) (norm tau : Float) {arg : Float} {row : Selected} {r : Checked} (e : arg ≡ argument tau norm) (f : row ≡ select-s-m m-max arg) where

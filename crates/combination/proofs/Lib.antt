@@ -1,4 +1,5 @@
 pub mod Gains
+pub mod Further
 pub mod Starts
 pub mod Admitted
 pub mod Ends

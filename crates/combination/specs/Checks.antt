@@ -46,13 +46,14 @@ not-finite-at w i = not (is-finite (at w i))
 unfoldable pub finite-checks : List Float → List Check
 finite-checks w = refuse 17 (exists (not-finite-at w) (length w)) (at w (find (not-finite-at w) (length w))) ∷ []
 
--- tau ^ k * eta of w_k, k = j + 1
-unfoldable pub bad-gain : ℕ → List Float → Float → ℕ → ℕ → Bool
-bad-gain n w tau d j = not (is-finite (gain n w tau (j + 1) ⊗ eta-of n w tau d .eta))
+-- of the further vectors f: tau ^ (j + 1) * eta of w_(j+1)
+unfoldable pub bad-gain : ℕ → List Float → Float → Float → ℕ → Bool
+bad-gain n f tau eta j = not (is-finite (gain n f tau j ⊗ eta))
 
-unfoldable pub magnitude-checks : ℕ → List Float → Float → ℕ → List Check
-magnitude-checks n w tau d =
-    refuse 21 (not (is-finite (magnitude n w tau d))) (magnitude n w tau d) ∷ refuse 22 (exists (bad-gain n w tau d) d) nan ∷ []
+-- eta is the job's own, or what a run began with
+unfoldable pub magnitude-checks : ℕ → List Float → Float → ℕ → Float → List Check
+magnitude-checks n f tau d eta =
+    refuse 21 (not (is-finite (magnitude n f tau d))) (magnitude n f tau d) ∷ refuse 22 (exists (bad-gain n f tau eta) d) nan ∷ []
 
 abbrev pub no-row : Selected → Bool
 no-row NoRow = true
@@ -78,15 +79,18 @@ taylor-need n d stored = 3 * n + 2 * d + stored
 unfoldable pub plan-checks : Float → ℕ → List Check
 plan-checks tau cap = time-checks tau ++ degree-checks cap
 
--- 12 to 17 of a combination of `count` vectors; `of-time` is 14, and of a Taylor job 33 behind it
-unfoldable pub vector-checks : ℕ → List Check → ℕ → List Float → ℕ → List Check
-vector-checks n of-time count w output =
-    count-checks count ++ (of-time ++ (length-checks output n (length w) (count * n) ++ finite-checks w))
+-- 12 to 17 of a combination of `count` vectors with the values w; `of-time` is 14, and of a Taylor job 33 behind it, `of-lengths` are 15 and 16
+unfoldable pub vector-checks-by : List Check → List Check → ℕ → List Float → List Check
+vector-checks-by of-time of-lengths count w = count-checks count ++ (of-time ++ (of-lengths ++ finite-checks w))
 
--- 21, 22 and 24 to 26 of a Taylor combination
+-- of vectors in one slice
+unfoldable pub vector-checks : ℕ → List Check → ℕ → List Float → ℕ → List Check
+vector-checks n of-time count w output = vector-checks-by of-time (length-checks output n (length w) (count * n)) count w
+
+-- 21, 22 and 24 to 26 of a Taylor combination with the further vectors f
 unfoldable pub sweep-checks : ℕ → Float → ℕ → ℕ → List Float → Float → ℕ → ℕ → List Check
-sweep-checks n tau cap d w norm memory need =
-    magnitude-checks n w tau d ++ (schedule-checks cap norm tau ++ memory-checks memory need)
+sweep-checks n tau cap d f norm memory need =
+    magnitude-checks n f tau d (eta-of n f tau d .eta) ++ (schedule-checks cap norm tau ++ memory-checks memory need)
 
 -- 13 to 17, 33 behind 14, and 24 to 26 of an action on v, of n values (17: document 02, N2)
 unfoldable pub job-checks : ℕ → Float → ℕ → ℕ → ℕ → List Float → ℕ → Float → ℕ → ℕ → List Check
@@ -96,5 +100,5 @@ job-checks k tau cap output wanted v n norm memory need =
 
 -- to compute: a line `unfolding open-Checks` opens every definition of this file and of those below it
 unfoldable pub open-Checks : Unit {0}
-unfolding count-checks index-checks out-of-range time-checks degree-checks plan-checks length-checks not-finite-at finite-checks bad-gain magnitude-checks schedule-checks memory-checks taylor-need vector-checks sweep-checks job-checks open-Find open-Combination open-Plan
+unfolding count-checks index-checks out-of-range time-checks degree-checks plan-checks length-checks not-finite-at finite-checks bad-gain magnitude-checks schedule-checks memory-checks taylor-need vector-checks-by vector-checks sweep-checks job-checks open-Find open-Combination open-Plan
 open-Checks = tt

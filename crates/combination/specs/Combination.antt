@@ -3,7 +3,7 @@
 use mathlib.Core.List.{List, [], _∷_, _++_}
 use Prim.Native.Nat.{ℕ, zero, suc, _+_, _-_, _*_}
 use lib.Dec.{ltb}
-use lib.ListN.{replicate, set}
+use lib.ListN.{drop, replicate, set}
 use lib.Ieee.{Float, eq}
 use Rattle.lists.specs.Loop.{iter, tabulate}
 use Rattle.lists.specs.Window.{window}
@@ -15,36 +15,40 @@ use Rattle.general_operator.specs.Csr.{Csr}
 use Rattle.phi_action_helpers.specs.Augmented.{Augmented, augmented}
 use Rattle.phi_action_helpers.specs.Sweeps.{open-Sweeps}
 
--- w_k of the flat slice
+-- w_1 and on, of all vectors in one list
+unfoldable pub further : ℕ → List Float → List Float
+further n w = drop n w
+
+-- the vector at j of several in one list; w_(j+1) is the one at j of the further vectors f
 unfoldable pub vector : ℕ → List Float → ℕ → List Float
-vector n w k = window (k * n) n w
+vector n f j = window (j * n) n f
 
--- tau ^ k, by products from the left; 0 for an all-zero vector
+-- of w_(j+1): tau ^ (j + 1), by products from the left; 0 for an all-zero vector
 unfoldable pub gain : ℕ → List Float → Float → ℕ → Float
-gain n w tau k = if eq (sup (vector n w k)) +0 then +0 else power tau k
+gain n f tau j = if eq (sup (vector n f j)) +0 then +0 else power tau (j + 1)
 
--- s and w_k's share, tau ^ k * sup |w_k|; an all-zero vector is skipped
+-- s and w_(j+1)'s share, tau ^ (j + 1) * sup |w_(j+1)|; an all-zero vector is skipped
 unfoldable pub weighed : ℕ → List Float → Float → ℕ → Float → Float
-weighed n w tau k s = if eq (sup (vector n w k)) +0 then s else s ⊕ power tau k ⊗ sup (vector n w k)
+weighed n f tau j s = if eq (sup (vector n f j)) +0 then s else s ⊕ power tau (j + 1) ⊗ sup (vector n f j)
 
--- the sum of these over k from 1 to d
+-- the sum of these over w_1 to w_d
 unfoldable pub magnitude : ℕ → List Float → Float → ℕ → Float
-magnitude n w tau d = iter (λ j s. weighed n w tau (j + 1) s) d +0
+magnitude n f tau d = iter (weighed n f tau) d +0
 
 unfoldable pub eta-of : ℕ → List Float → Float → ℕ → Scaling
-eta-of n w tau d = eta-scaling (magnitude n w tau d)
+eta-of n f tau d = eta-scaling (magnitude n f tau d)
 
--- cols[d - k] is w_k, and gains[d - k] its weight times eta; of three places those from d on are not used
+-- cols[d - k] is w_k, which is at k - 1 of the further vectors, and gains[d - k] its weight times eta; of three places those from d on are not used
 unfoldable pub column-places : ℕ → ℕ → List ℕ
-column-places n d = tabulate 3 (λ j. if ltb j d then (d - j) * n else 0)
+column-places n d = tabulate 3 (λ j. if ltb j d then (d - j - 1) * n else 0)
 
 unfoldable pub scaled-gains : ℕ → List Float → Float → ℕ → Float → List Float
-scaled-gains n w tau d eta = tabulate 3 (λ j. if ltb j d then gain n w tau (d - j) ⊗ eta else 1f)
+scaled-gains n f tau d eta = tabulate 3 (λ j. if ltb j d then gain n f tau (d - j - 1) ⊗ eta else 1f)
 
 unfoldable pub combination-operator : Csr → List Float → Float → ℕ → Float → Augmented
-combination-operator q w tau d eta = augmented q d w (column-places (q .n) d) (scaled-gains (q .n) w tau d eta) d
+combination-operator q f tau d eta = augmented q d f (column-places (q .n) d) (scaled-gains (q .n) f tau d eta) d
 
--- `phi_combination`: w_0, then the chain: zeros, and 1 / eta at its end
+-- `phi_combination`: w_0, the first n values of a list, then the chain: zeros, and 1 / eta at its end
 unfoldable pub combination-start : ℕ → List Float → ℕ → Float → List Float
 combination-start n w zero inv = vector n w 0
 combination-start n w (suc d) inv = vector n w 0 ++ (replicate d +0 ++ (inv ∷ []))
@@ -60,5 +64,5 @@ init-aug-vector n v inv (suc k) = replicate n +0 ++ set (replicate 3 +0) k inv
 
 -- to compute: a line `unfolding open-Combination` opens every definition of this file and of those below it
 unfoldable pub open-Combination : Unit {0}
-unfolding vector gain weighed magnitude eta-of column-places scaled-gains combination-operator combination-start action-operator init-aug-vector open-Power open-Pow2 open-Sweeps
+unfolding further vector gain weighed magnitude eta-of column-places scaled-gains combination-operator combination-start action-operator init-aug-vector open-Power open-Pow2 open-Sweeps
 open-Combination = tt

@@ -14,6 +14,7 @@ use Rattle.generator_action.specs.Mass.{Mass, given, quotients}
 use Rattle.generator_action.specs.Generator.{Generator}
 use Rattle.generator_action.specs.declared.Shape.{Shape}
 use Rattle.pow2.specs.Pow2.{sup, eta-scaling}
+use Rattle.pow2.specs.declared.Scaling.{Scaling}
 use Rattle.expmv.specs.Select.{select-s-m}
 use Rattle.expmv.specs.declared.Selected.{Selected}
 use Rattle.expmv.specs.declared.Selected.the-variants.{NoRow, Row}
@@ -29,10 +30,10 @@ use Rattle.combination.specs.Checks.{magnitude-checks, schedule-checks, 
 
 -- ---- 21 and 22
 abbrev pub share-of : ℕ → List Float → Float → ℕ → Float → Share
-share-of n w tau k s = record { gain = gain n w tau k; sum = weighed n w tau k s }
+share-of n f tau j s = record { gain = gain n f tau j; sum = weighed n f tau j s }
 
 abbrev pub powers-of : ℕ → List Float → Float → ℕ → Powers
-powers-of n w tau d = record { gains = tabulate 3 (λ j. if ltb j d then gain n w tau (j + 1) else +0); sum = magnitude n w tau d }
+powers-of n f tau d = record { gains = tabulate 3 (λ j. if ltb j d then gain n f tau j else +0); sum = magnitude n f tau d }
 
 abbrev pub not-finite-by : List Float → Float → ℕ → Bool
 not-finite-by gains eta j = not (is-finite (at gains j ⊗ eta))
@@ -43,12 +44,19 @@ power-checks sum gains d eta = refuse 21 (not (is-finite sum)) sum ∷ refuse 22
 abbrev pub reversed-by : List Float → ℕ → Float → List Float
 reversed-by gains d eta = tabulate 3 (λ j. if ltb j d then at gains (d - j - 1) ⊗ eta else 1f)
 
--- the columns of a combination, and those of its scaled gains
+-- the columns of a combination, and its gains scaled by eta
+abbrev pub coupling-by : ℕ → List Float → Float → ℕ → Float → Coupling
+coupling-by n f tau d eta = record { places = column-places n d; gains = scaled-gains n f tau d eta; count = d }
+
+abbrev pub weights-by : ℕ → List Float → Float → ℕ → Scaling → Weights
+weights-by n f tau d eta = record { checked = first (magnitude-checks n f tau d (eta .eta)); inv = eta .inv; b = coupling-by n f tau d (eta .eta) }
+
+-- by the job's own eta
 abbrev pub coupling-of : ℕ → List Float → Float → ℕ → Coupling
-coupling-of n w tau d = record { places = column-places n d; gains = scaled-gains n w tau d (eta-of n w tau d .eta); count = d }
+coupling-of n f tau d = coupling-by n f tau d (eta-of n f tau d .eta)
 
 abbrev pub weights : ℕ → List Float → Float → ℕ → Weights
-weights n w tau d = record { checked = first (magnitude-checks n w tau d); inv = eta-of n w tau d .inv; b = coupling-of n w tau d }
+weights n f tau d = weights-by n f tau d (eta-of n f tau d)
 
 -- ---- 24 and 25
 abbrev pub argument-checks : Float → Bool → List Check
@@ -86,8 +94,8 @@ job-of g tau cap d checks inv b =
     }
 
 abbrev pub combination-job : Shape → Float → ℕ → ℕ → List Float → ℕ → Job
-combination-job g tau cap d w memory =
-    job-of g tau cap d (sweep-checks (g .n) tau cap d w (g .norm) memory (taylor-need (g .n) d (g .stored))) (eta-of (g .n) w tau d .inv) (coupling-of (g .n) w tau d)
+combination-job g tau cap d f memory =
+    job-of g tau cap d (sweep-checks (g .n) tau cap d f (g .norm) memory (taylor-need (g .n) d (g .stored))) (eta-of (g .n) f tau d .inv) (coupling-of (g .n) f tau d)
 
 -- an action has one column, v
 abbrev pub one-column : Float → Coupling

@@ -3,67 +3,70 @@ use checks::Checked;
 use expmv::Selected;
 use generator_action::Shape;
 use phi_action_helpers::Coupling;
+use pow2::Scaling;
 ghost use mathlib.Core.Path.{_≡_};
 ghost use mathlib.Core.List.{List, _++_};
 ghost use Prim.Native.Nat.{_+_, _*_, _≤_};
 ghost use mathlib.Core.Bool.{_||_};
 ghost use lib.Dec.{eqb, ltb};
 ghost use lib.ListN.{length};
+ghost use lib.Ieee.{Float};
 ghost use Rattle.lists.specs.Find.{find};
 ghost use Rattle.lists.specs.Window.{splice};
 ghost use Rattle.checks.specs.First.{Check, first};
 ghost use Rattle.pow2.specs.Pow2.{sup};
 ghost use Rattle.expmv.specs.Select.{M-MAX};
 ghost use Rattle.combination.specs.Combination.{vector, column-places, combination-start, init-aug-vector};
-ghost use Rattle.combination.specs.Checks.{count-checks, index-checks, out-of-range, time-checks, degree-checks, plan-checks, length-checks, not-finite-at, finite-checks, memory-checks, vector-checks, taylor-need};
-ghost use Rattle.combination.specs.Inner.{share-of, powers-of, not-finite-by, power-checks, reversed-by, weights, argument-checks, schedule, host-checks, job-of, combination-job, one-column, action-job};
+ghost use Rattle.combination.specs.Checks.{count-checks, index-checks, out-of-range, time-checks, degree-checks, plan-checks, length-checks, not-finite-at, finite-checks, memory-checks, vector-checks-by, taylor-need};
+ghost use Rattle.combination.specs.Inner.{share-of, powers-of, not-finite-by, power-checks, reversed-by, weights-by, weights, argument-checks, schedule, host-checks, job-of, combination-job, one-column, action-job};
 
-// sup |w_k|
-fn sup_of(n: usize, w: &[f64], k: usize) -> f64
-    requires { ⌜ k * n + n ≤ length (now w) ⌝ }
-    ensures { λ r. ⌜ r ≡ sup (vector n (now (w .entry)) k) ⌝ }
+// sup |w_(j+1)|
+fn sup_of(n: usize, further: &[f64], j: usize) -> f64
+    requires { ⌜ j * n + n ≤ length (now further) ⌝ }
+    ensures { λ r. ⌜ r ≡ sup (vector n (now (further .entry)) j) ⌝ }
 {
-    let from = k * n;
+    let from = j * n;
     let to = from + n;
-    pow2::sup(&w[from..to])
+    pow2::sup(&further[from..to])
 }
 
-// w_k's gain, and the sum with its share.
+// The gain of w_(j+1), and the sum with its share.
 struct Share {
     gain: f64,
     sum: f64,
 }
 
-// An all-zero vector has gain 0 and no share, so that tau^k never overflows for it.
-fn share_of(n: usize, w: &[f64], tau: f64, k: usize, s: f64) -> Share
-    requires { ⌜ k * n + n ≤ length (now w) ⌝ }
-    ensures { λ r. ⌜ r ≡ share-of n (now (w .entry)) tau k s ⌝ }
+// An all-zero vector has gain 0 and no share, so that tau^(j+1) never overflows for it.
+fn share_of(n: usize, further: &[f64], tau: f64, j: usize, s: f64) -> Share
+    requires { ⌜ (j * n + n ≤ length (now further)) × (j ≤ 2) ⌝ }
+    ensures { λ r. ⌜ r ≡ share-of n (now (further .entry)) tau j s ⌝ }
 {
-    let w_sup = sup_of(n, w, k);
+    let w_sup = sup_of(n, further, j);
     if w_sup == 0.0 {
         return Share { gain: 0.0, sum: s };
     }
-    let gain = power::power(tau, k as u64);
+    let gain = power::power(tau, (j + 1) as u64);
     Share {
         gain: gain,
         sum: s + gain * w_sup,
     }
 }
 
-// gains[k - 1] is w_k's, and the sum of all shares.
-struct Powers {
-    gains: [f64; 3],
-    sum: f64,
+// gains[j] is w_(j+1)'s, and the sum of all shares.
+pub struct Powers {
+    pub gains: [f64; 3],
+    pub sum: f64,
 }
 
-fn powers_of(n: usize, w: &[f64], tau: f64, d: usize) -> Powers
-    requires { ⌜ ((d + 1) * n ≤ length (now w)) × (d ≤ 3) ⌝ }
-    ensures { λ r. ⌜ r ≡ powers-of n (now (w .entry)) tau d ⌝ }
+// Of w_1 to w_d.
+pub fn powers_of(n: usize, further: &[f64], tau: f64, d: usize) -> Powers
+    requires { ⌜ (d * n ≤ length (now further)) × (d ≤ 3) ⌝ }
+    ensures { λ r. ⌜ r ≡ powers-of n (now (further .entry)) tau d ⌝ }
 {
     let mut gains = [0.0; 3];
     let mut sum = 0.0;
     for j in 0..d {
-        let next = share_of(n, w, tau, j + 1, sum);
+        let next = share_of(n, further, tau, j, sum);
         gains[j] = next.gain;
         sum = next.sum;
     }
@@ -73,7 +76,7 @@ fn powers_of(n: usize, w: &[f64], tau: f64, d: usize) -> Powers
     }
 }
 
-// The first k - 1 whose tau^k eta is not finite, d if there is none.
+// The first j whose tau^(j+1) eta is not finite, d if there is none.
 fn first_bad_gain(gains: [f64; 3], d: usize, eta: f64) -> usize
     requires { ⌜ d ≤ 3 ⌝ }
     ensures { λ r. ⌜ r ≡ find (not-finite-by gains eta) d ⌝ }
@@ -100,14 +103,14 @@ fn check_magnitude(sum: f64, gains: [f64; 3], d: usize, eta: f64) -> Checked
     Checked::Sound
 }
 
-// cols[d - k] is w_k.
+// cols[d - k] is w_k, at k - 1 of the further vectors.
 fn column_places(n: usize, d: usize) -> [usize; 3]
     requires { ⌜ (n ≤ 1000000) × (d ≤ 3) ⌝ }
     ensures { λ r. ⌜ r ≡ column-places n d ⌝ }
 {
     let mut places = [0usize; 3];
     for j in 0..d {
-        places[j] = (d - j) * n;
+        places[j] = (d - j - 1) * n;
     }
     places
 }
@@ -131,13 +134,12 @@ pub struct Weights {
     pub b: Coupling,
 }
 
-pub fn weigh(n: usize, w: &[f64], tau: f64, d: usize) -> Weights
-    requires { ⌜ ((d + 1) * n ≤ length (now w)) × (n ≤ 1000000) × (d ≤ 3) ⌝ }
-    ensures { λ r. ⌜ r ≡ weights n (now (w .entry)) tau d ⌝ }
+// 21, and 22 with an eta.
+pub fn weigh_by(n: usize, d: usize, p: Powers, eta: Scaling) -> Weights
+    requires { ⌜ (n ≤ 1000000) × (d ≤ 3) ⌝ }
+    ensures { λ r. ⌜ ((f : List Float) (tau : Float) → p ≡ powers-of n f tau d → r ≡ weights-by n f tau d eta) ⌝ }
 {
-    let p = powers_of(n, w, tau, d);
     let powers = p.gains;
-    let eta = pow2::eta_scaling(p.sum);
     let b = Coupling {
         places: column_places(n, d),
         gains: scaled_gains(powers, d, eta.eta),
@@ -150,6 +152,16 @@ pub fn weigh(n: usize, w: &[f64], tau: f64, d: usize) -> Weights
     }
 }
 
+// With the job's own eta.
+pub fn weigh(n: usize, further: &[f64], tau: f64, d: usize) -> Weights
+    requires { ⌜ (d * n ≤ length (now further)) × (n ≤ 1000000) × (d ≤ 3) ⌝ }
+    ensures { λ r. ⌜ r ≡ weights n (now (further .entry)) tau d ⌝ }
+{
+    let p = powers_of(n, further, tau, d);
+    let eta = pow2::eta_scaling(p.sum);
+    weigh_by(n, d, p, eta)
+}
+
 fn wrong_count(count: usize) -> bool
     ensures { λ r. ⌜ r ≡ (eqb count 0 || ltb 4 count) ⌝ }
 {
@@ -160,7 +172,7 @@ fn wrong_count(count: usize) -> bool
 }
 
 // 12.
-fn check_count(count: usize) -> Checked
+pub fn check_count(count: usize) -> Checked
     ensures { λ r. ⌜ r ≡ first (count-checks count) ⌝ }
 {
     if wrong_count(count) {
@@ -227,7 +239,7 @@ pub fn check_plan(tau: f64, cap: u32) -> Checked
 }
 
 // 15 and 16.
-fn check_lengths(output: usize, wanted: usize, vectors: usize, expected: usize) -> Checked
+pub fn check_lengths(output: usize, wanted: usize, vectors: usize, expected: usize) -> Checked
     ensures { λ r. ⌜ r ≡ first (length-checks output wanted vectors expected) ⌝ }
 {
     if output != wanted {
@@ -251,7 +263,7 @@ fn first_not_finite(w: &[f64]) -> usize
 }
 
 // 17.
-fn check_finite(w: &[f64]) -> Checked
+pub fn check_finite(w: &[f64]) -> Checked
     ensures { λ r. ⌜ r ≡ first (finite-checks (now (w .entry))) ⌝ }
 {
     let i = first_not_finite(w);
@@ -310,16 +322,17 @@ pub fn check_memory(memory: usize, need: usize) -> Checked
     Checked::Sound
 }
 
-// 12 to 17 of a combination; `time` is the answer of what stands between 12 and 15.
+// 12 to 17 of a combination; `time` is the answer of what stands between 12 and 15, `others` of what stands between 16 and 17.
 pub fn validate_combination(
     n: usize,
     time: Checked,
     count: usize,
     w: &[f64],
     output: usize,
+    others: Checked,
 ) -> Checked
     requires { ⌜ n ≤ 1000000 ⌝ }
-    ensures { λ r. ⌜ ((ts : List Check) → time ≡ first ts → r ≡ first (vector-checks n ts count (now (w .entry)) output)) ⌝ }
+    ensures { λ r. ⌜ ((ts os : List Check) → time ≡ first ts → others ≡ first os → r ≡ first (vector-checks-by ts (length-checks output n (length (now (w .entry))) (count * n) ++ os) count (now (w .entry)))) ⌝ }
 {
     let vectors = check_count(count);
     let Checked::Sound = vectors else {
@@ -328,7 +341,7 @@ pub fn validate_combination(
     let Checked::Sound = time else {
         return time;
     };
-    let lengths = check_lengths(output, n, w.len(), count * n);
+    let lengths = and_then(check_lengths(output, n, w.len(), count * n), others);
     let Checked::Sound = lengths else {
         return lengths;
     };
@@ -400,11 +413,18 @@ fn plan_job(
 }
 
 // 21, 22 and 24 to 26 of a combination.
-pub fn admit_combination(g: Shape, tau: f64, cap: u32, d: usize, w: &[f64], memory: usize) -> Job
-    requires { ⌜ ((d + 1) * g .n ≤ length (now w)) × (g .n ≤ 1000000) × (d ≤ 3) × (g .stored ≤ 16777216) ⌝ }
-    ensures { λ r. ⌜ r ≡ combination-job g tau cap d (now (w .entry)) memory ⌝ }
+pub fn admit_combination(
+    g: Shape,
+    tau: f64,
+    cap: u32,
+    d: usize,
+    further: &[f64],
+    memory: usize,
+) -> Job
+    requires { ⌜ (d * g .n ≤ length (now further)) × (g .n ≤ 1000000) × (d ≤ 3) × (g .stored ≤ 16777216) ⌝ }
+    ensures { λ r. ⌜ r ≡ combination-job g tau cap d (now (further .entry)) memory ⌝ }
 {
-    let weights = weigh(g.n, w, tau, d);
+    let weights = weigh(g.n, further, tau, d);
     let checked = weights.checked;
     let b = weights.b;
     plan_job(checked, g, tau, cap, d, weights.inv, b, memory)
@@ -444,7 +464,7 @@ pub fn admit_action(
     plan_job(checked, g, tau, cap, 3, eta.inv, b, memory)
 }
 
-// w_0, then the chain: zeros, and 1 / eta at its end.
+// w_0, the first n values of w, then the chain: zeros, and 1 / eta at its end.
 pub fn combination_start(n: usize, w: &[f64], d: usize, inv: f64, work: &mut [f64])
     requires { ⌜ (n ≤ length (now w)) × (n + d ≤ length (now work)) ⌝ }
     ensures { λ _. ⌜ now (work .exit) ≡ splice 0 (combination-start n (now (w .entry)) d inv) (now (work .entry)) ⌝ }

@@ -27,13 +27,14 @@ use Rattle.phi_action_helpers.specs.declared.Scales.{Scales}
 use Rattle.generator_action.specs.Generator.{Generator, forward}
 use Rattle.transpose.specs.Transpose.{Lent, start-checks, forward-checks, lent-checks, before-transposing, transposed-checks, transposed}
 use Rattle.combination.specs.Call.{Call, unless-refused}
-use Rattle.combination.specs.Checks.{out-of-range, count-checks, time-checks, length-checks, finite-checks, magnitude-checks, memory-checks, vector-checks}
+use Rattle.combination.specs.Combination.{further}
+use Rattle.combination.specs.Checks.{out-of-range, count-checks, time-checks, length-checks, finite-checks, magnitude-checks, memory-checks, vector-checks-by, vector-checks}
 use Rattle.combination.proofs.Range.{no-23}
 use Rattle.combination.proofs.Admitted.{vectors-known, first-within, length-start}
 use Rattle.arnoldi.specs.Basis.{norm2}
 use Rattle.phi_krylov_arnoldi.specs.Run.{State, End, finished, refused, clamp-m, idle}
 use Rattle.phi_krylov_arnoldi.specs.declared.KrylovPhiReport.{KrylovPhiReport}
-use Rattle.phi_krylov.specs.KrylovCall.{bound, dimension, option-checks, bound-checks, run-checks, krylov-need, krylov-checks, after-run, phi-combination-krylov}
+use Rattle.phi_krylov.specs.KrylovCall.{bound, dimension, option-checks, bound-checks, run-checks, krylov-need, krylov-checks-by, krylov-checks, after-run, combination-run-krylov, phi-combination-krylov}
 use Rattle.phi_krylov.specs.declared.KrylovPhiOptions.{KrylovPhiOptions}
 use Rattle.phi_krylov.specs.declared.KrylovAnswer.{KrylovAnswer}
 use Rattle.phi_krylov.specs.declared.KrylovAnswer.the-variants.{Refusal, Soaked}
@@ -70,12 +71,12 @@ module _
   -- ---- what the checks leave
   -- none is numbered 27
   low : before 27 checks ≡ checks
-  unfolding before krylov-checks vector-checks count-checks time-checks length-checks finite-checks option-checks run-checks magnitude-checks bound-checks memory-checks
+  unfolding before krylov-checks krylov-checks-by vector-checks vector-checks-by count-checks time-checks length-checks finite-checks option-checks run-checks magnitude-checks bound-checks memory-checks
   low = before-append 27 (g .checks) _ none-27
 
   -- 12 to 17, and 18 on
   vectors-sound : Sound ≡ first checks → Sound ≡ first (vector-checks n (time-checks tau) count w (length output))
-  unfolding krylov-checks
+  unfolding krylov-checks krylov-checks-by vector-checks
   vectors-sound e = sound-append (vector-checks n (time-checks tau) count w (length output)) _ (sound-append (g .checks) _ e .1) .0
 
   start-long : Sound ≡ first checks → clamp-m (o .m) (length (start-of g tau count w)) ≡ M
@@ -85,7 +86,7 @@ module _
       ap (clamp-m (o .m)) (length-start n w (count - 1) _ (first-within s))
 
   some-limit : Sound ≡ first checks → 0 < o .«max_substeps»
-  unfolding krylov-checks option-checks
+  unfolding krylov-checks krylov-checks-by vector-checks option-checks
   some-limit e =
       let v = sound-append (vector-checks n (time-checks tau) count w (length output)) _ (sound-append (g .checks) _ e .1) in
       let p = sound-append (option-checks o M) _ (v .1) in
@@ -104,11 +105,11 @@ module _
   accepted (Refused k x) e need f = let z : zero ≡ 1 = cc in absurd (omega (arith, z))
 
   pub krylov-cost : {r : KrylovPhiReport} → call .answer ≡ Soaked r → KrylovCost n M (o .«max_substeps») (start-of g tau count w) (call .output) (krylov-run g tau count w o) r
-  unfolding phi-combination-krylov
+  unfolding combination-run-krylov phi-combination-krylov
   krylov-cost {r} e =
       let h = accepted (first checks) _ _ e in
       let v = vectors-known n (time-checks tau) count w (length output) refl (vectors-sound (h .0)) in
-      let f = start-finite n w tau (count - 1) (first-within v) (vectors-finite n (time-checks tau) count w (length output) (vectors-sound (h .0))) in
+      let f = start-finite n w (further n w) tau (count - 1) (first-within v) (vectors-finite n (time-checks tau) count w (length output) (vectors-sound (h .0))) in
       let c = expv-cost _ tau _ (o .tol) (o .m) (o .«max_substeps») (start-of g tau count w) f (h .1 .1 .0) in
       let u = krylov-run g tau count w o in
       let of-M = subst (λ (k : ℕ). KrylovCost n k (o .«max_substeps») (start-of g tau count w) (window 0 n (h .1 .0 .y)) u (h .1 .0 .report)) (start-long (h .0)) c in
@@ -130,14 +131,14 @@ module _
       number g = cc
 
   only-27 : (x : Float) → call .answer ≡ Refusal 27 x → AtLimit checks (o .«max_substeps») (krylov-run g tau count w o) x
-  unfolding phi-combination-krylov norm2
+  unfolding combination-run-krylov phi-combination-krylov norm2
   only-27 x e =
       let h = refused-run (first checks) _ _ refl e in
       let l = expv-only-27 _ tau _ (o .tol) (o .m) (o .«max_substeps») (start-of g tau count w) (some-limit (h .0)) (h .1 .1) in
       record { passed = h .0; substeps = l .0; below-one = l .1; norm-left = l .2; told = l .3 }
 
   if-27 : (x : Float) → AtLimit checks (o .«max_substeps») (krylov-run g tau count w o) x → call .answer ≡ Refusal 27 x
-  unfolding phi-combination-krylov unless-refused after-run norm2
+  unfolding combination-run-krylov phi-combination-krylov unless-refused after-run norm2
   if-27 x h =
       let l = expv-if-27 _ tau _ (o .tol) (o .m) (o .«max_substeps») (start-of g tau count w) (some-limit (h .passed)) (h .substeps, h .below-one, h .norm-left, h .told) in
       rw (← (h .passed), l .1) refl
@@ -155,30 +156,30 @@ module _
       go false e = let z : zero ≡ 1 = cc in absurd (omega (arith, z))
 
   low-vectors : before 25 (vector-checks n (time-checks tau) count w (length output)) ≡ vector-checks n (time-checks tau) count w (length output)
-  unfolding before vector-checks count-checks time-checks length-checks finite-checks
+  unfolding before vector-checks vector-checks-by count-checks time-checks length-checks finite-checks
   low-vectors = refl
 
   low-options : before 25 (option-checks o M) ≡ option-checks o M
   unfolding before option-checks
   low-options = refl
 
-  low-magnitude : before 25 (magnitude-checks n w tau (count - 1)) ≡ magnitude-checks n w tau (count - 1)
+  low-magnitude : (f : List Float) (eta : Float) → before 25 (magnitude-checks n f tau (count - 1) eta) ≡ magnitude-checks n f tau (count - 1) eta
   unfolding before magnitude-checks
-  low-magnitude = refl
+  low-magnitude f eta = refl
 
   low-bound : (anorm : Float) → before 25 (bound-checks anorm) ≡ bound-checks anorm
   unfolding before bound-checks
   low-bound anorm = refl
 
   checks-25 : {x : Float} → Refused 25 x ≡ first checks → ⊥
-  unfolding krylov-checks run-checks
+  unfolding krylov-checks krylov-checks-by vector-checks run-checks
   checks-25 e =
       let v = refused-past 25 _ _ low-vectors (refused-past 25 _ _ none-25 e .1) in
-      let r = refused-past 25 _ _ low-magnitude (refused-past 25 _ _ low-options (v .1) .1) in
+      let r = refused-past 25 _ _ (low-magnitude _ _) (refused-past 25 _ _ low-options (v .1) .1) in
       not-of-memory (refused-past 25 _ _ (low-bound _) (r .1) .1)
 
   low-33 : before 33 checks ≡ checks
-  unfolding before krylov-checks vector-checks count-checks time-checks length-checks finite-checks option-checks run-checks magnitude-checks bound-checks memory-checks
+  unfolding before krylov-checks krylov-checks-by vector-checks vector-checks-by count-checks time-checks length-checks finite-checks option-checks run-checks magnitude-checks bound-checks memory-checks
   low-33 = before-append 33 (g .checks) _ none-33
 
   -- no run refuses by j, and no check does
@@ -197,15 +198,15 @@ module _
       same g = cc
 
   pub krylov-no-25 : (x : Float) → call .answer ≡ Refusal 25 x → ⊥
-  unfolding phi-combination-krylov
+  unfolding combination-run-krylov phi-combination-krylov
   krylov-no-25 x e = refused-by-none 25 (λ y. checks-25) (λ k l m n. absurd (omega (arith, l, n))) (first checks) _ _ refl (λ r z s. expv-late _ tau _ (o .tol) (o .m) (o .«max_substeps») (start-of g tau count w)) e
 
   pub krylov-no-33 : (x : Float) → call .answer ≡ Refusal 33 x → ⊥
-  unfolding phi-combination-krylov
+  unfolding combination-run-krylov phi-combination-krylov
   krylov-no-33 x e = refused-by-none 33 (λ y. not-by 33 checks low-33) (λ k l m n. absurd (omega (arith, m, n))) (first checks) _ _ refl (λ r z s. expv-late _ tau _ (o .tol) (o .m) (o .«max_substeps») (start-of g tau count w)) e
 
   pub zeros-idle : Sound ≡ first checks → Zeros (start-of g tau count w) → call .answer ≡ Soaked (record { matvecs = 0; substeps = 0; rejected = 0; «est_error» = +0; shortest = +0; last = +0 })
-  unfolding phi-combination-krylov unless-refused after-run idle
+  unfolding combination-run-krylov phi-combination-krylov unless-refused after-run idle
   zeros-idle e z = rw (← e, expv-idle _ tau _ (o .tol) (o .m) (o .«max_substeps») (start-of g tau count w) z) refl
 
   -- M as it is clamped

@@ -17,10 +17,11 @@ use Rattle.generator_action.specs.Mass.{Mass, generator-checks, bound-checks as
 use Rattle.generator_action.specs.Generator.{Generator, forward}
 use Rattle.transpose.specs.Transpose.{Lent, start-checks, forward-checks, lent-checks, before-transposing, transposed-checks, transposed}
 use Rattle.transpose.proofs.Passed.{transposed-norm-in-range}
-use Rattle.combination.specs.Checks.{out-of-range, count-checks, index-checks, time-checks, degree-checks, plan-checks, length-checks, finite-checks, magnitude-checks, schedule-checks, memory-checks, vector-checks, sweep-checks, job-checks, taylor-need}
+use Rattle.combination.specs.Combination.{further, eta-of}
+use Rattle.combination.specs.Checks.{out-of-range, count-checks, index-checks, time-checks, degree-checks, plan-checks, length-checks, finite-checks, magnitude-checks, schedule-checks, memory-checks, vector-checks-by, vector-checks, sweep-checks, job-checks, taylor-need}
 use Rattle.combination.proofs.Range.{in-range, no-23}
 use Rattle.phi_action.specs.Calls.{combination-checks, action-checks}
-use Rattle.phi_krylov.specs.KrylovCall.{bound, dimension, option-checks, bound-checks, run-checks, krylov-need, krylov-checks}
+use Rattle.phi_krylov.specs.KrylovCall.{bound, dimension, option-checks, bound-checks, run-checks, krylov-need, krylov-checks-by, krylov-checks}
 use Rattle.phi_krylov.specs.declared.KrylovPhiOptions.{KrylovPhiOptions}
 
 -- what 23 was
@@ -59,16 +60,20 @@ module _ (g : Generator) (h : InRange g) (tau : Float) where
   abbrev norm : Float
   norm = row-sum-norm (g .matrix)
 
+  -- 21 and 22 of a combination
+  abbrev of-magnitude : ℕ → List Float → List Check
+  of-magnitude count w = magnitude-checks n (further n w) tau (count - 1) (eta-of n (further n w) tau (count - 1) .eta)
+
   -- ---- `phi_combination`
   module _ (cap count : ℕ) (w : List Float) (output memory : ℕ) where
     pub combination-never-23 :
-        first (g .checks ++ ((vector-checks n (plan-checks tau cap) count w output ++ magnitude-checks n w tau (count - 1)) ++ (check-23 g ∷ (schedule-checks cap norm tau ++ memory-checks memory (taylor-need n (count - 1) (g .stored))))))
+        first (g .checks ++ ((vector-checks n (plan-checks tau cap) count w output ++ of-magnitude count w) ++ (check-23 g ∷ (schedule-checks cap norm tau ++ memory-checks memory (taylor-need n (count - 1) (g .stored))))))
         ≡ first (combination-checks g tau cap count w output memory)
-    unfolding combination-checks sweep-checks vector-checks count-checks plan-checks time-checks degree-checks length-checks finite-checks magnitude-checks
-    combination-never-23 = never-23 g h (vector-checks n (plan-checks tau cap) count w output ++ magnitude-checks n w tau (count - 1)) _
+    unfolding combination-checks sweep-checks vector-checks vector-checks-by count-checks plan-checks time-checks degree-checks length-checks finite-checks magnitude-checks
+    combination-never-23 = never-23 g h (vector-checks n (plan-checks tau cap) count w output ++ of-magnitude count w) _
 
     pub combination-no-number : before 23 (combination-checks g tau cap count w output memory) ≡ combination-checks g tau cap count w output memory
-    unfolding before combination-checks sweep-checks vector-checks count-checks plan-checks time-checks degree-checks length-checks finite-checks magnitude-checks schedule-checks memory-checks
+    unfolding before combination-checks sweep-checks vector-checks vector-checks-by count-checks plan-checks time-checks degree-checks length-checks finite-checks magnitude-checks schedule-checks memory-checks
     combination-no-number = before-append 23 (g .checks) _ (h .unnumbered)
 
   -- ---- `phi_action` and, of another output, `phi_action_batched`
@@ -89,11 +94,11 @@ module _ (g : Generator) (h : InRange g) (tau : Float) where
     M = dimension n (count - 1) (o .m)
 
     pub krylov-never-23 :
-        first (g .checks ++ ((vector-checks n (time-checks tau) count w output ++ (option-checks o M ++ magnitude-checks n w tau (count - 1))) ++ (check-23 g ∷ (bound-checks (bound tau norm) ++ memory-checks memory (krylov-need n (count - 1) M (g .stored))))))
+        first (g .checks ++ ((vector-checks n (time-checks tau) count w output ++ (option-checks o M ++ of-magnitude count w)) ++ (check-23 g ∷ (bound-checks (bound tau norm) ++ memory-checks memory (krylov-need n (count - 1) M (g .stored))))))
         ≡ first (krylov-checks g tau count w o output memory)
-    unfolding krylov-checks run-checks vector-checks count-checks time-checks length-checks finite-checks option-checks magnitude-checks
-    krylov-never-23 = never-23 g h (vector-checks n (time-checks tau) count w output ++ (option-checks o M ++ magnitude-checks n w tau (count - 1))) _
+    unfolding krylov-checks krylov-checks-by run-checks vector-checks vector-checks-by count-checks time-checks length-checks finite-checks option-checks magnitude-checks
+    krylov-never-23 = never-23 g h (vector-checks n (time-checks tau) count w output ++ (option-checks o M ++ of-magnitude count w)) _
 
     pub krylov-no-number : before 23 (krylov-checks g tau count w o output memory) ≡ krylov-checks g tau count w o output memory
-    unfolding before krylov-checks run-checks vector-checks count-checks time-checks length-checks finite-checks option-checks magnitude-checks bound-checks memory-checks
+    unfolding before krylov-checks krylov-checks-by run-checks vector-checks vector-checks-by count-checks time-checks length-checks finite-checks option-checks magnitude-checks bound-checks memory-checks
     krylov-no-number = before-append 23 (g .checks) _ (h .unnumbered)

@@ -19,7 +19,7 @@ use Rattle.checks.proofs.First.{sound-cons, sound-append}
 use Rattle.pow2.specs.Pow2.{eta-scaling}
 use Rattle.pow2.specs.Pow2 as pow2
 use Rattle.combination.specs.Combination.{vector, eta-of, combination-start}
-use Rattle.combination.specs.Checks.{not-finite-at, count-checks, time-checks, length-checks, finite-checks, vector-checks}
+use Rattle.combination.specs.Checks.{not-finite-at, count-checks, time-checks, length-checks, finite-checks, vector-checks-by, vector-checks}
 
 abbrev Finite : List Float → Type 0
 Finite y = (i : ℕ) → i < length y → is-finite (at y i) ≡ true
@@ -31,7 +31,7 @@ both-finite (x ∷ xs) ys f g (suc i) l = both-finite xs ys (λ j k. f (suc j) (
 
 -- 17 passed
 pub vectors-finite : (n : ℕ) (ts : List Check) (count : ℕ) (w : List Float) (output : ℕ) → Sound ≡ first (vector-checks n ts count w output) → Finite w
-unfolding vector-checks finite-checks not-finite-at
+unfolding vector-checks vector-checks-by finite-checks not-finite-at
 vectors-finite n ts count w output e i l =
     let c = sound-append (count-checks count) _ e in
     let t = sound-append ts _ (c .1) in
@@ -62,12 +62,12 @@ one-finite : (x : Float) → is-finite x ≡ true → Finite (x ∷ [])
 one-finite x h zero l = h
 one-finite x h (suc i) l = absurd (omega (arith, l))
 
-pub start-finite : (n : ℕ) (w : List Float) (tau : Float) (d : ℕ) → n ≤ length w → Finite w → Finite (combination-start n w d (eta-of n w tau d .inv))
+pub start-finite : (n : ℕ) (w v : List Float) (tau : Float) (d : ℕ) → n ≤ length w → Finite w → Finite (combination-start n w d (eta-of n v tau d .inv))
 unfolding eta-of combination-start
-start-finite n w tau d h f = go d
+start-finite n w v tau d h f = go d
   where
     inv : Float
-    inv = eta-of n w tau d .inv
+    inv = eta-of n v tau d .inv
 
     told : is-finite inv ≡ true
     told = inverse-finite _

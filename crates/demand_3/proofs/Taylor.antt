@@ -36,12 +36,12 @@ use Rattle.phi_shift.specs.declared.PlanAnswer.{PlanAnswer}
 use Rattle.phi_shift.specs.declared.PlanAnswer.the-variants.{NoPlan, Plan}
 use Rattle.phi_shift.proofs.Chosen.{plan-chosen, plan-bounded, chosen-least}
 use Rattle.combination.specs.Call.{Call, unless-refused}
-use Rattle.combination.specs.Combination.{combination-operator, action-operator}
-use Rattle.combination.specs.Checks.{no-row, out-of-range, count-checks, index-checks, time-checks, degree-checks, plan-checks, length-checks, not-finite-at, finite-checks, magnitude-checks, schedule-checks, memory-checks, vector-checks, sweep-checks, job-checks, taylor-need}
+use Rattle.combination.specs.Combination.{further, eta-of, combination-operator, action-operator}
+use Rattle.combination.specs.Checks.{no-row, out-of-range, count-checks, index-checks, time-checks, degree-checks, plan-checks, length-checks, not-finite-at, finite-checks, magnitude-checks, schedule-checks, memory-checks, vector-checks-by, vector-checks, sweep-checks, job-checks, taylor-need}
 use Rattle.phi_action.specs.declared.TaylorReport.{TaylorReport}
 use Rattle.phi_action.specs.declared.TaylorAnswer.{TaylorAnswer}
 use Rattle.phi_action.specs.declared.TaylorAnswer.the-variants.{Refusal, Soaked}
-use Rattle.phi_action.specs.Calls.{Fields, after-plan, combination-checks, phi-combination, action-checks, phi-action, phi-action-batched}
+use Rattle.phi_action.specs.Calls.{Fields, after-plan, combination-checks, combination-run, phi-combination, action-checks, phi-action, phi-action-batched}
 use Rattle.demand_3.specs.Taylor.{norm-of, row-fits, TaylorCost, NoRowFits, Exactly25, DegreeRefused, Exactly33, ValueRefused, Exactly17, TaylorClaim}
 use Rattle.demand_3.specs.Demand3.{start-of, operator-of, action-start, action-of}
 use Rattle.demand_3.proofs.Products.{Made, one-made, batch-made}
@@ -307,38 +307,43 @@ module _
   module _ (cap count : ℕ) (w output memory : List Float) where
     combination-cost : {r : TaylorReport} → phi-combination g tau cap count w output memory .answer ≡ Soaked r
         → TaylorCost tau cap (operator-of g tau count w) 1 (λ _. start-of g tau count w) (phi-combination g tau cap count w output memory .output) r
-    unfolding phi-combination combination-operator
+    unfolding combination-run phi-combination combination-operator
     combination-cost e = of-call tau cap (operator-of g tau count w) 1 _ _ (λ p. one-made (operator-of g tau count w) tau p (start-of g tau count w)) _ _ output memory e
 
     low-count : before 25 (count-checks count) ≡ count-checks count
     unfolding before count-checks
     low-count = refl
 
+    abbrev of-magnitude : List Check
+    of-magnitude =
+        let f = further (g .matrix .n) w in
+        magnitude-checks (g .matrix .n) f tau (count - 1) (eta-of (g .matrix .n) f tau (count - 1) .eta)
+
     abbrev between : List Check
-    between = degree-checks cap ++ (length-checks (length output) (g .matrix .n) (length w) (count * g .matrix .n) ++ (finite-checks w ++ magnitude-checks (g .matrix .n) w tau (count - 1)))
+    between = degree-checks cap ++ (length-checks (length output) (g .matrix .n) (length w) (count * g .matrix .n) ++ (finite-checks w ++ of-magnitude))
 
     low-between : before 25 between ≡ between
     unfolding before degree-checks length-checks finite-checks magnitude-checks
     low-between = refl
 
     combination-in-order : combination-checks g tau cap count w (length output) (length memory) ≡ in-order (g .checks) (count-checks count) between tau cap norm (length memory) (taylor-need (g .matrix .n) (count - 1) (g .stored))
-    unfolding combination-checks vector-checks sweep-checks count-checks plan-checks time-checks degree-checks length-checks finite-checks magnitude-checks
+    unfolding combination-checks vector-checks vector-checks-by sweep-checks count-checks plan-checks time-checks degree-checks length-checks finite-checks magnitude-checks
     combination-in-order = refl
 
     combination-25 : Exactly25 (phi-combination g tau cap count w output memory) (combination-checks g tau cap count w (length output) (length memory)) tau cap norm
-    unfolding phi-combination
+    unfolding combination-run phi-combination
     combination-25 = exactly-25 _ _ between tau cap norm _ _ ranged-norm none-25 low-count low-between _ _ output memory _ combination-in-order
 
     low-combination : before 27 (combination-checks g tau cap count w (length output) (length memory)) ≡ combination-checks g tau cap count w (length output) (length memory)
-    unfolding before combination-checks vector-checks count-checks plan-checks time-checks degree-checks length-checks finite-checks sweep-checks magnitude-checks schedule-checks memory-checks
+    unfolding before combination-checks vector-checks vector-checks-by count-checks plan-checks time-checks degree-checks length-checks finite-checks sweep-checks magnitude-checks schedule-checks memory-checks
     low-combination = before-append 27 (g .checks) _ none-27
 
     combination-no-27 : (x : Float) → phi-combination g tau cap count w output memory .answer ≡ Refusal 27 x → ⊥
-    unfolding phi-combination
+    unfolding combination-run phi-combination
     combination-no-27 = never-27 _ _ between tau cap norm _ _ ranged-norm none-25 low-count low-between _ _ output memory _ combination-in-order low-combination
 
     combination-listed : ByList (phi-combination g tau cap count w output memory) (combination-checks g tau cap count w (length output) (length memory))
-    unfolding phi-combination
+    unfolding combination-run phi-combination
     combination-listed = by-list _ _ between tau cap norm _ _ ranged-norm none-25 low-count low-between _ _ output memory _ combination-in-order
 
     -- behind 33, and behind 17
@@ -346,14 +351,14 @@ module _
     of-lengths = length-checks (length output) (g .matrix .n) (length w) (count * g .matrix .n)
 
     abbrev of-sweeps : List Check
-    of-sweeps = sweep-checks (g .matrix .n) tau cap (count - 1) w norm (length memory) (taylor-need (g .matrix .n) (count - 1) (g .stored))
+    of-sweeps = sweep-checks (g .matrix .n) tau cap (count - 1) (further (g .matrix .n) w) norm (length memory) (taylor-need (g .matrix .n) (count - 1) (g .stored))
 
     combination-33 : Exactly33 (phi-combination g tau cap count w output memory) (combination-checks g tau cap count w (length output) (length memory)) cap
-    unfolding before combination-checks vector-checks plan-checks count-checks time-checks degree-checks length-checks finite-checks sweep-checks magnitude-checks schedule-checks memory-checks
+    unfolding before combination-checks vector-checks vector-checks-by plan-checks count-checks time-checks degree-checks length-checks finite-checks sweep-checks magnitude-checks schedule-checks memory-checks
     combination-33 = exactly-33 _ (g .checks) (count-checks count ++ time-checks tau) (of-lengths ++ (finite-checks w ++ of-sweeps)) cap (phi-combination g tau cap count w output memory) combination-listed refl none-33 refl refl
 
     combination-17 : Exactly17 (phi-combination g tau cap count w output memory) (combination-checks g tau cap count w (length output) (length memory)) w
-    unfolding before combination-checks vector-checks plan-checks count-checks time-checks degree-checks length-checks finite-checks not-finite-at sweep-checks magnitude-checks schedule-checks memory-checks
+    unfolding before combination-checks vector-checks vector-checks-by plan-checks count-checks time-checks degree-checks length-checks finite-checks not-finite-at sweep-checks magnitude-checks schedule-checks memory-checks
     combination-17 = exactly-17 _ (g .checks) (count-checks count ++ (plan-checks tau cap ++ of-lengths)) of-sweeps w (phi-combination g tau cap count w output memory) combination-listed refl none-17 refl refl
 
     pub combination-claim : TaylorClaim (phi-combination g tau cap count w output memory) (combination-checks g tau cap count w (length output) (length memory)) tau cap w (operator-of g tau count w) 1 (λ _. start-of g tau count w)

@@ -14,7 +14,7 @@ use Rattle.lists.specs.Window.{window}
 use Rattle.doubles.specs.F64.{if_then_else_, +0}
 use Rattle.checks.specs.First.{first}
 use Rattle.checks.specs.declared.Checked.the-variants.{Sound}
-use Rattle.combination.specs.Combination.{eta-of, combination-operator, combination-start, action-operator, init-aug-vector}
+use Rattle.combination.specs.Combination.{further, eta-of, combination-operator, combination-start, action-operator, init-aug-vector}
 use Rattle.phi_action.specs.Calls.{combination-checks, phi-combination, action-checks, phi-action, phi-action-batched}
 use Rattle.phi_krylov_arnoldi.specs.declared.KrylovPhiReport.{KrylovPhiReport}
 use Rattle.phi_krylov.specs.KrylovCall.{bound, krylov-checks, phi-combination-krylov}
@@ -26,10 +26,14 @@ use Rattle.demand_3.specs.Taylor.{Rows, TaylorClaim}
 
 -- the n + d values from which a combination starts, and its operator
 abbrev pub start-of : Generator → Float → ℕ → List Float → List Float
-start-of g tau count w = combination-start (g .matrix .n) w (count - 1) (eta-of (g .matrix .n) w tau (count - 1) .inv)
+start-of g tau count w =
+    let n = g .matrix .n in
+    combination-start n w (count - 1) (eta-of n (further n w) tau (count - 1) .inv)
 
 abbrev pub operator-of : Generator → Float → ℕ → List Float → Augmented
-operator-of g tau count w = combination-operator (g .matrix) w tau (count - 1) (eta-of (g .matrix .n) w tau (count - 1) .eta)
+operator-of g tau count w =
+    let f = further (g .matrix .n) w in
+    combination-operator (g .matrix) f tau (count - 1) (eta-of (g .matrix .n) f tau (count - 1) .eta)
 
 -- of phi_k v and the batch
 abbrev pub action-start : Generator → List Float → ℕ → List Float

@@ -22,11 +22,12 @@ use Rattle.general_operator.proofs.Sound.{or-false}
 use Rattle.generator_action.specs.Mass.{Mass, given, quotients, mass-checks, sum-checks, norm-checks, bound-checks, generator-checks}
 use Rattle.generator_action.specs.Generator.{Generator, forward}
 use Rattle.combination.specs.Call.{Call, ends, unless-refused}
-use Rattle.combination.specs.Checks.{count-checks, index-checks, time-checks, degree-checks, plan-checks, length-checks, finite-checks, schedule-checks, memory-checks, taylor-need, vector-checks, sweep-checks, job-checks}
+use Rattle.combination.specs.Combination.{further, eta-of}
+use Rattle.combination.specs.Checks.{count-checks, index-checks, time-checks, degree-checks, plan-checks, length-checks, finite-checks, schedule-checks, memory-checks, taylor-need, vector-checks-by, vector-checks, sweep-checks, job-checks}
 use Rattle.combination.proofs.Stored.{quotients-rows}
 use Rattle.phi_action.specs.Calls.{combination-checks, action-checks, phi-combination, phi-action, phi-action-batched}
 use Rattle.phi_action.specs.declared.TaylorAnswer.the-variants as taylor
-use Rattle.phi_krylov.specs.KrylovCall.{bound, dimension, option-checks, run-checks, krylov-need, krylov-checks, phi-combination-krylov}
+use Rattle.phi_krylov.specs.KrylovCall.{bound, dimension, option-checks, run-checks, krylov-need, krylov-checks-by, krylov-checks, phi-combination-krylov}
 use Rattle.phi_krylov.specs.declared.KrylovAnswer.the-variants as krylov
 use Rattle.phi_krylov.specs.Combine.{answering}
 use Rattle.exports.specs.Told.{Numbers, numbers, run-numbers, taylor-numbers, krylov-numbers, options}
@@ -57,7 +58,7 @@ expected (Krylov tol m most) n k = k * n
 others : PhiCall → Generator → Float → ℕ → List Float → ℕ → List Check
 others (Combination degree) g tau k v memory =
     let n = g .matrix .n in
-    finite-checks v ++ sweep-checks n tau degree (k - 1) v (row-sum-norm (g .matrix)) memory (taylor-need n (k - 1) (g .stored))
+    finite-checks v ++ sweep-checks n tau degree (k - 1) (further n v) (row-sum-norm (g .matrix)) memory (taylor-need n (k - 1) (g .stored))
 others (Action degree) g tau k v memory = finite-checks v ++ (schedule-checks degree (row-sum-norm (g .matrix)) tau ++ memory-checks memory (taylor-need (g .matrix .n) 3 (g .stored)))
 others (Batch degree) g tau k v memory = finite-checks v ++ (schedule-checks degree (row-sum-norm (g .matrix)) tau ++ memory-checks memory (taylor-need (g .matrix .n) 3 (g .stored)))
 others (Krylov tol m most) g tau k v memory =
@@ -65,7 +66,7 @@ others (Krylov tol m most) g tau k v memory =
     let M = dimension n (k - 1) m in
     finite-checks v
     ++ (option-checks (options tol m most) M
-    ++ run-checks n tau (k - 1) v (bound tau (row-sum-norm (g .matrix))) memory (krylov-need n (k - 1) M (g .stored)))
+    ++ run-checks n tau (k - 1) (further n v) (eta-of n (further n v) tau (k - 1) .eta) (bound tau (row-sum-norm (g .matrix))) memory (krylov-need n (k - 1) M (g .stored)))
 
 -- 14, and of a Taylor call 33
 times : PhiCall → Float → List Check
@@ -96,7 +97,7 @@ unfolding krylov-numbers
 krylov-refusal j x = refl
 
 refused : (call : PhiCall) (g : Generator) (tau : Float) (k : ℕ) (v output memory : List Float) {j : ℕ} {x : Float} → first (checks call g tau k v (length output) (length memory)) ≡ Refused j x → called call g tau k v output memory ≡ ends (numbers j x 0 0 0) output memory
-unfolding checks job times limit wanted expected others called combination-checks action-checks krylov-checks vector-checks job-checks count-checks index-checks plan-checks time-checks degree-checks length-checks finite-checks phi-combination phi-action phi-action-batched phi-combination-krylov
+unfolding checks job times limit wanted expected others called combination-checks action-checks krylov-checks krylov-checks-by vector-checks vector-checks-by job-checks count-checks index-checks plan-checks time-checks degree-checks length-checks finite-checks phi-combination phi-action phi-action-batched phi-combination-krylov
 refused (Combination degree) g tau k v output memory e = refused-by taylor-numbers taylor.Refusal output memory _ (taylor-refusal _ _) e
 refused (Action degree) g tau k v output memory e = refused-by taylor-numbers taylor.Refusal output memory _ (taylor-refusal _ _) e
 refused (Batch degree) g tau k v output memory e = refused-by taylor-numbers taylor.Refusal output memory _ (taylor-refusal _ _) e

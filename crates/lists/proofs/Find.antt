@@ -1,12 +1,14 @@
 -- What a loop that looks for the first index at which a test passes knows, and what holds of that index. Assumes nothing.
 use mathlib.Core.Bool.{Bool, true, false}
-use mathlib.Core.Path.{_≡_, refl, sym, ap}
-use Prim.Native.Nat.{ℕ, zero, suc, _+_, _≤_, _<_, suc-le-suc, zero-le}
+use mathlib.Core.Path.{_≡_, refl, sym, ap, _∙_}
+use mathlib.Core.Logic.{inl, inr}
+use Prim.Native.Nat.{ℕ, zero, suc, _+_, _-_, _≤_, _<_, suc-le-suc, zero-le}
 use native.Mathlib.Omega.{arith}
 use native.Mathlib.Nat.{le-refl, le-of-suc-le-suc}
 use borrow.Author.Tests.{ltb-false, lt-ltb, le-ltb}
 use borrow.Author.Count.{below-more}
 use Rattle.lists.specs.Find.{find, exists}
+use Rattle.lists.proofs.Bounds.{lt-or-le}
 
 -- a search has passed the indices below i: the test fails at each
 pub record Passed (p : ℕ → Bool) (i : ℕ) : Type 0 where
@@ -71,6 +73,39 @@ find-holds p (suc n) l = find-holds-by p n (find (λ j. p (suc j)) n) (p 0) refl
 pub none-below : (p : ℕ → Bool) (n : ℕ) → exists p n ≡ false → (k : ℕ) → k < n → p k ≡ false
 unfolding exists
 none-below p n e k l = find-before p n k (omega (arith, ltb-false (find p n) n e))
+
+-- ---- two searches
+-- two tests that agree below n find the same
+pub find-ext : (p q : ℕ → Bool) (n : ℕ) → ((k : ℕ) → k < n → p k ≡ q k) → find p n ≡ find q n
+unfolding find
+find-ext p q zero h = refl
+find-ext p q (suc n) h =
+    let first-test = h 0 (omega arith) in
+    let others = find-ext (λ k. p (suc k)) (λ k. q (suc k)) n (λ k l. h (suc k) (omega arith)) in
+    λ i. elim (first-test i) [ true ↦ 0 | false ↦ suc (others i) ]
+
+-- a search that ends below n ends there if it goes on too
+pub find-front : (p : ℕ → Bool) (n m : ℕ) → find p n < n → find p n ≡ find p (n + m)
+find-front p n m l = found-at (record { none = find-before p n }) (n + m) (omega arith) (find-holds p n l)
+
+-- one that does not begins again at n
+pub find-behind : (p : ℕ → Bool) (n m : ℕ) → n ≤ find p n → n + find (λ k. p (n + k)) m ≡ find p (n + m)
+find-behind p n m h = elim (lt-or-le (find (λ k. p (n + k)) m) m) [
+  | inl l ↦ found-at passed (n + m) (omega arith) (find-holds (λ k. p (n + k)) m l)
+  | inr l ↦ ap (λ (k : ℕ). n + k) (sym (found-none rest m l)) ∙ found-none passed (n + m) (omega arith)
+]
+  where
+    rest : Passed (λ k. p (n + k)) (find (λ k. p (n + k)) m)
+    rest = record { none = find-before (λ k. p (n + k)) m }
+
+    passed : Passed p (n + find (λ k. p (n + k)) m)
+    passed =
+        record {
+          none = λ k l. elim (lt-or-le k n) [
+            | inl b ↦ find-before p n k (omega arith)
+            | inr b ↦ ap p (omega (arith, b)) ∙ rest .none (k - n) (omega arith)
+          ];
+        }
 
 -- ---- a search that tells only whether the test passes
 module _ {p : ℕ → Bool} {i : ℕ} (s : Passed p i) (n : ℕ) where

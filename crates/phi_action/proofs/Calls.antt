@@ -15,16 +15,16 @@ use Rattle.generator_action.specs.Mass.{Mass, given, quotients}
 use Rattle.generator_action.specs.Generator.{Generator}
 use Rattle.generator_action.specs.Known.{Passed}
 use Rattle.generator_action.specs.declared.Shape.{Shape}
-use Rattle.combination.specs.Combination.{combination-operator, combination-start, action-operator, init-aug-vector}
+use Rattle.combination.specs.Combination.{further, combination-operator, combination-start, action-operator, init-aug-vector}
 use Rattle.combination.specs.Checks.{index-checks, plan-checks, vector-checks, job-checks, taylor-need}
 use Rattle.combination.specs.Call.{Call, ends}
 use Rattle.combination.specs.Inner.{Coupled, matrix-of, after-checks, combination-job, action-job}
 use Rattle.combination.specs.declared.Job.{Job}
 use Rattle.combination.proofs.Ends.{refused-by, runs}
 use Rattle.combination.proofs.Stored.{quotients-rows}
-use Rattle.combination.proofs.Admitted.{Vectors, vectors-known, vectors-within, first-within, coupled-in, coupled-one, sweeps-known, Action, action-known, length-start, length-init}
+use Rattle.combination.proofs.Admitted.{coupled-in, coupled-one, sweeps-known, Action, action-known, length-start, length-init}
 use Rattle.phi_action.specs.Inner.{Allowed, operator-by, job-end}
-use Rattle.phi_action.specs.Calls.{soaked, combination-checks, phi-combination, action-checks, phi-action, batched, phi-action-batched}
+use Rattle.phi_action.specs.Calls.{soaked, combination-checks, combination-run, phi-combination, action-checks, phi-action, batched, phi-action-batched}
 use Rattle.phi_action.specs.declared.TaylorAnswer.{TaylorAnswer}
 use Rattle.phi_action.specs.declared.TaylorAnswer.the-variants.{Refusal}
 use Rattle.phi_action.proofs.Jobs.{started-is, ends-planned}
@@ -35,12 +35,10 @@ pub known-action : (g : Shape) (tau : Float) (cap k : ℕ) (v : List Float) (out
 known-action g tau cap k v output wanted memory ej e = action-known k tau cap (g .norm) output wanted v (g .n) memory _ (sym e ∙ ap (λ (x : Job). x .checked) ej)
 
 module _ {starts cols : List ℕ} {vals : List Float} (mass : List Float) {g : Shape} (ok : Passed (csr (g .n) starts cols vals) (given (g .«with_mass») mass) g) {tau : Float} {cap : ℕ} {j : Job} {work : List Float} where
-  pub allowed-combination : {count output memory : ℕ} (w : List Float) → Vectors (g .n) count (length w) output → j ≡ combination-job g tau cap (count - 1) w memory → j .checked ≡ Sound
-      → length work ≡ memory
-      → Allowed starts cols vals mass work j
-  allowed-combination {count} {output} {memory} w v ej e l =
-      let p = sweeps-known (g .n) tau cap (count - 1) w (g .norm) memory _ (sym e ∙ ap (λ (x : Job). x .checked) ej) in
-      rw ej (record { passed = ok; short = omega (arith, v .most); needed = refl; enough = rw l (p .room); row = p .row })
+  pub allowed-combination : {d memory : ℕ} (f : List Float) → d ≤ 3 → j ≡ combination-job g tau cap d f memory → j .checked ≡ Sound → length work ≡ memory → Allowed starts cols vals mass work j
+  allowed-combination {d} {memory} f few ej e l =
+      let p = sweeps-known (g .n) tau cap d f (g .norm) memory _ (sym e ∙ ap (λ (x : Job). x .checked) ej) in
+      rw ej (record { passed = ok; short = few; needed = refl; enough = rw l (p .room); row = p .row })
 
   pub allowed-action : {k output wanted memory : ℕ} (v : List Float) → Action k tau cap (g .norm) output wanted (length v) (g .n) memory (taylor-need (g .n) 3 (g .stored)) → j ≡ action-job g tau cap k v output wanted memory
       → length work ≡ memory
@@ -48,11 +46,10 @@ module _ {starts cols : List ℕ} {vals : List Float} (mass : List Float) {g : S
   allowed-action v h ej l = rw ej (record { passed = ok; short = omega arith; needed = refl; enough = rw l (h .planned .room); row = h .planned .row })
 
   -- the columns and the output of a combination, and of an action
-  pub runs-combination : {count output memory : ℕ} (w : List Float) → Vectors (g .n) count (length w) output → j ≡ combination-job g tau cap (count - 1) w memory → j .checked ≡ Sound
+  pub runs-combination : {d output memory : ℕ} (f : List Float) → d ≤ 3 → d * g .n ≤ length f → output ≡ g .n → j ≡ combination-job g tau cap d f memory → j .checked ≡ Sound
       → length work ≡ memory
-      → Allowed starts cols vals mass work j × (Coupled (j .b) (j .g .n) (j .d) (length w) × (output ≡ j .g .n))
-  runs-combination {count} w v ej e l =
-      (allowed-combination w v ej e l, (rw ej (coupled-in (g .n) (count - 1) (length w) _ (vectors-within v) (omega (arith, v .most))), rw ej (v .out)))
+      → Allowed starts cols vals mass work j × (Coupled (j .b) (j .g .n) (j .d) (length f) × (output ≡ j .g .n))
+  runs-combination {d} f few fits out ej e l = (allowed-combination f few ej e l, (rw ej (coupled-in (g .n) d (length f) _ fits few), rw ej out))
 
   pub runs-action : {k output memory : ℕ} (v : List Float) → Action k tau cap (g .norm) output (g .n) (length v) (g .n) memory (taylor-need (g .n) 3 (g .stored)) → j ≡ action-job g tau cap k v output (g .n) memory
       → length work ≡ memory
@@ -94,6 +91,22 @@ module _ {starts cols : List ℕ} {vals : List Float} (mass : List Float) {g : S
   rows : quotients a m .n ≡ g .n
   rows = quotients-rows a m
 
+  -- ---- a combination that passed: w_0 is the first n values of v, w_1 to w_d are f
+  pub ran : (tau : Float) (cap d : ℕ) (v f out w₀ : List Float) {j : Job} {c : Call TaylorAnswer} {w₁ : List Float} → d ≤ 3 → g .n ≤ length v → j ≡ combination-job g tau cap d f (length w₀) → j .checked ≡ Sound
+      → w₁ ≡ splice 0 (combination-start (g .n) v d (j .inv)) w₀
+      → c ≡ job-end j (matrix-of (j .g) starts cols vals mass) (soaked (operator-by j (matrix-of (j .g) starts cols vals mass) f) (j .tau) (window 0 (j .g .n + j .d) w₁)) w₁
+      → c ≡ combination-run (after-checks gs a m g) tau cap d v f out w₀
+  unfolding combination-run combination-operator taylor-need
+  ran tau cap d v f out w₀ few l ej e e₁ h =
+      let J = combination-job g tau cap d f (length w₀) in
+      let q = quotients a m in
+      let al = allowed-combination mass ok {work = w₀} f few ej e refl in
+      let run = soaked (operator-by J q f) tau in
+      let y = combination-start (g .n) v d (J .inv) in
+      started-is J q run (g .n + d) y w₀ (length-start (g .n) v d (J .inv) l) (omega arith) (rw ej at (al .enough)) (rw ej at e₁) (rw ej at h)
+      ∙ ends-planned (rw ej at al) out q (run y)
+      ∙ rw (← (ok .norm), rows) refl
+
   -- ---- a combination
   module _ (tau : Float) (cap count : ℕ) (w out w₀ : List Float) {v : Checked} (fv : v ≡ first (vector-checks (g .n) (plan-checks tau cap) count w (length out))) where
     pub refused-vectors : {k : ℕ} {x : Float} → v ≡ Refused k x → ends (Refusal k x) out w₀ ≡ phi-combination (after-checks gs a m g) tau cap count w out w₀
@@ -101,10 +114,7 @@ module _ {starts cols : List ℕ} {vals : List Float} (mass : List Float) {g : S
     refused-vectors e = refused-by Refusal _ out w₀ _ e (sound-on gs _ refl sound (rw rows (refused-up (vector-checks (g .n) (plan-checks tau cap) count w (length out)) _ e fv)))
 
     -- 12 to 17 passed
-    module _ (ev : v ≡ Sound) {j : Job} (ej : j ≡ combination-job g tau cap (count - 1) w (length w₀)) where
-      known : Vectors (g .n) count (length w) (length out)
-      known = vectors-known (g .n) (plan-checks tau cap) count w (length out) ev fv
-
+    module _ (ev : v ≡ Sound) {j : Job} (ej : j ≡ combination-job g tau cap (count - 1) (further (g .n) w) (length w₀)) where
       told : j .checked ≡ first (combination-checks (after-checks gs a m g) tau cap count w (length out) (length w₀))
       unfolding combination-checks
       told =
@@ -114,20 +124,10 @@ module _ {starts cols : List ℕ} {vals : List Float} (mass : List Float) {g : S
       unfolding phi-combination
       refused-sweeps e = refused-by Refusal _ out w₀ _ e told
 
-      pub combined-is : {c : Call TaylorAnswer} {w₁ : List Float} → j .checked ≡ Sound → w₁ ≡ splice 0 (combination-start (g .n) w (count - 1) (j .inv)) w₀
-          → c ≡ job-end j (matrix-of (j .g) starts cols vals mass) (soaked (operator-by j (matrix-of (j .g) starts cols vals mass) w) (j .tau) (window 0 (j .g .n + j .d) w₁)) w₁
+      pub combined-is : {c : Call TaylorAnswer} → j .checked ≡ Sound → c ≡ combination-run (after-checks gs a m g) tau cap (count - 1) w (further (g .n) w) out w₀
           → c ≡ phi-combination (after-checks gs a m g) tau cap count w out w₀
-      unfolding phi-combination combination-operator taylor-need
-      combined-is e e₁ f =
-          let J = combination-job g tau cap (count - 1) w (length w₀) in
-          let q = quotients a m in
-          let al = allowed-combination mass ok {work = w₀} w known ej e refl in
-          let run = soaked (operator-by J q w) tau in
-          let y = combination-start (g .n) w (count - 1) (J .inv) in
-          runs Refusal _ out w₀ _ e told
-          (started-is J q run (g .n + (count - 1)) y w₀ (length-start (g .n) w (count - 1) (J .inv) (first-within known)) (omega arith) (rw ej at (al .enough)) (rw ej at e₁) (rw ej at f)
-          ∙ ends-planned (rw ej at al) out q (run y)
-          ∙ rw (← (ok .norm), rows) refl)
+      unfolding phi-combination
+      combined-is e h = runs Refusal _ out w₀ _ e told (h ∙ rw rows refl)
 
   -- ---- an action of the index k: `wanted` values of the output
   module _ (tau : Float) (cap k : ℕ) (v : List Float) (out w₀ : List Float) (wanted : ℕ) {j : Job} (ej : j ≡ action-job g tau cap k v (length out) wanted (length w₀)) where

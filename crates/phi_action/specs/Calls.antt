@@ -19,7 +19,7 @@ use Rattle.phi_shift.specs.declared.PlanAnswer.{PlanAnswer}
 use Rattle.phi_shift.specs.declared.PlanAnswer.the-variants.{NoPlan, Plan}
 use Rattle.phi_action.specs.declared.TaylorAnswer.{TaylorAnswer}
 use Rattle.phi_action.specs.declared.TaylorAnswer.the-variants.{Refusal, Soaked}
-use Rattle.combination.specs.Combination.{eta-of, combination-operator, combination-start, action-operator, init-aug-vector}
+use Rattle.combination.specs.Combination.{further, eta-of, combination-operator, combination-start, action-operator, init-aug-vector}
 use Rattle.combination.specs.Call.{Call, ends, unless-refused, cleared, open-Call}
 use Rattle.combination.specs.Checks.{plan-checks, vector-checks, sweep-checks, job-checks, taylor-need, open-Checks}
 
@@ -46,16 +46,20 @@ combination-checks g tau cap count w output memory =
     let n = g .matrix .n in
     g .checks
     ++ (vector-checks n (plan-checks tau cap) count w output
-    ++ sweep-checks n tau cap (count - 1) w (row-sum-norm (g .matrix)) memory (taylor-need n (count - 1) (g .stored)))
+    ++ sweep-checks n tau cap (count - 1) (further n w) (row-sum-norm (g .matrix)) memory (taylor-need n (count - 1) (g .stored)))
+
+-- a job that passed: w_0 is the first n values of v, w_1 to w_d are f
+unfoldable pub combination-run : Generator → Float → ℕ → ℕ → List Float → List Float → List Float → List Float → Call TaylorAnswer
+combination-run g tau cap d v f output memory =
+    let q = g .matrix in
+    let eta = eta-of (q .n) f tau d in
+    after-plan (taylor-need (q .n) d (g .stored)) tau (row-sum-norm q) output memory (sweep-plan cap tau q (row-sum-norm q))
+    (soaked (combination-operator q f tau d (eta .eta)) tau (combination-start (q .n) v d (eta .inv)))
 
 unfoldable pub phi-combination : Generator → Float → ℕ → ℕ → List Float → List Float → List Float → Call TaylorAnswer
 phi-combination g tau cap count w output memory =
-    let d = count - 1 in
-    let q = g .matrix in
-    let eta = eta-of (q .n) w tau d in
     unless-refused Refusal (first (combination-checks g tau cap count w (length output) (length memory))) output memory
-    (after-plan (taylor-need (q .n) d (g .stored)) tau (row-sum-norm q) output memory (sweep-plan cap tau q (row-sum-norm q))
-    (soaked (combination-operator q w tau d (eta .eta)) tau (combination-start (q .n) w d (eta .inv))))
+    (combination-run g tau cap (count - 1) w (further (g .matrix .n) w) output memory)
 
 -- ---- `phi_action` of index k, `phi_action_batched` of the indices 0 to p
 unfoldable pub action-checks : Generator → Float → ℕ → ℕ → List Float → ℕ → ℕ → ℕ → List Check
@@ -90,5 +94,5 @@ phi-action-batched g tau cap p v output memory =
 
 -- to compute: a line `unfolding open-Calls` opens every definition of this file and of those below it
 unfoldable pub open-Calls : Unit {0}
-unfolding after-plan soaked combination-checks phi-combination action-checks phi-action batch-step batched phi-action-batched open-Mass open-Checks open-Call
+unfolding after-plan soaked combination-checks combination-run phi-combination action-checks phi-action batch-step batched phi-action-batched open-Mass open-Checks open-Call
 open-Calls = tt

@@ -42,7 +42,7 @@ pub enum TaylorAnswer {
     Soaked(TaylorReport),
 }
 
-fn layout(n: usize, d: usize, mass: bool) -> Layout
+pub fn layout(n: usize, d: usize, mass: bool) -> Layout
     requires { ⌜ (n ≤ 1000000) × (d ≤ 3) ⌝ }
     ensures { λ r. ⌜ r ≡ layout n d mass ⌝ }
 {
@@ -72,7 +72,7 @@ fn shift_at(starts: &[u32], cols: &[u32], vals: &[f64], work: &[f64], l: Layout,
 }
 
 // The quotients in their place, and the plan from the row that the checks found.
-fn prepare(
+pub fn prepare(
     starts: &[u32],
     cols: &[u32],
     vals: &[f64],
@@ -116,7 +116,7 @@ fn swept_out(
 }
 
 // The report; what was needed is cleared.
-fn finish(work: &mut [f64], need: usize, p: SweepPlan, applied: u64) -> TaylorAnswer
+pub fn finish(work: &mut [f64], need: usize, p: SweepPlan, applied: u64) -> TaylorAnswer
     requires { ⌜ need ≤ length (now work) ⌝ }
     ensures { λ r. ⌜ r ≡ report p applied ⌝ }
     ensures { λ _. ⌜ now (work .exit) ≡ cleared need (now (work .entry)) ⌝ }
@@ -131,7 +131,7 @@ fn finish(work: &mut [f64], need: usize, p: SweepPlan, applied: u64) -> TaylorAn
 }
 
 // A job whose first field stands at the front of the lent memory.
-fn run_job(
+pub fn run_job(
     starts: &[u32],
     cols: &[u32],
     vals: &[f64],
@@ -176,19 +176,21 @@ pub fn combined(
     requires { ⌜ Passed (csr (g .n) (now starts) (now cols) (now vals)) (given (g .«with_mass») (now mass)) g ⌝ }
     ensures { λ r. ⌜ ((gs : List Check) → Sound ≡ first gs → ends r (now (out .exit)) (now (work .exit)) ≡ phi-combination (after-checks gs (csr (g .n) (now (starts .entry)) (now (cols .entry)) (now (vals .entry))) (given (g .«with_mass») (now (mass .entry))) g) tau cap count (now (w .entry)) (now (out .entry)) (now (work .entry))) ⌝ }
 {
+    let n = g.n;
     let time = combination::check_plan(tau, cap);
-    let vectors = combination::validate_combination(g.n, time, count, w, out.len());
+    let vectors = combination::validate_combination(n, time, count, w, out.len(), Checked::Sound);
     let Checked::Sound = vectors else {
         return TaylorAnswer::Refusal(checks::number(vectors), checks::reported(vectors));
     };
     let d = count - 1;
-    let j = combination::admit_combination(g, tau, cap, d, w, work.len());
+    let further = &w[n..];
+    let j = combination::admit_combination(g, tau, cap, d, further, work.len());
     let checked = j.checked;
     let Checked::Sound = checked else {
         return TaylorAnswer::Refusal(checks::number(checked), checks::reported(checked));
     };
-    combination::combination_start(g.n, w, d, j.inv, work);
-    run_job(starts, cols, vals, mass, w, out, work, j)
+    combination::combination_start(n, w, d, j.inv, work);
+    run_job(starts, cols, vals, mass, further, out, work, j)
 }
 
 // The sum over k of tau^k phi_k(tau G) w_k, of `count` vectors in one slice.

@@ -9,9 +9,10 @@ use Rattle.general_operator.specs.Csr.{Csr, csr}
 use Rattle.generator_action.specs.Mass.{given}
 use Rattle.generator_action.specs.Known.{Passed}
 use Rattle.generator_action.specs.declared.Shape.{Shape}
+use Rattle.pow2.specs.declared.Scaling.{Scaling}
 use Rattle.phi_action_helpers.specs.Augmented.{augmented}
 use Rattle.combination.specs.Combination.{eta-of}
-use Rattle.combination.specs.Inner.{coupling-of, Coupled}
+use Rattle.combination.specs.Inner.{coupling-by, Coupled}
 use Rattle.phi_krylov_arnoldi.specs.Run.{End, clamp-m, expv}
 use Rattle.phi_krylov_arnoldi.specs.declared.RunAnswer.{RunAnswer}
 use Rattle.phi_krylov_arnoldi.specs.declared.RunAnswer.the-variants.{Finished, Refused}
@@ -22,19 +23,22 @@ use Rattle.phi_krylov.specs.declared.KrylovAnswer.{KrylovAnswer}
 use Rattle.phi_krylov.specs.declared.KrylovAnswer.the-variants.{Refusal, Soaked}
 use Rattle.phi_krylov.specs.declared.RunJob.{RunJob}
 
--- 21, 22, 24 and 26 of a combination of dimension M over a generator with the numbers g: the answer, and what was found
-abbrev pub run-job : Shape → Float → ℕ → List Float → KrylovPhiOptions → ℕ → ℕ → RunJob
-run-job g tau d w o M memory =
+-- 21, 22 by eta, 24 and 26 of a combination of dimension M over a generator with the numbers g: the answer, and what was found
+abbrev pub run-job-by : Shape → Float → ℕ → List Float → Scaling → KrylovPhiOptions → ℕ → ℕ → RunJob
+run-job-by g tau d f eta o M memory =
     record {
-      checked = first (run-checks (g .n) tau d w (bound tau (g .norm)) memory (krylov-need (g .n) d M (g .stored)));
+      checked = first (run-checks (g .n) tau d f (eta .eta) (bound tau (g .norm)) memory (krylov-need (g .n) d M (g .stored)));
       g = g;
       d = d;
       need = krylov-need (g .n) d M (g .stored);
-      inv = eta-of (g .n) w tau d .inv;
-      b = coupling-of (g .n) w tau d;
+      inv = eta .inv;
+      b = coupling-by (g .n) f tau d (eta .eta);
       k = krylov (g .n) d M tau (bound tau (g .norm)) (o .tol);
       limit = o .«max_substeps»;
     }
+
+abbrev pub run-job : Shape → Float → ℕ → List Float → KrylovPhiOptions → ℕ → ℕ → RunJob
+run-job g tau d f o M memory = run-job-by g tau d f (eta-of (g .n) f tau d) o M memory
 
 -- a job that passed: of the vectors and the memory the lengths
 pub record Allowed (starts cols : List ℕ) (vals mass : List Float) (j : RunJob) (vectors memory : ℕ) : Type 0 where

@@ -1,6 +1,7 @@
 // Krylov: the combination by adaptive substeps.
 use arnoldi::Krylov;
 use checks::Checked;
+use combination::Weights;
 use generator_action::MatrixAnswer;
 use generator_action::Shape;
 use phi_action::TaylorAnswer;
@@ -15,10 +16,12 @@ ghost use mathlib.Core.List.{List, _++_};
 ghost use Prim.Native.Nat.{_+_, _*_, _≤_};
 ghost use lib.Dec.{ltb};
 ghost use lib.ListN.{length};
+ghost use lib.Ieee.{Float};
 ghost use Rattle.lists.specs.Window.{window, splice};
 ghost use Rattle.doubles.specs.F64.{_⋖_, +0, 1f};
 ghost use Rattle.checks.specs.First.{Check, first};
 ghost use Rattle.checks.specs.declared.Checked.the-variants.{Sound};
+ghost use Rattle.pow2.specs.declared.Scaling.{Scaling};
 ghost use Rattle.general_operator.specs.Csr.{csr};
 ghost use Rattle.generator_action.specs.Mass.{given};
 ghost use Rattle.generator_action.specs.Generator.{forward};
@@ -26,13 +29,13 @@ ghost use Rattle.generator_action.specs.Known.{Passed};
 ghost use Rattle.combination.specs.Combination.{combination-start};
 ghost use Rattle.combination.specs.Call.{ends, cleared};
 ghost use Rattle.combination.specs.Checks.{memory-checks};
-ghost use Rattle.combination.specs.Inner.{matrix-of, after-checks};
+ghost use Rattle.combination.specs.Inner.{weights-by, matrix-of, after-checks};
 ghost use Rattle.phi_krylov_arnoldi.specs.Run.{clamp-m};
 ghost use Rattle.phi_krylov_arnoldi.specs.Memory.{end-at};
 ghost use Rattle.phi_krylov.specs.KrylovCall.{bound, option-checks, bound-checks, krylov-need, after-run, phi-combination-krylov};
 ghost use Rattle.phi_krylov.specs.Combine.{of-taylor, of-krylov, combine};
 ghost use Rattle.phi_krylov.specs.Memory.{layout, krylov};
-ghost use Rattle.phi_krylov.specs.Inner.{answer-of, run-job, Allowed, run-of};
+ghost use Rattle.phi_krylov.specs.Inner.{answer-of, run-job-by, run-job, Allowed, run-of};
 
 // The accuracy wanted relative to the start's norm, the Krylov dimension, and the limit of substeps.
 pub struct KrylovPhiOptions {
@@ -61,7 +64,7 @@ pub enum PhiAnswer {
 }
 
 // M: m clamped to 2 .. max(2, len).
-fn clamp_m(m: usize, len: usize) -> usize
+pub fn clamp_m(m: usize, len: usize) -> usize
     ensures { λ r. ⌜ r ≡ clamp-m m len ⌝ }
 {
     if m < 2 {
@@ -89,7 +92,7 @@ fn too_many(m: usize, max_substeps: usize) -> bool
 }
 
 // 18 to 20.
-fn check_options(o: KrylovPhiOptions, m: usize) -> Checked
+pub fn check_options(o: KrylovPhiOptions, m: usize) -> Checked
     ensures { λ r. ⌜ r ≡ first (option-checks o m) ⌝ }
 {
     if !in_unit(o.tol) {
@@ -137,7 +140,7 @@ fn krylov_need(n: usize, d: usize, m: usize, stored: usize) -> usize
     n + (m + 3) * (n + d) + (m + 2) * (m + 2) + stored
 }
 
-fn layout(n: usize, d: usize, m: usize, mass: bool) -> Layout
+pub fn layout(n: usize, d: usize, m: usize, mass: bool) -> Layout
     requires { ⌜ (n ≤ 1000000) × (d ≤ 3) × (m ≤ 128) ⌝ }
     ensures { λ r. ⌜ r ≡ layout n d m mass ⌝ }
 {
@@ -168,31 +171,30 @@ fn krylov(n: usize, d: usize, m: usize, tau: f64, anorm: f64, tol: f64) -> Krylo
 }
 
 // A run as its checks leave it: what they found, with the numbers of its generator.
-struct RunJob {
-    checked: Checked,
-    g: Shape,
-    d: usize,
-    need: usize,
-    inv: f64,
-    b: Coupling,
-    k: Krylov,
-    limit: usize,
+pub struct RunJob {
+    pub checked: Checked,
+    pub g: Shape,
+    pub d: usize,
+    pub need: usize,
+    pub inv: f64,
+    pub b: Coupling,
+    pub k: Krylov,
+    pub limit: usize,
 }
 
-// 21, 22, 24 and 26.
-fn admit_run(
+// 24 and 26, after 21 and 22.
+pub fn admit_weighed(
     g: Shape,
     tau: f64,
     d: usize,
-    w: &[f64],
+    weights: Weights,
     o: KrylovPhiOptions,
     m: usize,
     memory: usize,
 ) -> RunJob
-    requires { ⌜ ((d + 1) * g .n ≤ length (now w)) × (g .n ≤ 1000000) × (d ≤ 3) × (m ≤ 128) × (g .stored ≤ 16777216) ⌝ }
-    ensures { λ r. ⌜ r ≡ run-job g tau d (now (w .entry)) o m memory ⌝ }
+    requires { ⌜ (g .n ≤ 1000000) × (d ≤ 3) × (m ≤ 128) × (g .stored ≤ 16777216) ⌝ }
+    ensures { λ r. ⌜ ((f : List Float) (eta : Scaling) → weights ≡ weights-by (g .n) f tau d eta → r ≡ run-job-by g tau d f eta o m memory) ⌝ }
 {
-    let weights = combination::weigh(g.n, w, tau, d);
     let weighed = weights.checked;
     let b = weights.b;
     let anorm = bound(tau, g.norm);
@@ -209,8 +211,25 @@ fn admit_run(
     }
 }
 
-// The first field from place `at` of the lent memory on.
-fn start_in(n: usize, w: &[f64], d: usize, inv: f64, work: &mut [f64], at: usize)
+// 21, 22, 24 and 26.
+pub fn admit_run(
+    g: Shape,
+    tau: f64,
+    d: usize,
+    further: &[f64],
+    o: KrylovPhiOptions,
+    m: usize,
+    memory: usize,
+) -> RunJob
+    requires { ⌜ (d * g .n ≤ length (now further)) × (g .n ≤ 1000000) × (d ≤ 3) × (m ≤ 128) × (g .stored ≤ 16777216) ⌝ }
+    ensures { λ r. ⌜ r ≡ run-job g tau d (now (further .entry)) o m memory ⌝ }
+{
+    let weights = combination::weigh(g.n, further, tau, d);
+    admit_weighed(g, tau, d, weights, o, m, memory)
+}
+
+// The first field from place `at` of the lent memory on; w_0 is the first n values of w.
+pub fn start_in(n: usize, w: &[f64], d: usize, inv: f64, work: &mut [f64], at: usize)
     requires { ⌜ (n ≤ length (now w)) × (at + (n + d) ≤ length (now work)) ⌝ }
     ensures { λ _. ⌜ now (work .exit) ≡ splice at (combination-start n (now (w .entry)) d inv) (now (work .entry)) ⌝ }
 {
@@ -257,7 +276,7 @@ fn run_expv(
 }
 
 // A run whose first field stands at k.y, and what it hands out.
-fn run_job(
+pub fn run_job(
     starts: &[u32],
     cols: &[u32],
     vals: &[f64],
@@ -293,24 +312,26 @@ pub fn combined(
     requires { ⌜ Passed (csr (g .n) (now starts) (now cols) (now vals)) (given (g .«with_mass») (now mass)) g ⌝ }
     ensures { λ r. ⌜ ((gs : List Check) → Sound ≡ first gs → ends r (now (out .exit)) (now (work .exit)) ≡ phi-combination-krylov (after-checks gs (csr (g .n) (now (starts .entry)) (now (cols .entry)) (now (vals .entry))) (given (g .«with_mass») (now (mass .entry))) g) tau count (now (w .entry)) o (now (out .entry)) (now (work .entry))) ⌝ }
 {
+    let n = g.n;
     let time = combination::check_time(tau);
-    let vectors = combination::validate_combination(g.n, time, count, w, out.len());
+    let vectors = combination::validate_combination(n, time, count, w, out.len(), Checked::Sound);
     let Checked::Sound = vectors else {
         return KrylovAnswer::Refusal(checks::number(vectors), checks::reported(vectors));
     };
     let d = count - 1;
-    let m = clamp_m(o.m, g.n + d);
+    let m = clamp_m(o.m, n + d);
     let options = check_options(o, m);
     let Checked::Sound = options else {
         return KrylovAnswer::Refusal(checks::number(options), checks::reported(options));
     };
-    let j = admit_run(g, tau, d, w, o, m, work.len());
+    let further = &w[n..];
+    let j = admit_run(g, tau, d, further, o, m, work.len());
     let run = j.checked;
     let Checked::Sound = run else {
         return KrylovAnswer::Refusal(checks::number(run), checks::reported(run));
     };
-    start_in(g.n, w, d, j.inv, work, j.k.y);
-    run_job(starts, cols, vals, mass, w, out, work, j)
+    start_in(n, w, d, j.inv, work, j.k.y);
+    run_job(starts, cols, vals, mass, further, out, work, j)
 }
 
 // The sum over k of tau^k phi_k(tau G) w_k, of `count` vectors in one slice, by adaptive substeps.

@@ -11,17 +11,19 @@ use Rattle.combination.proofs.powers_of.Statement.{statement}
 use Rattle.combination.proofs.powers_of.Tie as tie
 
 abbrev Inv-loop : tie.InvT-loop
-Inv-loop n w tau d gains₀ sum₀ j₀ gains sum j = (j ≤ d) × Filled 0 j (λ k. gain n w tau (k + 1)) gains₀ gains × (sum ≡ magnitude n w tau j)
+Inv-loop n further tau d gains₀ sum₀ j₀ gains sum j = (j ≤ d) × Filled 0 j (gain n further tau) gains₀ gains × (sum ≡ magnitude n further tau j)
 
 abbrev μ-loop : tie.MeasureT-loop
-μ-loop n w tau d gains₀ sum₀ j₀ gains sum j = d - j
+μ-loop n further tau d gains₀ sum₀ j₀ gains sum j = d - j
 
 loop-holds : tie.Need-loop-holds Inv-loop μ-loop
 unfolding magnitude
 loop-holds c = (omega arith, started _ _ _, sym (iter-none _ _))
 
 share-of-requires : tie.Need-share-of-requires Inv-loop μ-loop
-share-of-requires c κs = omega (arith, column-within (c .before .loop .j + 1) (c .before .before .before .args .d + 1) (c .before .before .before .args .n) (omega arith))
+share-of-requires c κs =
+    let a = c .before .before .before .args in
+    (omega (arith, column-within (c .before .loop .j) (a .d) (a .n) (omega arith)), omega arith)
 
 loop-again : tie.Need-loop-again Inv-loop μ-loop
 unfolding magnitude
@@ -35,7 +37,7 @@ returns c =
     let a = c .before .before .before .args in
     let l = c .before .loop in
     let e : l .j ≡ a .d = omega arith in
-    let gains = finished (l .inv .1) (a .d) (omega arith) (omega arith) ∙ front-filled 3 (a .d) (λ (k : ℕ). gain (a .n) (a .w .now) (a .tau) (k + 1)) +0 (omega arith) in
+    let gains = finished (l .inv .1) (a .d) (omega arith) (omega arith) ∙ front-filled 3 (a .d) (gain (a .n) (a .further .now) (a .tau)) +0 (omega arith) in
     let sum = rw e at (l .inv .2) in
     λ i. record { gains = gains i; sum = sum i }
 
@@ -46,7 +48,6 @@ powers-of-spec =
     Inv-loop
     μ-loop
     loop-holds
-    (λ c. omega arith)
     share-of-requires
     (λ c. omega arith)
     (λ c. omega arith)

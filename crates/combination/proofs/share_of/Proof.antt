@@ -13,4 +13,4 @@ unfolding gain weighed
 returns-2 c = rw (c .power .ensures, ← (c .before .before .sup-of .ensures), c .before .if1 .left)
 
 pub share-of-spec : {M : Type 1} → statement M
-share-of-spec = tie.close (tie.spec (λ c κs. search needs) returns (λ c κs. search needs) returns-2)
+share-of-spec = tie.close (tie.spec (λ c κs. search needs) returns (λ c. search needs) (λ c κs. search needs) returns-2)

@@ -4,17 +4,17 @@ use native.Mathlib.Omega.{arith}
 use Prim.Native.Nat.{_*_, _≤_}
 use Rattle.checks.proofs.First.{refused-up, sound-on}
 use Rattle.combination.proofs.Gains.{vectors-fit}
-use Rattle.combination.specs.Checks.{vector-checks}
+use Rattle.combination.specs.Checks.{vector-checks-by}
 use Rattle.combination.proofs.validate_combination.Statement.{statement}
 use Rattle.combination.proofs.validate_combination.Tie as tie
 
 returns : tie.Need-returns
-unfolding vector-checks
-returns c ts e = search refused-up
+unfolding vector-checks-by
+returns c ts os e h = search refused-up
 
 returns-2 : tie.Need-returns-2
-unfolding vector-checks
-returns-2 c ts e = search (sound-on, refused-up)
+unfolding vector-checks-by
+returns-2 c ts os e h = search (sound-on, refused-up)
 
 mul-check-lengths : tie.Need-mul-check-lengths
 mul-check-lengths c =
@@ -23,12 +23,16 @@ mul-check-lengths c =
     omega (arith, h)
 
 returns-3 : tie.Need-returns-3
-unfolding vector-checks
-returns-3 c ts e = search (sound-on, refused-up)
+unfolding vector-checks-by
+returns-3 c ts os e h =
+    let lengths = c .before .before .and-then .ensures _ os (c .before .before .before .check-lengths .ensures) h in
+    search (sound-on, refused-up)
 
 returns-4 : tie.Need-returns-4
-unfolding vector-checks
-returns-4 c ts e = search sound-on
+unfolding vector-checks-by
+returns-4 c ts os e h =
+    let lengths = c .before .before .before .and-then .ensures _ os (c .before .before .before .before .check-lengths .ensures) h in
+    search sound-on
 
 pub validate-combination-spec : {M : Type 1} → statement M
 validate-combination-spec =
@@ -42,6 +46,7 @@ validate-combination-spec =
     (λ c. search needs)
     returns-2
     mul-check-lengths
+    (λ c κs. search needs)
     (λ c κs. search needs)
     (λ c. search needs)
     (λ c. search needs)
