@@ -31,6 +31,12 @@
  * exact product is 0 or at least 2^-1022 in size and that nothing becomes infinite. A row without entries is exact. A call makes many such products, and
  * nothing is said here of how their errors add up.
  *
+ * LOADS TIMES A POWER OF TWO
+ *
+ * With every vector times 2^j, for any whole number j, hazhendu_phi_combination, hazhendu_combine by Taylor and hazhendu_phi_combination_transposed write
+ * 2^j times the numbers that they write without, bit for bit, and report the same plan. Both calls have to be accepted, with one matrix, mass, tau and
+ * degree; and in both, and in the multiplication itself, every result has to be finite and every exact product 0 or at least 2^-1022 in size.
+ *
  *
  * PARAMETERS
  *

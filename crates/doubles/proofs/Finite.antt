@@ -1,7 +1,7 @@
 -- A result is finite only where its operands are. Assumes nothing.
 use mathlib.Core.Bool.{Bool, true, false, cond}
 use mathlib.Core.Logic.{inl, inr}
-use mathlib.Core.Path.{_≡_, refl, subst}
+use mathlib.Core.Path.{_≡_, refl, sym, subst}
 use Prim.Native.Nat.{ℕ, zero, suc, _≤_, _<_}
 use native.Mathlib.Nat.{eq-or-lt-of-le}
 use native.Mathlib.Omega.{arith}
@@ -10,6 +10,10 @@ use lib.Ieee.{Float, nan, inf, fin, unlike, neg, add, mul}
 use Rattle.lists.specs.Loop.{iter}
 use Rattle.doubles.specs.F64.{_⊕_, _⊗_, abs, is-finite}
 use Rattle.doubles.specs.Sum.{sum}
+
+-- what is tested is so
+pub holds : {b : Bool} → b ≡ true → T b
+holds e = subst T (sym e) tt
 
 pub neg-finite : (x : Float) → T (is-finite (neg x)) → T (is-finite x)
 unfolding neg

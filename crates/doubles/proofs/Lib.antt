@@ -23,3 +23,7 @@ pub mod SumStep
 pub mod SumError
 pub mod ProductError
 pub mod Examples
+pub mod KeptDigits
+pub mod Scaled
+pub mod ScaledOrder
+pub mod PowerOfTwo

@@ -70,7 +70,7 @@ from-zero s a c C = ⩽-trans (fin s 0 (pos 0)) (fin false 0 (pos 0)) (round bin
 to-zero : (s : Bool) (a c : ℕ) → 0 < c → a ≡ 0 → T (round binary64 false a c ⩽ fin s 0 (pos 0))
 to-zero s a c C e = ⩽-trans (round binary64 false a c) (fin false 0 (pos 0)) (fin s 0 (pos 0)) (subst (λ (x : Float). T (round binary64 false a c ⩽ x)) (zero-round false) (round-mono binary64 a c 0 1 C (pow-pos 0) (omega arith))) (zeros false s)
 
-zero-of : (a d : ℕ) → 0 < d → a * d ≡ 0 → a ≡ 0
+pub zero-of : (a d : ℕ) → 0 < d → a * d ≡ 0 → a ≡ 0
 zero-of a d D e = elim (eq-zero-or-pos a) [ inl z ↦ z | inr p ↦ absurd (none (a * d) e (mul-pos p D)) ]
   where
     none : (k : ℕ) → k ≡ 0 → 0 < k → ⊥
@@ -341,7 +341,7 @@ pub div-mono : (x x' y y' : Float) → T (+0 ⩽ x) → T (+0 ⋖ y') → T (x �
 div-mono x x' y y' X Y' h k p q = div-view X (⩽-trans +0 x x' X h) (⋖-⩽-trans +0 y' y Y' k) Y' (le-view x x' h) (le-view y' y k) p q
 
 -- ---- with 1
-unlike-false : (s : Bool) → unlike s false ≡ s
+pub unlike-false : (s : Bool) → unlike s false ≡ s
 unlike-false false = refl
 unlike-false true = refl
 

@@ -48,12 +48,12 @@ sum-exact true a false b = go (ltb a b) (ltb→lt a b) (nltb→le a b) (ltb b a)
     go false h k false i = let l = k tt in let j = i tt in omega arith
 
 -- ---- a common factor
-ltb-times : (a b k : ℕ) → 0 < k → ltb (a * k) (b * k) ≡ ltb a b
+pub ltb-times : (a b k : ℕ) → 0 < k → ltb (a * k) (b * k) ≡ ltb a b
 ltb-times a b k h = bool-eq (ltb (a * k) (b * k)) (ltb a b)
     (λ t. lt→ltb a b (lt-of-mul-lt-mul-right k (ltb→lt (a * k) (b * k) t)))
     (λ t. lt→ltb (a * k) (b * k) (mul-lt-mul-of-pos-right (ltb→lt a b t) h))
 
-sign-times : (s : Bool) (a : ℕ) (t : Bool) (b k : ℕ) → 0 < k → sum-sign s (a * k) t (b * k) ≡ sum-sign s a t b
+pub sign-times : (s : Bool) (a : ℕ) (t : Bool) (b k : ℕ) → 0 < k → sum-sign s (a * k) t (b * k) ≡ sum-sign s a t b
 sign-times s a t b k h =
     ap (λ (x : Bool). cond (Bool·beq s t) s (cond x t (s && ltb (b * k) (a * k)))) (ltb-times a b k h)
     ∙ ap (λ (x : Bool). cond (Bool·beq s t) s (cond (ltb a b) t (s && x))) (ltb-times b a k h)
@@ -72,7 +72,7 @@ gap-times a b k h =
     ∙ ap (λ (z : ℕ). cond (ltb a b) ((b - a) * k) z) (sub-times a b k)
     ∙ cond-times (ltb a b) (b - a) (a - b) k
 
-size-times : (s : Bool) (a : ℕ) (t : Bool) (b k : ℕ) → 0 < k → sum-size s (a * k) t (b * k) ≡ sum-size s a t b * k
+pub size-times : (s : Bool) (a : ℕ) (t : Bool) (b k : ℕ) → 0 < k → sum-size s (a * k) t (b * k) ≡ sum-size s a t b * k
 size-times true a true b k h = sym (add-mul a b k)
 size-times false a false b k h = sym (add-mul a b k)
 size-times true a false b k h = gap-times a b k h

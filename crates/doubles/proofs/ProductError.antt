@@ -22,12 +22,16 @@ use Rattle.doubles.proofs.RelativeError.{Close, fraction-close, round-v
 use Rattle.doubles.proofs.SumStep.{close-cancel}
 use Rattle.doubles.proofs.SumError.{Term}
 
-zero-is : (u : Bool) (c : ℕ) → 0 < c → HasValue (round binary64 u 0 c) u 0 (2 ^ 1074)
+-- 0 / c rounds to a zero of its sign
+pub zero-is : (u : Bool) (c : ℕ) → 0 < c → HasValue (round binary64 u 0 c) u 0 (2 ^ 1074)
 zero-is u c C = subst (λ (z : Float). HasValue z u 0 (2 ^ 1074)) (sym (round-same binary64 u 0 c 0 1 C (pow-pos 0) (mul-one 0 ∙ sym (zero-mul c)) ∙ zero-round u)) (refl, refl)
 
 -- 2 ^ -1022 is 2 ^ 1126 units of 2 ^ -2148, and 2 ^ 52 of 2 ^ -1074
 powers : 4503599627370496 * 2 ^ 2148 ≡ 2 ^ 1126 * 2 ^ 1074
 powers = refl
+
+pub normal-size : (a : ℕ) → 2 ^ 1126 ≤ a → 4503599627370496 * 2 ^ 2148 ≤ a * 2 ^ 1074
+normal-size a l = le-trans (le-of-eq powers) (mul-le-mul-right (2 ^ 1074) l)
 
 -- a units of 2 ^ -2148, rounded
 rounded-term : (x : Float) (u : Bool) (a : ℕ) → T (fits binary64 x) → x ≡ round binary64 u a (2 ^ 2148) → T (is-finite x) → (a ≡ 0) ⊎ (2 ^ 1126 ≤ a) → Term x u a
@@ -40,11 +44,10 @@ rounded-term x u a f e h (inl z) =
     }
 rounded-term x u a f e h (inr l) =
     let g = grid binary64 a (2 ^ 2148) in
-    let big : 4503599627370496 * 2 ^ 2148 ≤ a * 2 ^ 1074 = le-trans (le-of-eq powers) (mul-le-mul-right (2 ^ 1074) l) in
     record {
       g = g;
       value = subst (λ (y : Float). HasValue y u g (2 ^ 1074)) (sym e) (round-value u a (2 ^ 2148) (subst (λ (y : Float). T (is-finite y)) e h));
-      close = close-cancel (g * 2 ^ 1074) a (2 ^ 1074) (pow-pos 1074) (subst (λ (p : ℕ). Close p (a * 2 ^ 1074)) (sym (mul-assoc g (2 ^ 1074) (2 ^ 1074))) (fraction-close a (2 ^ 2148) (pow-pos 2148) big));
+      close = close-cancel (g * 2 ^ 1074) a (2 ^ 1074) (pow-pos 1074) (subst (λ (p : ℕ). Close p (a * 2 ^ 1074)) (sym (mul-assoc g (2 ^ 1074) (2 ^ 1074))) (fraction-close a (2 ^ 2148) (pow-pos 2148) (normal-size a l)));
       fit = f;
     }
 

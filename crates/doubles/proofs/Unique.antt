@@ -72,7 +72,7 @@ value-unique x y s a c C f g h k = sign-back x s a c h ∙ ap (with-sign s) (abs
 
 -- ---- a double's value rounds to the double
 -- a finite pattern's number is q * 2 ^ j with a q of 53 digits
-abbrev Digits : ℕ → Type 0
+abbrev pub Digits : ℕ → Type 0
 Digits v = (q : ℕ) × (j : ℕ) × (v ≡ q * 2 ^ j) × (q < 9007199254740992)
 
 digits-of : (x t : ℕ) → t < 4503599627370496 → Digits (unitsOf x t)
@@ -85,13 +85,16 @@ digits-of (suc x) t h = (4503599627370496 + t, x, refl, more t h)
     more : (t : ℕ) → t < 4503599627370496 → 4503599627370496 + t < 9007199254740992
     more t h = omega arith
 
+pub pattern-digits : (b : ℕ) → Digits (val b)
+pattern-digits b = digits-of (b / 4503599627370496) (b % 4503599627370496) (digits-in b)
+
 pub val-under : (b : ℕ) → b < 9218868437227405312 → val b < 2 ^ 2098
 val-under b h = lt-of-lt-of-le (val-lt b 9218868437227405312 h) (lit≤ tt)
 
 pub round-self : (x : Float) (s : Bool) (a c : ℕ) → 0 < c → T (fits binary64 x) → HasValue x s a c → round binary64 s a c ≡ x
 round-self x s a c C f h =
     let b = toBits binary64 (abs x) in
-    let d = digits-of (b / 4503599627370496) (b % 4503599627370496) (digits-in b) in
+    let d = pattern-digits b in
     let e = d .2 in
     value-unique (round binary64 s a c) x s a c C (round-fits binary64 s a c) f
     (round-exact binary64 s a c (d .0) (d .1) C (d .3) (subst (λ (z : ℕ). z < 2 ^ 2098) e (val-under b (finite-bits x f (finite-of-value x s a c h)))) (pattern-value x s a c f h ∙ ap (λ (z : ℕ). z * c) e))

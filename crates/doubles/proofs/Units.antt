@@ -1,19 +1,24 @@
 -- The whole number of units of 2 ^ -1074 that a finite double is: it is the double's value, and products of doubles are products of such numbers, rounded. Assumes nothing.
 use mathlib.Core.Path.{_≡_, refl, sym, ap, _∙_, subst}
-use Prim.Native.Nat.{ℕ, zero, suc, _*_, _/_, _^_}
-use native.Mathlib.Nat.{mul-div-cancel}
+use mathlib.Core.Logic.{inl, inr}
+use Prim.Native.Nat.{ℕ, zero, suc, _*_, _/_, _^_, _≤_, _<_}
+use native.Mathlib.Nat.{mul-div-cancel, lt-irrefl, not-le-of-lt}
 use mathlib.Core.Bool.{Bool, not}
 use mathlib.Core.List.{List, [], _∷_, map}
 use lib.IntN.{ℤ, natAbs, _*ℤ_}
 use lib.Dec.{T}
+use lib.ListN.{length, List·getD-eq-default}
 use lib.Pow.{pow-pos}
 use lib.Ieee.{Float, nan, inf, fin, binary64, unlike, up, down, round, neg, toBits, fits}
-use lib.Ieee.Fits.{down-pos}
+use lib.Ieee.Fits.{down-pos, nan-fits}
 use lib.Ieee.Bits.{ofBits-fits}
 use lib.Ieee.Exact.{HasValue}
+use Rattle.lists.specs.Loop.{tabulate}
+use Rattle.lists.proofs.Bounds.{lt-or-le}
+use Rattle.lists.proofs.Loop.{length-tabulate, getD-tabulate}
 use Rattle.doubles.specs.F64.{_⊗_, bits, abs, is-finite}
 use Rattle.doubles.specs.Value.{val}
-use Rattle.doubles.specs.Units.{signed, units, Doubles}
+use Rattle.doubles.specs.Units.{signed, units, Doubles, NotTiny}
 use Rattle.doubles.proofs.Total.{sign}
 use Rattle.doubles.proofs.Unique.{pattern-value}
 use Rattle.doubles.proofs.OneRounding.{mul-signed}
@@ -67,7 +72,19 @@ module _ (x y : Float) (f : T (fits binary64 x)) (g : T (fits binary64 y)) (h : 
       mul-signed x y (sign x) (sign y) (size x) (2 ^ 1074) (size y) (2 ^ 1074) (pow-pos 1074) (pow-pos 1074) (own x f h) (own y g k)
       ∙ ap (λ (a : ℕ). round binary64 (unlike (sign x) (sign y)) a (2 ^ 2148)) (sym product-size)
 
--- ---- a list of bit patterns is a list of doubles
+-- what lies between 0 and 2 ^ -1022 is tiny
+pub tiny-between : (k : ℕ) (z : ℤ) → 0 < natAbs z → natAbs z < k → NotTiny k z → ⊥
+tiny-between k z p l (inl e) = lt-irrefl 0 (subst (λ (n : ℕ). 0 < n) e p)
+tiny-between k z p l (inr h) = not-le-of-lt l h
+
+-- ---- lists of doubles
+pub tabulated : (n : ℕ) (f : ℕ → Float) → ((k : ℕ) → T (fits binary64 (f k))) → Doubles (tabulate n f)
+tabulated n f h k = elim (lt-or-le k n) [
+  | inl l ↦ rw (getD-tabulate n f k nan l) (h k)
+  | inr g ↦ let e : length (tabulate n f) ≤ k = rw (length-tabulate n f) g in rw (List·getD-eq-default (tabulate n f) nan {n = k} e) (nan-fits binary64)
+]
+
+-- a list of bit patterns is one
 pub patterns : (bs : List ℕ) → Doubles (map bits bs)
 unfolding fits
 patterns [] k = tt

@@ -17,7 +17,7 @@ use Rattle.doubles.specs.F64.{_⊗_, at, bits, is-finite}
 use Rattle.doubles.specs.Sum.{sum}
 use Rattle.doubles.specs.Units.{signed, units, Doubles, NotTiny}
 use Rattle.doubles.proofs.Total.{over, under, sign, both-sides, over-not, under-not}
-use Rattle.doubles.proofs.Finite.{neg-finite, finite-neg, mul-finite, sums-finite, terms-finite}
+use Rattle.doubles.proofs.Finite.{holds, neg-finite, finite-neg, mul-finite, sums-finite, terms-finite}
 use Rattle.doubles.proofs.Signed.{Diff, diff-add, diff-signed, diff-size, times-signed}
 use Rattle.doubles.proofs.Units.{units-by, neg-value, product-signed}
 use Rattle.doubles.proofs.SumStep.{Apart}
@@ -101,9 +101,6 @@ module _ (n : ℕ) (x y : ℕ → Float) (fx : (k : ℕ) → T (fits binary64 (x
       (off-by (r .sign) (r .b) n (above signs sizes n) (below signs sizes n) (total n exact) (total-diff n exact signs sizes is) (r .near)))
 
 -- ---- a row
-holds : {b : Bool} → b ≡ true → T b
-holds e = subst T (sym e) tt
-
 -- any columns and entries: of at most 2 ^ 52 products
 pub row-off : (columns : List ℕ) (entries x : List Float) (from to : ℕ) → Doubles entries → Doubles x → to - from ≤ 2 ^ 52
     → NoneTiny columns entries x from (to - from)
@@ -113,7 +110,7 @@ unfolding row-product exact-product
 row-off columns entries x from to de dx few normal h =
     products-off (to - from) (λ k. at entries (from + k)) (λ k. at x (getD columns (from + k) 0)) (λ k. de (from + k)) (λ k. dx (getD columns (from + k) 0)) few normal (holds h)
 
-flow-is : (q : Csr) (x : List Float) (i : ℕ) → i < q .n → at (apply-generator q x) i ≡ row-product (q .columns) (q .entries) x (start q i) (start q (i + 1))
+pub flow-is : (q : Csr) (x : List Float) (i : ℕ) → i < q .n → at (apply-generator q x) i ≡ row-product (q .columns) (q .entries) x (start q i) (start q (i + 1))
 unfolding apply-generator
 flow-is q x i l = getD-tabulate (q .n) _ i nan l
 

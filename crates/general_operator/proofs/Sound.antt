@@ -1,5 +1,5 @@
 -- What a matrix is known to have that passes the checks. Assumes nothing.
-use mathlib.Core.Bool.{Bool, true, false, not, _||_}
+use mathlib.Core.Bool.{Bool, true, false, not, _||_, _&&_, true≢false}
 use mathlib.Core.List.{List, _++_}
 use mathlib.Core.Path.{_≡_, refl, sym, _∙_}
 use mathlib.Core.Logic.{⊎-elim}
@@ -32,6 +32,10 @@ pub record Shape (n : ℕ) (starts : List ℕ) (columns entries : ℕ) : Type 0 
 pub or-false : (a b : Bool) → (a || b) ≡ false → (a ≡ false) × (b ≡ false)
 or-false true b e = (e, cc)
 or-false false b e = (refl, e)
+
+pub and-false : (a b : Bool) → (a && b) ≡ false → a ≡ true → b ≡ false
+and-false true b e f = e
+and-false false b e f = absurd (true≢false (sym f))
 
 pub rows-right : (n len : ℕ) → wrong-rows n len ≡ false → (0 < n) × (len ≡ n + 1)
 unfolding wrong-rows

@@ -6,7 +6,8 @@ use Prim.Native.Nat.{ℕ, _+_, _-_, _≤_, _<_}
 use native.Mathlib.Nat.{le-trans, add-sub-of-le}
 use native.Mathlib.Omega.{arith}
 use lib.ListN.{length}
-use lib.Ieee.{Float, nan}
+use lib.Ieee.{Float, nan, binary64}
+use lib.Ieee.Fits.{div-fits}
 use borrow.Author.Tests.{lt-ltb, le-ltb}
 use Rattle.lists.proofs.Find.{Passed, found-at}
 use Rattle.lists.specs.Loop.{tabulate}
@@ -14,7 +15,9 @@ use Rattle.lists.specs.Window.{splice}
 use Rattle.lists.proofs.Loop.{length-tabulate, getD-tabulate, tabulate-ext, Filled, filled-more}
 use Rattle.doubles.specs.F64.{_⊘_, at, abs}
 use Rattle.doubles.specs.Sum.{sum}
+use Rattle.doubles.specs.Units.{Doubles}
 use Rattle.doubles.proofs.Sum.{sum-ext}
+use Rattle.doubles.proofs.Units.{tabulated}
 use Rattle.general_operator.specs.Csr.{Csr, start, size-sum, row-sum, Valid}
 use Rattle.general_operator.proofs.Rows.{rises, row-within}
 use Rattle.generator_action.specs.Mass.{Mass, row-of, normalise, quotients}
@@ -78,6 +81,12 @@ module _ {a : Csr} (v : Valid a) where
   unfolding quotients
   quotients-valid none = v
   quotients-valid (some mass) = normalise-valid mass
+
+-- they are doubles, since a division gives one
+pub quotients-doubles : (a : Csr) (mass : Mass) → Doubles (a .entries) → Doubles (quotients a mass .entries)
+unfolding quotients normalise
+quotients-doubles a none d = d
+quotients-doubles a (some mass) d = tabulated (length (a .entries)) (quotient a mass) (λ k. div-fits binary64 _ _)
 
 pub length-quotients : (a : Csr) (mass : Mass) → length (quotients a mass .entries) ≡ length (a .entries)
 unfolding quotients

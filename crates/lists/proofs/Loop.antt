@@ -166,6 +166,9 @@ module _ {A : Type 0} where
   zipWith-tabulate g (x ∷ xs) [] (suc n) d e e′ = absurd (omega arith)
   zipWith-tabulate g (x ∷ xs) (y ∷ ys) (suc n) d e e′ = ap (λ (r : List A). g x y ∷ r) (zipWith-tabulate g xs ys n d (suc-inj e) (suc-inj e′))
 
+  pub getD-zipWith : (g : A → A → A) (xs ys : List A) (n : ℕ) (d : A) → length xs ≡ n → length ys ≡ n → (k : ℕ) → k < n → getD (zipWith g xs ys) k d ≡ g (getD xs k d) (getD ys k d)
+  getD-zipWith g xs ys n d e e′ k l = ap (λ (w : List A). getD w k d) (zipWith-tabulate g xs ys n d e e′) ∙ getD-tabulate n _ k d l
+
   pub length-zipWith : (g : A → A → A) (xs ys : List A) → length xs ≡ length ys → length (zipWith g xs ys) ≡ length xs
   unfolding zipWith
   length-zipWith g [] ys e = refl

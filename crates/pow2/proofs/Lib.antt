@@ -5,3 +5,4 @@ pub mod Leading
 pub mod Toward
 pub mod Largest
 pub mod Examples
+pub mod Scaled

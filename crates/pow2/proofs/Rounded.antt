@@ -45,7 +45,7 @@ pow2-product a b =
     round-same binary64 false (1 * up a * (1 * up b)) (down a * down b) (up (a +ℤ b)) (down (a +ℤ b)) (mul-pos (down-pos a) (down-pos b)) (down-pos (a +ℤ b)) (powers-add a b)
 
 -- ---- from 2 ^ -1024 up and below 2 ^ 1024 the power is a double
-power-fits : (e : ℤ) → mag e < 1024 → T (fits binary64 (fin false 1 e))
+pub power-fits : (e : ℤ) → mag e < 1024 → T (fits binary64 (fin false 1 e))
 unfolding fits
 power-fits (pos n) h = rw (one-mul (2 ^ n)) (lt→ltb (2 ^ n) (2 ^ 1024) (pow-lt h))
 power-fits (negsuc n) h =

@@ -144,7 +144,7 @@ root-unique t q r s tp fr fs a b =
     ]
 
 -- ---- a root of at most 1
-times-fits : (y : Float) (k : ℕ) → T (fits binary64 y) → T (fits binary64 (times y k))
+pub times-fits : (y : Float) (k : ℕ) → T (fits binary64 y) → T (fits binary64 (times y k))
 unfolding times
 times-fits y zero f = f
 times-fits y (suc k) f = mul-fits binary64 (times y k) y

@@ -10,7 +10,10 @@ use lib.ListN.{length, getD}
 use borrow.Author.Tests.{eqb-true}
 use Rattle.lists.specs.Loop.{stack}
 use Rattle.lists.proofs.Bounds.{lt-or-le}
+use Rattle.lists.proofs.Loop.{map-tabulate}
 use Rattle.doubles.specs.F64.{at, bits, 1f, 2f}
+use Rattle.doubles.specs.Units.{Doubles}
+use Rattle.doubles.proofs.Units.{tabulated}
 use Rattle.general_operator.specs.Csr.{Csr, csr, start, Valid}
 use Rattle.generator_action.specs.Mass.{row-of}
 use Rattle.lists.specs.Places.{places}
@@ -66,6 +69,11 @@ module _ {q : Csr} (v : Valid q) (z : start q 0 ≡ 0) where
       ∙ ap (map (λ k. at (q .entries) (getD order k 0))) (places-ext _ (λ k. eqb (column q (getD order k 0)) j && eqb (row-of q (getD order k 0)) i) N (λ k m. rw (row-transposed v z k m, column-transposed v z k m) refl))
       ∙ sym (map-map (at (q .entries)) (λ k. getD order k 0) (places (λ k. eqb (column q (getD order k 0)) j && eqb (row-of q (getD order k 0)) i) N))
       ∙ ap (map (at (q .entries))) (through v z (λ k. eqb (column q k) j && eqb (row-of q k) i) ∙ one (column q) (λ k. eqb (row-of q k) i) N j (q .n) l)
+
+-- they are doubles where those of q are
+pub transpose-doubles : (q : Csr) → Doubles (q .entries) → Doubles (transpose q .entries)
+unfolding transpose
+transpose-doubles q d k = rw (map-tabulate (at (q .entries)) (stack (q .n) (in-column q)) 0) (tabulated (length (stack (q .n) (in-column q))) _ (λ i. d (getD (stack (q .n) (in-column q)) i 0)) k)
 
 -- `ordered` in the place of `transpose` keeps the law of transposing twice: the law alone does not say what a transposed matrix is
 abbrev a : Csr
