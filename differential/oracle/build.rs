@@ -1,7 +1,7 @@
 //! Names the files of the Rust original as modules of this crate. Package `oracle` takes every file where it lies, but for
 //! general_operator.rs, a copy below OUT_DIR in which [`VISIBLE`] is replaced. Package `capped` takes expmv.rs too as a copy, in
-//! which [`DEGREE`] is replaced; package `transcribed` takes these and two more as copies, in which the lines of [`TRANSCRIBED`]
-//! and [`PROBES`] are replaced. SEMIFLOW gives the folder of the sources, by default `../shared/docs/src` beside the repository.
+//! which [`DEGREE`] is replaced; package `transcribed` takes these and three more as copies, in which the lines of [`TRANSCRIBED`],
+//! [`PROBES`] and [`WEIGHTS`] are replaced and to one of which [`loop_from`] adds a function. SEMIFLOW gives the folder of the sources, by default `../shared/docs/src` beside the repository.
 
 use std::{env, fs, path::Path};
 
@@ -24,6 +24,21 @@ const FILES: [&str; 14] = [
 
 /// Document 02, N3: the driver calls `transpose_csr`, which is private.
 const VISIBLE: (&str, &str, &str) = ("general_operator", "\nfn transpose_csr<", "\npub(crate) fn transpose_csr<");
+
+/// Document 02, N5: the driver multiplies the weights, which `weighted_columns` gives, by the eta of the start.
+const WEIGHTS: (&str, &str, &str) = ("phi_action", "\nfn weighted_columns<", "\npub(crate) fn weighted_columns<");
+
+/// Document 02, N5: the loop of phi_krylov_arnoldi.rs, `substeps`, stands in its copy a second time as `substeps_from`, which starts
+/// from a time and a proposed step and is ended after one substep by `max_substeps`. Where the loop's text begins and ends, and what
+/// is replaced in it.
+const LOOP: (&str, &str) = ("/// The substep loop of [`expv`].\n", "/// Try `min(t_new, remaining)`");
+const FROM: [(&str, &str); 5] = [
+    ("fn substeps<", "pub(crate) fn substeps_from<"),
+    ("    rep: &mut KrylovPhiReport,\n)", "    rep: &mut KrylovPhiReport,\n    control: &mut (f64, f64),\n)"),
+    ("crate::probe::first(", "core::convert::identity("),
+    ("    while elapsed < 1.0 {\n", "    (elapsed, next_step) = *control;\n    while rep.substeps < max_substeps || elapsed < 1.0 {\n"),
+    ("        beta = norm2(y);\n", "        *control = (elapsed, next_step);\n        beta = norm2(y);\n"),
+];
 
 /// Document 02, N7: `M_MAX` is set to the cap of the job.
 const DEGREE: (&str, &str, &str) = ("expmv", "        if m > M_MAX {", "        if m > crate::probe::degree() {");
@@ -106,7 +121,7 @@ fn main() {
     let capped = (package != "oracle").then_some(DEGREE);
     let mut replaced: Vec<_> = [VISIBLE].into_iter().chain(capped).collect();
     if transcribe {
-        replaced.extend(TRANSCRIBED.into_iter().chain(PROBES));
+        replaced.extend([WEIGHTS].into_iter().chain(TRANSCRIBED).chain(PROBES));
     }
     let mut modules = String::new();
     for name in FILES {
@@ -114,7 +129,10 @@ fn main() {
         path = path.canonicalize().unwrap_or_else(|e| panic!("{}: {e}; give the sources' folder as SEMIFLOW", path.display()));
         println!("cargo:rerun-if-changed={}", path.display());
         if replaced.iter().any(|r| r.0 == name) {
-            let text = copy(name, fs::read_to_string(&path).unwrap(), &replaced);
+            let mut text = copy(name, fs::read_to_string(&path).unwrap(), &replaced);
+            if transcribe && name == "phi_krylov_arnoldi" {
+                text += &loop_from(&text);
+            }
             path = Path::new(&out).join(name).with_extension("rs");
             fs::write(&path, text).unwrap();
         }
@@ -139,4 +157,15 @@ fn copy(name: &str, mut text: String, replaced: &[(&str, &str, &str)]) -> String
     }
     assert!(!text.contains("libm::pow") && !text.contains("libm_exp"), "{name}: a power or exponential is left");
     text
+}
+
+/// The loop of substeps from a state.
+fn loop_from(text: &str) -> String {
+    let find = |part: &str| text.find(part).unwrap_or_else(|| panic!("no {part}"));
+    let mut text = text[find(LOOP.0) + LOOP.0.len()..find(LOOP.1)].to_string();
+    for (old, new) in FROM {
+        assert_eq!(text.matches(old).count(), 1, "{old}");
+        text = text.replace(old, new);
+    }
+    format!("\n#[allow(unused_assignments)]\n{text}")
 }

@@ -180,7 +180,7 @@ fn call_of(kind: Kind, r: &mut Random) -> Call {
 }
 
 /// A modest number, seldom one far from 1, more seldom a special one.
-fn number(r: &mut Random) -> f64 {
+pub fn number(r: &mut Random) -> f64 {
     let unit = 2.0 * r.unit() - 1.0;
     match r.below(40) {
         0..=11 => r.from_to(-4, 4) as f64,
@@ -200,7 +200,7 @@ fn rows(r: &mut Random) -> usize {
 }
 
 /// Row starts, columns and entries of n rows.
-fn matrix(n: usize, r: &mut Random) -> (Vec<u32>, Vec<u32>, Vec<f64>) {
+pub fn matrix(n: usize, r: &mut Random) -> (Vec<u32>, Vec<u32>, Vec<f64>) {
     let (mut starts, mut cols, mut vals) = (vec![], vec![], vec![]);
     let shape = r.below(8);
     if shape == 0 && r.once_in(2) {
@@ -249,7 +249,7 @@ fn norm(job: &Job) -> f64 {
 }
 
 /// A job that is mostly accepted, at tau x norm up to some hundreds.
-fn good(kind: Kind, r: &mut Random) -> Job {
+pub fn good(kind: Kind, r: &mut Random) -> Job {
     let n = rows(r);
     let (starts, cols, vals) = matrix(n, r);
     let mass = r.once_in(3).then(|| (0..n).map(|_| 2.0_f64.powi(r.from_to(-3, 3) as i32) * (0.5 + r.unit())).collect());
@@ -389,7 +389,7 @@ fn at_overflow(kind: Kind, r: &mut Random) -> Job {
 }
 
 /// A field that decays so far that its squares underflow.
-fn decaying(r: &mut Random) -> Job {
+pub fn decaying(r: &mut Random) -> Job {
     let mut job = good(Kind::Krylov, r);
     let n = r.pick(&[1, 2, 3, 4, 6, 8, 20, 44]);
     job.n = n;
@@ -455,7 +455,7 @@ fn chain(r: &mut Random) -> Job {
 }
 
 /// So large a tau that the columns are rounding errors, with a tolerance that is easily met.
-fn rough(r: &mut Random) -> Job {
+pub fn rough(r: &mut Random) -> Job {
     let mut job = good(Kind::Krylov, r);
     job.tau = 10.0_f64.powf(7.0 + 7.0 * r.unit());
     job.call = Call::Krylov { tol: r.pick(&[0.9, 0.5, 0.1, 1e-3]), m: r.pick(&[2, 3, 4]), limit: r.pick(&[10, 100, 1000]) };
@@ -464,7 +464,7 @@ fn rough(r: &mut Random) -> Job {
 }
 
 /// Rows of very different rates, or a flow from row to row, at large tau.
-fn stiff(r: &mut Random) -> Job {
+pub fn stiff(r: &mut Random) -> Job {
     let mut job = good(Kind::Krylov, r);
     let n = r.from_to(3, 40) as usize;
     let (spread, flow, rate) = (4.0 * r.unit(), r.once_in(2), 10.0_f64.powf(4.0 * r.unit()));
@@ -488,7 +488,7 @@ fn stiff(r: &mut Random) -> Job {
 }
 
 /// One thing that is wrong, or at a limit.
-fn damage(job: &mut Job, r: &mut Random) {
+pub fn damage(job: &mut Job, r: &mut Random) {
     let any = r.pick(&SPECIAL);
     let odd = r.pick(&SPECIAL[17..]);
     let row = |job: &Job, r: &mut Random| r.below(job.starts.len().max(1));

@@ -1,11 +1,14 @@
 //! Puts jobs to the Rust original and to the proved library, and compares the answers bit for bit. See README.md.
 
+mod change;
 mod generate;
+mod paused;
 mod random;
 
 use std::collections::BTreeMap;
 use std::process::ExitCode;
 
+use compare::paused::{undivided, Seen};
 use compare::{reference, Difference, Expected};
 use generate::{Kind, KINDS};
 use jobs::{Answer, Call, Job};
@@ -14,7 +17,7 @@ use random::Random;
 const USAGE: &str = "usage:
   differential run [--seed N] [--jobs N] [--calls combination,krylov,action,batched] [--cost N] [--show N] [--libm] [--find NUMBER|PATH] [--threads N]
   differential jobs [--seed N] [--jobs N] [--calls ...]
-  differential replay FILE --side rust|transcribed|rattle|bytes";
+  differential replay FILE --side rust|transcribed|rattle|bytes|steps";
 
 fn main() -> ExitCode {
     let words: Vec<String> = std::env::args().skip(1).collect();
@@ -125,6 +128,8 @@ struct Tally {
     rows: BTreeMap<(bool, bool, bool), u64>,
     /// Transposed jobs by their call and by what their answers show of the transpose.
     transposed: BTreeMap<String, u64>,
+    /// Paused runs: what was met.
+    paused: BTreeMap<String, u64>,
     numbers: BTreeMap<(u32, &'static str), u64>,
     paths: BTreeMap<&'static str, u64>,
 }
@@ -152,11 +157,32 @@ impl Tally {
         for (key, hits) in other.transposed {
             *self.transposed.entry(key).or_default() += hits;
         }
+        for (key, hits) in other.paused {
+            *self.paused.entry(key).or_default() += hits;
+        }
         for (key, hits) in other.numbers {
             *self.numbers.entry(key).or_default() += hits;
         }
         for (key, hits) in other.paths {
             *self.paths.entry(key).or_default() += hits;
+        }
+    }
+}
+
+/// Jobs whose paused runs come before those of the random ones: boundaries, and paths that random jobs seldom take.
+const FIXED: [&str; 2] = [include_str!("../documents.jobs"), include_str!("../paths.jobs")];
+
+/// How many runs with changes are made from each of them.
+const FIXED_RUNS: usize = 20;
+
+/// The paused runs of the fixed jobs.
+fn fixed(o: &Options, t: &mut Tally) {
+    let lines = FIXED.iter().flat_map(|file| file.lines()).filter(|line| !line.trim().is_empty() && !line.starts_with('#'));
+    for job in lines.map(|line| Job::parse(line).expect("a job in the text form")).filter(paused::has_steps) {
+        if let Some(expected) = compare::expected(&job, o.cost) {
+            let answer = &expected.answer;
+            paused(o, usize::MAX, t, |r, seen| undivided(&job, answer, o.cost, |n| r.below(n), seen));
+            (1..=FIXED_RUNS).for_each(|i| paused(o, usize::MAX - i, t, |r, seen| paused::changes(&job, answer, o.cost, r, seen)));
         }
     }
 }
@@ -169,6 +195,9 @@ fn run(o: &Options) -> bool {
         t
     };
     let mut t = Tally::default();
+    if o.kinds.contains(&Kind::Krylov) {
+        fixed(o, &mut t);
+    }
     std::thread::scope(|scope| {
         let shares: Vec<_> = (0..o.threads).map(|first| scope.spawn(move || share(first))).collect();
         shares.into_iter().for_each(|s| t.add(s.join().expect("a thread that ends")));
@@ -185,6 +214,10 @@ fn run(o: &Options) -> bool {
     println!("transposed jobs:");
     for (what, hits) in &t.transposed {
         println!("  {what:28} {hits}");
+    }
+    println!("paused runs:");
+    for (what, hits) in &t.paused {
+        println!("  {what:48} {hits}");
     }
     println!("answers of the Rust, by number and call:");
     for ((number, call), hits) in &t.numbers {
@@ -220,6 +253,27 @@ fn one(o: &Options, job: &Job, index: usize, t: &mut Tally) {
     for difference in differences.collect::<Vec<_>>() {
         t.different += 1;
         show(o, t.different, &difference, job);
+    }
+    if paused::has_steps(job) {
+        paused(o, index, t, |r, seen| {
+            undivided(job, &expected.answer, o.cost, |n| r.below(n), seen);
+            paused::changes(job, &expected.answer, o.cost.min(paused::COST), r, seen);
+        });
+    }
+}
+
+/// Paused runs of job `index`, counted, and their differences shown.
+fn paused(o: &Options, index: usize, t: &mut Tally, runs: impl FnOnce(&mut Random, &mut Seen)) {
+    let mut seen = Seen::default();
+    runs(&mut Random::of(!o.seed, index), &mut seen);
+    for (what, hits) in seen.hits {
+        *t.paused.entry(what.into_owned()).or_default() += hits;
+    }
+    for difference in seen.differences {
+        t.different += 1;
+        if t.different <= o.show as u64 {
+            println!("job {index}: {difference}");
+        }
     }
 }
 
@@ -326,6 +380,8 @@ fn replay(file: &str, side: &str) -> Result<bool, String> {
             "transcribed" => reference::answer(&job, |j| transcribed::answer(j, u64::MAX)),
             "rattle" => Some(library::answer(&job)),
             "bytes" if job.lent.is_some() => None,
+            "steps" if job.lent.is_some() || !matches!(job.call, Call::Krylov { .. }) => None,
+            "steps" => Some(library::paused::answer(&job)),
             "bytes" => library::answer_on_bytes(&job, 0),
             _ => return Err(USAGE.into()),
         };

@@ -107,6 +107,35 @@ static uint32_t sensitivity(double tau, size_t t_len, double *out, double *work,
     return number;
 }
 
+/* The run of soak_krylov with a limit of 100000, one substep at a time; from half of tau on with a hundredth of the tolerance if it is tightened. */
+static uint32_t paused(double tau, size_t m, bool tightened, double *out, double *work, size_t work_len)
+{
+    double value, field[N + COUNT - 1], numbers[HAZHENDU_RUN_NUMBERS_LEN];
+    size_t counts[HAZHENDU_RUN_COUNTS_LEN];
+    uint32_t number = hazhendu_krylov_start(
+        N, starts, N + 1, cols, ENTRIES, vals, ENTRIES, true, mass, N, tau, COUNT, w, COUNT * N, 1e-10, m, 100000, out, N, work, work_len, field,
+        N + COUNT - 1, numbers, HAZHENDU_RUN_NUMBERS_LEN, counts, HAZHENDU_RUN_COUNTS_LEN, &value);
+    while (number == HAZHENDU_ACCEPTED && counts[HAZHENDU_RUN_OVER] == 0) {
+        if (counts[HAZHENDU_RUN_SUBSTEPS] % 40 == 0)
+            printf("paused at %.3f of tau: %zu substeps, %zu applications, first piece %.6f K\n", numbers[HAZHENDU_RUN_TIME],
+                counts[HAZHENDU_RUN_SUBSTEPS], counts[HAZHENDU_RUN_MATVECS], out[0]);
+        bool with_tol = tightened && numbers[HAZHENDU_RUN_TIME] >= 0.5;
+        number = hazhendu_krylov_step(
+            N, starts, N + 1, cols, ENTRIES, vals, ENTRIES, true, mass, N, tau, COUNT, w, COUNT * N, with_tol, 1e-12, out, N, work, work_len, field,
+            N + COUNT - 1, numbers, HAZHENDU_RUN_NUMBERS_LEN, counts, HAZHENDU_RUN_COUNTS_LEN, &value);
+    }
+    if (number != HAZHENDU_ACCEPTED) {
+        printf("paused: refused, number %u, double %g\n", number, value);
+        return number;
+    }
+    printf("ended: %zu substeps, %zu applications, %zu rejected, tol %g, estimated error %.17g\n", counts[HAZHENDU_RUN_SUBSTEPS],
+        counts[HAZHENDU_RUN_MATVECS], counts[HAZHENDU_RUN_REJECTED], numbers[HAZHENDU_RUN_TOL], numbers[HAZHENDU_RUN_ESTIMATE]);
+    /* One step more, on a run that has ended. */
+    return hazhendu_krylov_step(
+        N, starts, N + 1, cols, ENTRIES, vals, ENTRIES, true, mass, N, tau, COUNT, w, COUNT * N, false, 0, out, N, work, work_len, field,
+        N + COUNT - 1, numbers, HAZHENDU_RUN_NUMBERS_LEN, counts, HAZHENDU_RUN_COUNTS_LEN, &value);
+}
+
 /* The same job by either solver must give what that solver's own call gave. */
 static bool same_by_choice(bool krylov, const double *field, double *work, size_t work_len)
 {
@@ -149,6 +178,16 @@ int main(void)
             return 1;
     if (!same_by_choice(false, taylor, work, taylor_work) || !same_by_choice(true, krylov, work, krylov_work))
         return 1;
+
+    double whole[N];
+    printf("the same in short substeps: the whole call; paused after each, to the same bits; and tightened half way\n");
+    if (soak_krylov(60, 4, 100000, whole, work, krylov_work) != HAZHENDU_ACCEPTED)
+        return 1;
+    if (paused(60, 4, false, krylov, work, krylov_work) != HAZHENDU_RUN_ENDED || memcmp(krylov, whole, sizeof whole) != 0)
+        return 1;
+    if (paused(60, 4, true, krylov, work, krylov_work) != HAZHENDU_RUN_ENDED)
+        return 1;
+    print_field(krylov);
 
     double moved_by[N];
     size_t action_work = hazhendu_action_work(N, ENTRIES, true);

@@ -2,7 +2,7 @@
  * Hazhendu: heat soak by phi-functions. The exported calls of the proved library for C and C++ on x86-64 Linux.
  *
  * `hosts/library` writes target/staticlib/libhazhendu.a, libhazhendu.so and hazhendu.pc for pkg-config; hosts/c/run shows how to link. Most
- * programs want the calls on structs at the end of this file: hazhendu_check, hazhendu_soak, hazhendu_act and their likes.
+ * programs want the calls on structs at the end of this file: hazhendu_check, hazhendu_soak, hazhendu_run_start, hazhendu_act and their likes.
  *
  *
  * WHAT IS COMPUTED
@@ -19,6 +19,8 @@
  *                                                                the same with the transposed matrix: -A, divided row by row by the mass if
  *                                                                there is one, then transposed. Which node moves a reading is one such soak
  *   hazhendu_join:                                               two matrices over the same rows, a barrel's and its mount's, as one
+ *   hazhendu_krylov_start, hazhendu_krylov_step:                 hazhendu_phi_combination_krylov one substep at a time, with the field to be looked
+ *                                                                at in between, and a new tol where one is wanted
  *
  * phi_0 is the exponential, and phi_k(z) = (phi_{k-1}(z) - 1/(k-1)!) / z. For heat, C dT/dt = -A T + q with T = T_0 at time 0, A in W/K,
  * the heat capacities C in J/K and the power q in W: the mass is C, w_0 = T_0, w_1 = q / C, and the sum is T at time tau. A power that
@@ -67,6 +69,21 @@
  *   t_cols, t_cols_len      at least as many as entries: its columns, which are the rows of A
  *   t_vals, t_vals_len      at least as many as entries: its entries, those of A or these divided by their row's mass
  *
+ * of a paused run, which is two slices of fixed length and the scaled field, all three the caller's:
+ *
+ *   field, field_len      n + count - 1 doubles: the start writes the scaled field here, each step goes on from it and writes it again
+ *   numbers, numbers_len  10 doubles, in the order of HAZHENDU_RUN_TIME and the names behind it
+ *   counts, counts_len    8 sizes, in the order of HAZHENDU_RUN_MATVECS and the names behind it
+ *   with_tol              of a step: whether it brings a new tol, which holds for it and the later ones; if not, tol is not looked at
+ *   tol                   as above, and like it relative to the norm of the start. m and the limit stay those of the start
+ *
+ * The start makes every check and no substep; a step makes one substep. numbers, counts and field go into each step as the last call left
+ * them; other contents get an answer or a refusal too, but not of any run. Matrix, mass, tau and vectors come again at each step. If they
+ * are the start's and no step brings a tol, the run ends with the bits and the report, or the refusal, of
+ * hazhendu_phi_combination_krylov. They may also be others of the same n and count, and the run goes on with them; the powers of two by
+ * which the start scaled vectors and field stay. A run has ended when its time is 1, when the norm of its field is 0, when its start was
+ * all zeros, or when it met 27, 28 or 29; 27 comes with the limit's last substep itself.
+ *
  * of a join:
  *
  *   n_a, starts_a, ..     the barrel, as n, starts, cols and vals above; in each row the columns rise strictly
@@ -80,7 +97,9 @@
  *
  *   value                 accepted: mu, the shift of the Taylor plan (0 for none), or Krylov's estimated error, relative to the same norm as
  *                         tol (the sum over the substeps, each with at least its round-off, (tau norm + 2) * 2^-52 of the state's norm: it
- *                         may exceed tol, and is mostly far above the actual error), or the norm of a matrix that is checked, or 0 of a join; refused: the refusal's double
+ *                         may exceed tol, and is mostly far above the actual error), or the norm of a matrix that is checked, or 0 of a join;
+ *                         of a paused run its estimated error, which is of the scaled start until a substep ends the run with a result (the reader
+ *                         hazhendu_run_estimate sees to it), 0 of its start; refused: the refusal's double
  *   row                   the first row whose sum is the norm, from 0; 0 if the matrix is refused
  *   entries               how many entries the result of a join has; 0 if it is refused
  *   s, plan_m             Taylor's plan: sweeps, and the degree to which each goes
@@ -98,27 +117,32 @@
  *
  * - A slice is a pointer and the number of its elements. The pointer must not be null and must be aligned for its element type, even if
  *   the length is 0; all elements of the length must be readable, those of out, work, the buffers for
- *   a transposed matrix and the result of a join writable too.
- * - out, work, the buffers, the result of a join and the places of the numbers told must overlap neither each other nor anything else that is handed in.
- * - with_mass and krylov are 0 or 1.
+ *   a transposed matrix, the field and state of a paused run and the result of a join writable too.
+ * - out, work, the buffers, field, numbers, counts, the result of a join and the places of the numbers told must overlap neither each other
+ *   nor anything else that is handed in.
+ * - with_mass, with_tol and krylov are 0 or 1.
  * - The floating-point environment is the one that a program begins with: rounding to nearest, no flush to zero, denormals not taken as
  *   zero, no exception unmasked. A program or a library built with -ffast-math changes it, and then answers differ and a subnormal mass is
  *   refused. hazhendu_enter and hazhendu_leave set it and put it back; the calls on structs do so themselves.
  *
  * Nothing else is asked: every input gets a result or a refusal, and no call allocates, stops the program or keeps anything. Calls in
  * several threads do not disturb each other. A call tells nothing before its end, and may take long (the process can be stopped at any time): Taylor makes s * m products with G,
- * Krylov at most (M + 1) * max_substeps. A join goes over both matrices a few times.
+ * Krylov at most (M + 1) * max_substeps, a step of a paused run at most M + 1. A join goes over both matrices a few times.
  *
  *
  * WHAT A CALL CHANGES
  *
  *   accepted           out is the answer; the needed length of work holds +0, the rest is unchanged
- *   refused, 1 to 26   out and work are unchanged, and so after 30 and 33
+ *   refused, 1 to 26   out and work are unchanged, and so after 30, 31 and 33
  *   refused, 27 to 29  out is the state after the last accepted substep, the needed length of work holds +0. If no substep was accepted
  *                      (28 or 29 in the first), out is w_0 scaled by a power of two and back: its numbers, but for those so small beside
  *                      the largest that the scaling makes them subnormal
  *   transposed         out and work as above. Refused by 1 to 6, 7 to 10 or, without a mass, 9 and 11 of A itself, or by 30: the buffers are
  *                      unchanged. Else, accepted or refused, their fronts hold the transposed matrix; places beyond it are unchanged
+ *   a paused run       out and work as above: after an accepted start, an accepted step and 27 to 29 out is the field so far, scaled back
+ *                      (of a start w_0, scaled and back), and the needed length of work holds +0. field, numbers and counts are written by
+ *                      these alone, after 28 and 29 as the last accepted substep left them but for the mark that the run has ended;
+ *                      1 to 26 and 31 leave all of it unchanged
  *   join, accepted     the fronts of starts, cols and vals are the result, places beyond it are unchanged
  *   join, refused      nothing is changed
  */
@@ -148,8 +172,10 @@ enum {
 
 /* Why a job or a join is refused, and the double reported with it. The checks of a job run in number order, but for 33 directly after 14;
    those of a transposed call are 1 to 6, with a mass 7 to 10, without one 9 and 11, then 30, then 11 for a column (of the transposed
-   matrix a row), then those of the job. Those of a join are 1 to 6 and 11 of the barrel, then of the mount, 34, 35 and 36, then 3 and 6 of the result. The first that holds is
-   told. */
+   matrix a row), then those of the job. A start has those of Krylov's whole call, then 26 for field, numbers or counts of another length.
+   A step has 31 first, then those of Krylov's whole call with the tol in force, the run's m and limit, a second 16 behind the first and the
+   start's scaling in 22, then 26 for field. Those of a join are 1 to 6 and 11 of the barrel, then of the mount, 34, 35 and 36, then 3 and 6
+   of the result. The first that holds is told. */
 enum hazhendu_refusal {
     HAZHENDU_ACCEPTED = 0,
 
@@ -173,7 +199,8 @@ enum hazhendu_refusal {
     HAZHENDU_INDEX_RANGE = 13,         /* k or p above 3                                        the index */
     HAZHENDU_TAU_RANGE = 14,           /* tau negative, infinite or NaN                         tau */
     HAZHENDU_OUTPUT_LENGTH = 15,       /* out is not n or (p + 1) * n long                      length of out */
-    HAZHENDU_VECTOR_LENGTH = 16,       /* w is not count * n long, or v not n                   length of w or v */
+    HAZHENDU_VECTOR_LENGTH = 16,       /* w is not count * n long, or v not n; a step: n or
+                                          count is another than the start's                     length of w or v */
     HAZHENDU_VECTOR_NOT_FINITE = 17,   /* a number in w or v is infinite or NaN                 the number */
     HAZHENDU_TOL_RANGE = 18,           /* tol not strictly between 0 and 1                      tol */
     HAZHENDU_NO_SUBSTEPS = 19,         /* max_substeps is 0                                     0 */
@@ -187,7 +214,8 @@ enum hazhendu_refusal {
     HAZHENDU_NO_PLAN = 25,             /* Taylor: above 4,294,967,295 sweeps up to the degree   2 (tau norm + 2) */
 
     /* the host */
-    HAZHENDU_WORK_LENGTH = 26,         /* work is too short                                     NaN */
+    HAZHENDU_WORK_LENGTH = 26,         /* work is too short; a paused run: field is not
+                                          n + count - 1 long; a start: numbers not 10, counts 8 NaN */
 
     /* Krylov's run */
     HAZHENDU_SUBSTEP_LIMIT = 27,       /* max_substeps made, and tau is not reached             estimated error so far, of the scaled start */
@@ -196,6 +224,10 @@ enum hazhendu_refusal {
 
     /* transposed: met behind the checks of the matrix and its mass, before 11 for a column */
     HAZHENDU_TRANSPOSED_LENGTH = 30,   /* t_starts, t_cols or t_vals is too short               NaN */
+
+    /* a step of a paused run: met before any other check */
+    HAZHENDU_RUN_ENDED = 31,           /* the run has ended; or numbers or counts are not what
+                                          any call left, of another length say                  NaN */
 
     /* the job: met between 14 and 15 */
     HAZHENDU_DEGREE_RANGE = 33,        /* Taylor: degree not 1 to 30                            NaN */
@@ -236,13 +268,19 @@ static inline size_t hazhendu_action_work(size_t n, size_t entries, bool with_ma
     return hazhendu_taylor_work(n, entries, with_mass, HAZHENDU_MAX_INDEX + 1);
 }
 
-/* For hazhendu_phi_combination_krylov, and for hazhendu_combine by Krylov. */
+/* For hazhendu_phi_combination_krylov, for hazhendu_combine by Krylov, and for the start and each step of a paused run. */
 static inline size_t hazhendu_krylov_work(size_t n, size_t entries, bool with_mass, size_t count, size_t m)
 {
     size_t M = hazhendu_dimension(n, count, m);
     if (!hazhendu_sizes_allowed(n, entries, count) || M > HAZHENDU_MAX_DIMENSION)
         return 0;
     return n + (M + 3) * (n + count - 1) + (M + 2) * (M + 2) + (with_mass ? entries : 0);
+}
+
+/* The scaled field of a paused run. */
+static inline size_t hazhendu_field(size_t n, size_t count)
+{
+    return hazhendu_sizes_allowed(n, 0, count) ? n + count - 1 : 0;
 }
 
 /* ---- the calls */
@@ -338,6 +376,70 @@ uint32_t hazhendu_combine(
     double *out, size_t out_len,
     double *work, size_t work_len,
     double *value, uint64_t *first, uint64_t *second, uint64_t *third, double *shortest, double *last);
+
+/* ---- a Krylov run that is paused after its start and after each substep */
+
+/* numbers: what they hold. Times and steps are parts of tau. */
+enum {
+    HAZHENDU_RUN_TIME,      /* how far the run is, 1 at the end */
+    HAZHENDU_RUN_NEXT,      /* the step that is proposed next */
+    HAZHENDU_RUN_ESTIMATE,  /* the estimated error, of the scaled start until a substep ends the run with a result */
+    HAZHENDU_RUN_SHORTEST,  /* the shortest substep accepted, 0 of none */
+    HAZHENDU_RUN_LAST,      /* the last one */
+    HAZHENDU_RUN_ETA,       /* the power of two by which the start scaled the further vectors */
+    HAZHENDU_RUN_DOWN,      /* that by which it scaled the field */
+    HAZHENDU_RUN_UP,        /* and that by which out is scaled back */
+    HAZHENDU_RUN_NORM,      /* the 2-norm of the scaled start */
+    HAZHENDU_RUN_TOL,       /* the tol in force */
+    HAZHENDU_RUN_NUMBERS_LEN
+};
+
+/* counts: what they hold. */
+enum {
+    HAZHENDU_RUN_MATVECS,   /* products with G */
+    HAZHENDU_RUN_SUBSTEPS,  /* substeps accepted */
+    HAZHENDU_RUN_REJECTED,  /* lengths rejected */
+    HAZHENDU_RUN_M,         /* the start's m */
+    HAZHENDU_RUN_LIMIT,     /* its max_substeps */
+    HAZHENDU_RUN_N,         /* its n */
+    HAZHENDU_RUN_COUNT,     /* its count */
+    HAZHENDU_RUN_OVER,      /* whether the run has ended, 0 or not */
+    HAZHENDU_RUN_COUNTS_LEN
+};
+
+/* Every check of hazhendu_phi_combination_krylov, and no substep. */
+uint32_t hazhendu_krylov_start(
+    size_t n,
+    const uint32_t *starts, size_t starts_len,
+    const uint32_t *cols, size_t cols_len,
+    const double *vals, size_t vals_len,
+    bool with_mass, const double *mass, size_t mass_len,
+    double tau,
+    size_t count, const double *w, size_t w_len,
+    double tol, size_t m, size_t max_substeps,
+    double *out, size_t out_len,
+    double *work, size_t work_len,
+    double *field, size_t field_len,
+    double *numbers, size_t numbers_len,
+    size_t *counts, size_t counts_len,
+    double *value);
+
+/* One substep of a run that was started. */
+uint32_t hazhendu_krylov_step(
+    size_t n,
+    const uint32_t *starts, size_t starts_len,
+    const uint32_t *cols, size_t cols_len,
+    const double *vals, size_t vals_len,
+    bool with_mass, const double *mass, size_t mass_len,
+    double tau,
+    size_t count, const double *w, size_t w_len,
+    bool with_tol, double tol,
+    double *out, size_t out_len,
+    double *work, size_t work_len,
+    double *field, size_t field_len,
+    double *numbers, size_t numbers_len,
+    size_t *counts, size_t counts_len,
+    double *value);
 
 /* ---- the transposed matrix, over lent buffers. Working memory is needed as for the call on the matrix itself. */
 
@@ -566,6 +668,71 @@ static inline uint32_t hazhendu_soak_transposed(const struct hazhendu_matrix *a,
     }
     hazhendu_leave(saved);
     return number;
+}
+
+/* A paused run. Its scaled field is the caller's, hazhendu_field(n, count) long, and comes back at each step as the last call left it. */
+struct hazhendu_run {
+    double numbers[HAZHENDU_RUN_NUMBERS_LEN];
+    size_t counts[HAZHENDU_RUN_COUNTS_LEN];
+    uint32_t refused; /* 27, 28 or 29 where that ended the run, else 0: hazhendu_run_start and hazhendu_run_step see to it */
+};
+
+/* Every check of a soak by Krylov, and no substep: out is the start. value is the refusal's double, or 0. */
+static inline uint32_t hazhendu_run_start(struct hazhendu_run *run, const struct hazhendu_matrix *a, double tau, size_t count, const double *w,
+    const struct hazhendu_options *o, double *out, double *work, size_t work_len, double *field, double *value)
+{
+    uint32_t saved = hazhendu_enter();
+    uint32_t number = hazhendu_krylov_start(HAZHENDU_MATRIX(a), tau, count, w, count * a->n, o->tol, o->m, o->max_substeps, out, a->n, work, work_len,
+        field, hazhendu_field(a->n, count), run->numbers, HAZHENDU_RUN_NUMBERS_LEN, run->counts, HAZHENDU_RUN_COUNTS_LEN, value);
+    hazhendu_leave(saved);
+    if (number == HAZHENDU_ACCEPTED)
+        run->refused = HAZHENDU_ACCEPTED;
+    return number;
+}
+
+/* One substep: out is the field so far. tol points to a new tolerance for this step and the later ones, or is null. */
+static inline uint32_t hazhendu_run_step(struct hazhendu_run *run, const struct hazhendu_matrix *a, double tau, size_t count, const double *w,
+    const double *tol, double *out, double *work, size_t work_len, double *field, double *value)
+{
+    uint32_t saved = hazhendu_enter();
+    uint32_t number = hazhendu_krylov_step(HAZHENDU_MATRIX(a), tau, count, w, count * a->n, tol != NULL, tol ? *tol : 0, out, a->n, work, work_len, field,
+        hazhendu_field(run->counts[HAZHENDU_RUN_N], run->counts[HAZHENDU_RUN_COUNT]), run->numbers, HAZHENDU_RUN_NUMBERS_LEN, run->counts,
+        HAZHENDU_RUN_COUNTS_LEN, value);
+    hazhendu_leave(saved);
+    if (number == HAZHENDU_SUBSTEP_LIMIT || number == HAZHENDU_LENGTHS_REJECTED || number == HAZHENDU_NO_INNER_PLAN)
+        run->refused = number;
+    return number;
+}
+
+/* How far the run is, as a part of tau. */
+static inline double hazhendu_run_time(const struct hazhendu_run *run)
+{
+    return run->numbers[HAZHENDU_RUN_TIME];
+}
+
+static inline bool hazhendu_run_ended(const struct hazhendu_run *run)
+{
+    return run->counts[HAZHENDU_RUN_OVER] != 0;
+}
+
+/* The estimated error so far, relative to the norm of the start: that of a run that ended with a result is relative already. */
+static inline double hazhendu_run_estimate(const struct hazhendu_run *run)
+{
+    double estimate = run->numbers[HAZHENDU_RUN_ESTIMATE];
+    return hazhendu_run_ended(run) && run->refused == HAZHENDU_ACCEPTED ? estimate : estimate / run->numbers[HAZHENDU_RUN_NORM];
+}
+
+/* What the run has cost so far. */
+static inline struct hazhendu_report hazhendu_run_report(const struct hazhendu_run *run)
+{
+    struct hazhendu_report report = hazhendu_no_report();
+    report.value = hazhendu_run_estimate(run);
+    report.applications = run->counts[HAZHENDU_RUN_MATVECS];
+    report.substeps = run->counts[HAZHENDU_RUN_SUBSTEPS];
+    report.rejected = run->counts[HAZHENDU_RUN_REJECTED];
+    report.shortest = run->numbers[HAZHENDU_RUN_SHORTEST];
+    report.last = run->numbers[HAZHENDU_RUN_LAST];
+    return report;
 }
 
 /* phi_k(tau G) v, by Taylor; work as hazhendu_action_work says. */

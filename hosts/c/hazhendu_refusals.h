@@ -59,7 +59,7 @@ static inline const char *hazhendu_refusal_text(uint32_t number)
     case 25:
         return "Taylor has no plan up to the highest degree: it would need more than 4,294,967,295 sweeps";
     case 26:
-        return "the working memory is too short";
+        return "the working memory is too short, or the field of a paused run has the wrong length";
     case 27:
         return "the limit of substeps is used up before tau is reached";
     case 28:
@@ -68,6 +68,8 @@ static inline const char *hazhendu_refusal_text(uint32_t number)
         return "the small exponential of a substep has no plan";
     case 30:
         return "a buffer for the transposed matrix is too short";
+    case 31:
+        return "the paused run has ended";
     case 33:
         return "the highest degree is not from 1 to 30";
     case 34:
@@ -145,6 +147,8 @@ static inline const char *hazhendu_refusal_value(uint32_t number)
         return "its argument";
     case 30:
         return "";
+    case 31:
+        return "";
     case 33:
         return "";
     case 34:
@@ -195,7 +199,7 @@ static inline const char *hazhendu_refusal_change(uint32_t number)
     case 15:
         return "lend n numbers, for a batch (p + 1) * n";
     case 16:
-        return "give n numbers in each vector for a matrix of n rows";
+        return "give n numbers in each vector for a matrix of n rows, and to a paused run as many rows and vectors as at its start";
     case 17:
         return "give finite vectors";
     case 18:
@@ -222,6 +226,8 @@ static inline const char *hazhendu_refusal_change(uint32_t number)
         return "shorten tau, check its units, or take the Taylor solver";
     case 30:
         return "lend n + 1 row starts, and a column and an entry for each entry of the matrix";
+    case 31:
+        return "take the field that it left, or start another run";
     case 33:
         return "take 30, or a lower one if high degrees lose digits: 25 costs about 1.2 times the products of 30, 20 about 1.6 times";
     case 34:

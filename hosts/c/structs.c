@@ -47,6 +47,39 @@ static void soaks(void)
     expect(hazhendu_soak(&a, -1, COUNT, w, &options, out, work, WORK, &report) == HAZHENDU_TAU_RANGE && report.value == -1, "a refusal");
 }
 
+/* A run with a small m, in steps: as the whole call; a new tol; what ends a run, and a step beyond. */
+static void runs(void)
+{
+    struct hazhendu_report report, told;
+    struct hazhendu_options options = hazhendu_by_krylov();
+    struct hazhendu_run run;
+    const double tighter = 1e-13, wrong = 1;
+    double field[N + COUNT - 1], value;
+    options.m = 3;
+    options.tol = 1e-6;
+    uint32_t number = hazhendu_soak(&a, 60, COUNT, w, &options, out, work, WORK, &report);
+    expect(number == 0 && report.substeps > 10, "a soak in many substeps");
+    expect(hazhendu_field(N, COUNT) == N + COUNT - 1 && hazhendu_field(N, 0) == 0, "hazhendu_field");
+    expect(hazhendu_run_start(&run, &a, 60, COUNT, w, &options, again, work, WORK, field, &value) == 0, "hazhendu_run_start");
+    expect(!hazhendu_run_ended(&run) && hazhendu_run_time(&run) == 0 && memcmp(again, w, N * sizeof *w) == 0, "its state");
+    expect(hazhendu_run_step(&run, &a, 60, COUNT, w, &wrong, again, work, WORK, field, &value) == HAZHENDU_TOL_RANGE && value == 1, "a wrong tol");
+    expect(hazhendu_run_report(&run).substeps == 0 && hazhendu_run_time(&run) == 0, "an early refusal leaves the run");
+    while (!hazhendu_run_ended(&run))
+        expect(hazhendu_run_step(&run, &a, 60, COUNT, w, NULL, again, work, WORK, field, &value) == 0, "hazhendu_run_step");
+    told = hazhendu_run_report(&run);
+    expect(memcmp(out, again, N * sizeof *out) == 0 && memcmp(&told, &report, sizeof told) == 0, "a run in steps is the whole call");
+    expect(hazhendu_run_step(&run, &a, 60, COUNT, w, NULL, again, work, WORK, field, &value) == HAZHENDU_RUN_ENDED, "a run that has ended");
+
+    options.max_substeps = 3;
+    expect(hazhendu_soak(&a, 60, COUNT, w, &options, out, work, WORK, &report) == HAZHENDU_SUBSTEP_LIMIT, "27");
+    expect(hazhendu_run_start(&run, &a, 60, COUNT, w, &options, again, work, WORK, field, &value) == 0, "hazhendu_run_start");
+    for (number = 0; number == 0;)
+        number = hazhendu_run_step(&run, &a, 60, COUNT, w, hazhendu_run_time(&run) == 0 ? NULL : &tighter, again, work, WORK, field, &value);
+    expect(number == HAZHENDU_SUBSTEP_LIMIT && hazhendu_run_ended(&run) && run.counts[HAZHENDU_RUN_SUBSTEPS] == 3, "the limit in steps");
+    expect(run.numbers[HAZHENDU_RUN_TOL] == tighter && hazhendu_run_time(&run) > 0 && hazhendu_run_time(&run) < 1, "its new tol and its time");
+    expect(hazhendu_run_estimate(&run) == value / run.numbers[HAZHENDU_RUN_NORM], "its estimate");
+}
+
 static void others(void)
 {
     struct hazhendu_report report;
@@ -75,6 +108,7 @@ static void in_environment(uint32_t state, const char *what)
     expect(!hazhendu_environment_is_usual(), what);
     expect(hazhendu_soak(&a, 60, COUNT, w, &options, again, work, WORK, &report) == 0 && memcmp(again, usual, sizeof usual) == 0, what);
     others();
+    runs();
     expect((_mm_getcsr() & ~(unsigned)HAZHENDU_EXCEPTION_FLAGS) == state, "the environment is put back");
     _mm_setcsr(before);
 }
@@ -82,6 +116,7 @@ static void in_environment(uint32_t state, const char *what)
 int main(void)
 {
     soaks();
+    runs();
     others();
     in_environment(0x5f80, "rounding up");
     in_environment(0x9fc0, "flush to zero");

@@ -113,6 +113,78 @@ class Soaks(unittest.TestCase):
         self.assertEqual((again.number, str(again)), (27, str(refused)))
 
 
+class PausedRuns(unittest.TestCase):
+    def setUp(self):
+        self.a, self.mass = plate(6)
+        self.vectors = [np.cos(np.arange(36.0)), np.sin(np.arange(36.0))]
+        self.job = (self.a, 30.0, self.vectors, self.mass)
+
+    def test_unchanged_it_is_the_whole_call(self):
+        whole = hazhendu.soak(*self.job, solver="krylov", m=6, tol=1e-8)
+        moments = list(hazhendu.Paused(*self.job, m=6, tol=1e-8))
+        self.assertEqual((moments[0].time, moments[0].report.substeps, moments[0].ended), (0.0, 0, False))
+        np.testing.assert_array_equal(moments[0].field, self.vectors[0])
+        self.assertEqual((moments[-1].time, moments[-1].report, moments[-1].ended), (1.0, whole.report, True))
+        np.testing.assert_array_equal(moments[-1].field, whole.field)
+        self.assertEqual([moment.report.substeps for moment in moments], list(range(len(moments))))
+        times = [moment.time for moment in moments]
+        self.assertTrue(all(a < b for a, b in zip(times, times[1:])))
+        finished = hazhendu.Paused(*self.job, m=6, tol=1e-8).finish()
+        self.assertEqual(finished.report, whole.report)
+
+    def test_tightened_half_way(self):
+        run = hazhendu.Paused(*self.job, m=6, tol=1e-4)
+        for moment in run:
+            if moment.time >= 0.5 and moment.tol == 1e-4:
+                run.tighten(1e-10)
+        loose, tight = (hazhendu.soak(*self.job, solver="krylov", m=6, tol=tol).report.substeps for tol in (1e-4, 1e-10))
+        self.assertTrue(loose < moment.report.substeps < tight)
+        self.assertEqual((moment.tol, moment.time), (1e-10, 1.0))
+
+    def test_refusals_leave_the_run(self):
+        run = hazhendu.Paused(*self.job, m=6, tol=1e-8)
+        before = run.step()
+        small = (np.array([[0.5, -0.5], [-0.5, 0.6]]), None, [[1.0, 2.0], [3.0, 4.0]])
+        for words, number in (((None, -1.0), 14), (small, 16), ((None, None, self.vectors[:1]), 16), ((None, None, []), 12)):
+            with self.assertRaises(hazhendu.Refused) as caught:
+                run.step(*words)
+            self.assertEqual(caught.exception.number, number)
+        run.tighten(2.0)
+        with self.assertRaises(hazhendu.Refused) as caught:
+            run.step()
+        self.assertEqual((caught.exception.number, caught.exception.value), (18, 2.0))
+        np.testing.assert_array_equal(run.moment.field, before.field)
+        self.assertEqual((run.moment.report, run.moment.tol, run.time), (before.report, 1e-8, before.time))
+        whole = hazhendu.soak(*self.job, solver="krylov", m=6, tol=1e-8)
+        np.testing.assert_array_equal(run.finish().field, whole.field)
+        with self.assertRaises(hazhendu.Refused) as caught:
+            run.step()
+        self.assertEqual((caught.exception.number, caught.exception.wrong), (31, "the paused run has ended"))
+
+    def test_the_limit_and_zeros(self):
+        run = hazhendu.Paused(*self.job, m=3, limit=4)
+        with self.assertRaises(hazhendu.Refused) as caught:
+            for moment in run:
+                pass
+        self.assertEqual((caught.exception.number, moment.report.substeps, run.moment.report.substeps), (27, 3, 4))
+        np.testing.assert_array_equal(caught.exception.state, run.moment.field)
+        with self.assertRaises(hazhendu.Refused) as again:
+            run.finish()
+        self.assertEqual(again.exception.number, 27)
+        (moment,) = hazhendu.Paused(self.a, 30.0, [np.zeros(36)])
+        self.assertEqual((moment.ended, moment.time, moment.report.substeps, moment.report.estimated_error), (True, 0.0, 0, 0.0))
+        with self.assertRaises(hazhendu.Refused):
+            hazhendu.Paused(self.a, -1.0, self.vectors)
+
+    def test_another_job_goes_on_from_the_field(self):
+        run = hazhendu.Paused(self.a, 30.0, [self.vectors[0], np.ones(36)], self.mass, m=6, tol=1e-8)
+        off = [self.vectors[0], np.zeros(36)]
+        while not run.ended:
+            run.step(vectors=off if run.time >= 0.5 else None)
+        on, never = (hazhendu.soak(self.a, 30.0, [self.vectors[0], heat], self.mass, solver="krylov").field for heat in (np.ones(36), np.zeros(36)))
+        self.assertTrue(never.sum() < run.moment.field.sum() < on.sum())
+
+
 class Refusals(unittest.TestCase):
     A = np.array([[0.5, -0.5], [-0.5, 0.6]])
 

@@ -1,13 +1,16 @@
-//! Links target/staticlib/libexports.a and libexports_transposed.a; hosts/library writes them if they are missing or older than their
-//! sources.
+//! Links the proved code, target/staticlib/libexports.a, libexports_transposed.a and libexports_paused.a; hosts/library writes what is
+//! missing or older than its sources.
 
 use std::path::Path;
 use std::process::{exit, Command};
 
+const PROVED: [&str; 3] = ["exports", "exports_transposed", "exports_paused"];
+
 fn main() {
     let root = Path::new(env!("CARGO_MANIFEST_DIR")).join("../..");
     let folder = root.join("target/staticlib");
-    for source in ["crates", "crates.txt", "target/staticlib/libexports.a", "target/staticlib/libexports_transposed.a"] {
+    let archives = PROVED.map(|name| format!("target/staticlib/lib{name}.a"));
+    for source in archives.iter().map(String::as_str).chain(["crates", "crates.txt"]) {
         println!("cargo:rerun-if-changed={}", root.join(source).display());
     }
     if !Command::new("sh").arg(root.join("hosts/library")).status().is_ok_and(|status| status.success()) {
@@ -15,6 +18,7 @@ fn main() {
         exit(1);
     }
     println!("cargo:rustc-link-search=native={}", folder.display());
-    println!("cargo:rustc-link-lib=static=exports");
-    println!("cargo:rustc-link-lib=static=exports_transposed");
+    for name in PROVED {
+        println!("cargo:rustc-link-lib=static={name}");
+    }
 }

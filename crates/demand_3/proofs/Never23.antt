@@ -25,7 +25,7 @@ use Rattle.phi_krylov.specs.KrylovCall.{bound, dimension, option-checks, bound-
 use Rattle.phi_krylov.specs.declared.KrylovPhiOptions.{KrylovPhiOptions}
 
 -- what 23 was
-abbrev check-23 : Generator → Check
+abbrev pub check-23 : Generator → Check
 check-23 g = refuse 23 (out-of-range (row-sum-norm (g .matrix))) (row-sum-norm (g .matrix))
 
 -- ---- a generator whose norm is in range where its checks pass, and none of whose checks is numbered 23

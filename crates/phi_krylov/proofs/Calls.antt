@@ -1,6 +1,7 @@
 -- What the checks of a Krylov combination leave, and what its answer is. Assumes nothing.
 use mathlib.Core.Path.{_≡_, refl, sym, ap, _∙_}
-use mathlib.Core.List.{List, _++_}
+use mathlib.Core.Bool.{true}
+use mathlib.Core.List.{List, [], _∷_, _++_, append-assoc}
 use Prim.Native.Nat.{ℕ, _+_, _-_, _*_, _≤_}
 use native.Mathlib.Omega.{arith}
 use lib.Dec.{ltb}
@@ -10,13 +11,13 @@ use borrow.Author.Tests.{ltb-false}
 use Rattle.lists.specs.Window.{window, splice}
 use Rattle.lists.proofs.Bounds.{column-within}
 use Rattle.lists.proofs.Window.{window-splice-same}
-use Rattle.checks.specs.First.{Check, first}
+use Rattle.checks.specs.First.{Check, refuse, first}
 use Rattle.checks.proofs.First.{sound-cons, sound-append, sound-on, refused-up}
 use Rattle.checks.specs.declared.Checked.{Checked}
 use Rattle.checks.specs.declared.Checked.the-variants.{Sound, Refused}
 use Rattle.general_operator.specs.Csr.{Csr, csr}
 use Rattle.general_operator.proofs.Sound.{or-false}
-use Rattle.generator_action.specs.Mass.{given}
+use Rattle.generator_action.specs.Mass.{given, quotients}
 use Rattle.generator_action.specs.Generator.{Generator}
 use Rattle.generator_action.specs.Known.{Passed}
 use Rattle.generator_action.specs.declared.Shape.{Shape}
@@ -24,19 +25,21 @@ use Rattle.pow2.specs.declared.Scaling.{Scaling}
 use Rattle.phi_action_helpers.specs.Augmented.{augmented}
 use Rattle.combination.specs.Combination.{further, eta-of, combination-operator, combination-start}
 use Rattle.combination.specs.Call.{Call, ends, cleared}
-use Rattle.combination.specs.Checks.{time-checks, vector-checks, magnitude-checks}
+use Rattle.combination.specs.Checks.{count-checks, time-checks, length-checks, finite-checks, vector-checks-by, vector-checks, magnitude-checks}
 use Rattle.combination.specs.Inner.{matrix-of, after-checks}
-use Rattle.combination.proofs.Admitted.{coupled-in, enough-known, length-start}
+use Rattle.combination.proofs.Admitted.{Vectors, vectors-known, first-within, further-within, coupled-in, enough-known, length-start}
+use Rattle.combination.proofs.Further.{length-further}
 use Rattle.combination.proofs.Stored.{quotients-rows, clear-over}
 use Rattle.combination.proofs.Ends.{refused-by, runs}
 use Rattle.arnoldi.specs.declared.Krylov.{Krylov}
 use Rattle.phi_krylov_arnoldi.specs.Run.{End, finished, refused, clamp-m}
 use Rattle.phi_krylov.specs.KrylovCall.{bound, dimension, option-checks, bound-checks, run-checks, krylov-need, krylov-checks-by, krylov-checks, after-run, combination-run-krylov, phi-combination-krylov}
-use Rattle.phi_krylov.specs.Inner.{run-job-by, run-job, Allowed, run-of}
+use Rattle.phi_krylov.specs.Inner.{scaling-by, scaling-of, run-job-by, checks-after, Admitted, Allowed, run-of}
 use Rattle.phi_krylov.specs.declared.KrylovAnswer.{KrylovAnswer}
 use Rattle.phi_krylov.specs.declared.KrylovAnswer.the-variants.{Refusal}
 use Rattle.phi_krylov.specs.declared.KrylovPhiOptions.{KrylovPhiOptions}
 use Rattle.phi_krylov.specs.declared.RunJob.{RunJob}
+use Rattle.phi_krylov.specs.declared.Eta.the-variants.{Own}
 use Rattle.phi_krylov.proofs.Places.{clamp-twice, expv-clamped}
 
 -- ---- what 18 to 22, 24 and 26 tell
@@ -59,6 +62,82 @@ field-needed {j = j} al =
     let o = column-within (j .k .m + 2) (j .k .m + 3) (j .g .n + j .d) (omega arith) in
     omega (arith, y-is, o, al .needed)
 
+-- ---- what all checks after those of the generator tell
+-- an answer is that of some checks
+abbrev pub alone : Checked → List Check
+alone Sound = []
+alone (Refused k x) = refuse k true x ∷ []
+
+pub alone-told : (r : Checked) → r ≡ first (alone r)
+unfolding first
+alone-told Sound = refl
+alone-told (Refused k x) = refl
+
+-- what stands between 16 and 17 passed, and so did 12 to 17 without it
+pub vectors-alone : (n : ℕ) (ts os : List Check) (count : ℕ) (w : List Float) (output : ℕ) → Sound ≡ first (vector-checks-by ts (length-checks output n (length w) (count * n) ++ os) count w)
+    → Vectors n count (length w) output × (Sound ≡ first os)
+unfolding vector-checks vector-checks-by
+vectors-alone n ts os count w output e =
+    let ls = length-checks output n (length w) (count * n) in
+    let c = sound-append (count-checks count) _ e in
+    let t = sound-append ts _ (c .1) in
+    let l = sound-append (ls ++ os) (finite-checks w) (t .1) in
+    let o = sound-append ls os (l .0) in
+    (vectors-known n ts count w output refl (sound-on (count-checks count) _ refl (c .0) (sound-on ts _ refl (t .0) (sound-on ls _ refl (o .0) (l .1)))), o .1)
+
+-- the answer of 12 to 20, and then of the rest
+module _ (g : Shape) (tau : Float) (count : ℕ) (w : List Float) (o : KrylovPhiOptions) (output : ℕ) (os : List Check) {early : Checked}
+    (told : early ≡ first (vector-checks-by (time-checks tau) (length-checks output (g .n) (length w) (count * g .n) ++ os) count w ++ option-checks o (dimension (g .n) (count - 1) (o .m)))) where
+  pub early-known : early ≡ Sound → Vectors (g .n) count (length w) output × (dimension (g .n) (count - 1) (o .m) ≤ 128)
+  early-known e =
+      let v = sound-append _ (option-checks o (dimension (g .n) (count - 1) (o .m))) (sym e ∙ told) in
+      (vectors-alone (g .n) (time-checks tau) os count w output (v .0) .0, options-known o _ refl (v .1) .0)
+
+  pub refused-early : (eta : Scaling) (memory : ℕ) {j : RunJob} {k : ℕ} {x : Float} → early ≡ Refused k x → j .checked ≡ early
+      → Admitted g tau count w eta o (length-checks output (g .n) (length w) (count * g .n) ++ os) memory j
+  unfolding checks-after
+  refused-early eta memory {j} e ej =
+      record {
+        told = ej ∙ refused-up _ _ e told ∙ ap first (append-assoc (vector-checks-by (time-checks tau) (length-checks output (g .n) (length w) (count * g .n) ++ os) count w) _ _);
+        is = λ s. let never : Sound ≡ Refused _ _ = sym s ∙ ej ∙ e in cc;
+      }
+
+  pub admitted : (eta : Scaling) (memory : ℕ) {j : RunJob} → early ≡ Sound
+      → j ≡ run-job-by g tau (count - 1) (further (g .n) w) eta o (dimension (g .n) (count - 1) (o .m)) memory
+      → Admitted g tau count w eta o (length-checks output (g .n) (length w) (count * g .n) ++ os) memory j
+  unfolding checks-after
+  admitted eta memory {j} e ej =
+      record {
+        told = sound-on _ _ e told (ap (λ (x : RunJob). x .checked) ej) ∙ ap first (append-assoc (vector-checks-by (time-checks tau) (length-checks output (g .n) (length w) (count * g .n) ++ os) count w) _ _);
+        is = λ _. ej;
+      }
+
+pub record Known (g : Shape) (tau : Float) (count : ℕ) (w : List Float) (eta : Scaling) (o : KrylovPhiOptions) (output : ℕ) (os : List Check) (memory : ℕ) (j : RunJob) : Type 0 where
+  pub is : j ≡ run-job-by g tau (count - 1) (further (g .n) w) eta o (dimension (g .n) (count - 1) (o .m)) memory
+  pub vectors : Vectors (g .n) count (length w) output
+  pub options : (dimension (g .n) (count - 1) (o .m) ≤ 128) × (o .«max_substeps» ≤ 1000000)
+  pub others : Sound ≡ first os
+  pub enough : j .need ≤ memory
+
+pub known : {g : Shape} {tau : Float} {count : ℕ} {w : List Float} {eta : Scaling} {o : KrylovPhiOptions} {output : ℕ} {os : List Check} {memory : ℕ} {j : RunJob}
+    → Admitted g tau count w eta o (length-checks output (g .n) (length w) (count * g .n) ++ os) memory j
+    → j .checked ≡ Sound
+    → Known g tau count w eta o output os memory j
+unfolding checks-after
+known {g} {tau} {count} {w} {eta} {o} {output} {os} {memory} {j} ad e =
+    let is = ad .is e in
+    let M = dimension (g .n) (count - 1) (o .m) in
+    let v = sound-append (vector-checks-by (time-checks tau) (length-checks output (g .n) (length w) (count * g .n) ++ os) count w) _ (sym e ∙ ad .told) in
+    let p = sound-append (option-checks o M) _ (v .1) in
+    let a = vectors-alone (g .n) (time-checks tau) os count w output (v .0) in
+    record {
+      is = is;
+      vectors = a .0;
+      options = options-known o M refl (p .0);
+      others = a .1;
+      enough = omega (arith, ap (λ (x : RunJob). x .need) is, run-known (g .n) tau (count - 1) (further (g .n) w) (eta .eta) _ memory _ (p .1));
+    }
+
 module _
     {starts cols : List ℕ}
     {vals : List Float}
@@ -66,37 +145,31 @@ module _
     {g : Shape}
     (ok : Passed (csr (g .n) starts cols vals) (given (g .«with_mass») mass) g)
     {tau : Float}
-    {d : ℕ}
-    (f : List Float)
-    (eta : Scaling)
-    (o : KrylovPhiOptions)
-    {M memory : ℕ}
+    {count : ℕ}
+    {w : List Float}
+    {eta : Scaling}
+    {o : KrylovPhiOptions}
+    {output : ℕ}
+    {os : List Check}
+    {memory : ℕ}
     {j : RunJob}
-    (few : d ≤ 3)
-    (fits : d * g .n ≤ length f)
-    (h : (M ≤ 128) × (o .«max_substeps» ≤ 1000000))
-    (em : M ≡ clamp-m (o .m) (g .n + d))
-    (ej : j ≡ run-job-by g tau d f eta o M memory)
-    (e : j .checked ≡ Sound) where
-  pub allowed : Allowed starts cols vals mass j (length f) memory
+    (k : Known g tau count w eta o output os memory j) where
+  pub allowed : Allowed starts cols vals mass j (length (further (g .n) w)) memory
+  unfolding dimension
   allowed =
-      rw ej
+      let few : count - 1 ≤ 3 = omega (arith, k .vectors .most) in
+      let enough = k .enough in
+      rw (k .is)
       (record {
         passed = ok;
-        coupled = coupled-in (g .n) d (length f) _ fits few;
+        coupled = coupled-in (g .n) (count - 1) (length (further (g .n) w)) _ (rw length-further (further-within (k .vectors))) few;
         placed = refl;
-        small = h .0;
-        clamped = rw em (clamp-twice (o .m) (g .n + d));
-        limited = h .1;
+        small = k .options .0;
+        clamped = clamp-twice (o .m) (g .n + (count - 1));
+        limited = k .options .1;
         needed = refl;
-        enough = run-known (g .n) tau d f (eta .eta) _ memory _ (sym e ∙ ap (λ (x : RunJob). x .checked) ej);
+        enough = rw (k .is) at enough;
       })
-
-  pub start-fits : j .k .y + (g .n + d) ≤ memory
-  start-fits = omega (arith, rw ej at (field-needed allowed), ap (λ (x : RunJob). x .k .y) ej, ap (λ (x : RunJob). x .need) ej, allowed .enough)
-
-  pub runs-job : {long output : ℕ} → long ≡ memory → output ≡ g .n → Allowed starts cols vals mass j (length f) long × (output ≡ j .g .n)
-  runs-job l out = (rw l allowed, rw ej out)
 
 -- ---- it is cleared with that part
 after-cleared : (n need : ℕ) (w₀ w₁ : List Float) (e : End) → cleared need w₁ ≡ cleared need w₀ → after-run n need w₁ e ≡ after-run n need w₀ e
@@ -129,61 +202,54 @@ module _
     (gs : List Check)
     (sound : Sound ≡ first gs)
     (tau : Float)
-    (o : KrylovPhiOptions)
-    (w₀ : List Float) where
+    (count : ℕ)
+    (w : List Float)
+    (o : KrylovPhiOptions) where
   abbrev generator : Generator
   generator = after-checks gs (csr (g .n) starts cols vals) (given (g .«with_mass») mass) g
 
   rows : generator .matrix .n ≡ g .n
   rows = quotients-rows (csr (g .n) starts cols vals) (given (g .«with_mass») mass)
 
-  -- a run that passed: w_0 is the first n values of v, w_1 to w_d are f
-  pub ran : (d : ℕ) (v f : List Float) {M : ℕ} {j : RunJob} {c : Call KrylovAnswer} {w₁ : List Float} → d ≤ 3 → g .n ≤ length v → d * g .n ≤ length f → (M ≤ 128) × (o .«max_substeps» ≤ 1000000)
-      → M ≡ clamp-m (o .m) (g .n + d)
-      → j ≡ run-job g tau d f o M (length w₀)
-      → j .checked ≡ Sound
-      → w₁ ≡ splice (j .k .y) (combination-start (g .n) v d (j .inv)) w₀
-      → c ≡ after-run (j .g .n) (j .need) w₁ (run-of j (matrix-of (j .g) starts cols vals mass) f (window (j .k .y) (j .g .n + j .d) w₁))
-      → c ≡ combination-run-krylov generator tau d v f o w₀
-  unfolding combination-run-krylov combination-operator dimension
-  ran d v f {M} few l fits h em ej e e₁ r =
-      let J = run-job g tau d f o M (length w₀) in
-      let q = generator .matrix in
-      let al = allowed mass ok f (eta-of (g .n) f tau d) o few fits h em ej e in
-      let y = combination-start (g .n) v d (J .inv) in
-      let ly = length-start (g .n) v d (J .inv) l in
-      let B = augmented q d f (J .b .places) (J .b .gains) (J .b .count) in
-      let clamped = rw (ly, ← em) at (expv-clamped B tau (J .k .anorm) (o .tol) (o .m) (o .«max_substeps») y) in
-      (rw ej at r) ∙ run-from q f y w₀ (rw ej at al) ly (rw ej at e₁) ∙ ap (after-run (g .n) (J .need) w₀) clamped ∙ rw (← (ok .norm), rows, ← em) refl
+  -- 12 to 26 are then all checks
+  pub all-checks : (eta : Float) (ls : List Check) (memory : ℕ) {r : Checked} → r ≡ first (checks-after g tau count w eta o ls memory) → r ≡ first (krylov-checks-by generator tau count w eta ls o memory)
+  unfolding checks-after krylov-checks-by
+  all-checks eta ls memory e = sound-on gs _ refl sound (rw (← (ok .norm), rows) e)
 
-  -- ---- a call
-  module _ (count : ℕ) (w out : List Float) {v : Checked} (fv : v ≡ first (vector-checks (g .n) (time-checks tau) count w (length out))) where
-    pub refused-vectors : {k : ℕ} {x : Float} → v ≡ Refused k x → ends (Refusal k x) out w₀ ≡ phi-combination-krylov generator tau count w o out w₀
-    unfolding phi-combination-krylov krylov-checks krylov-checks-by vector-checks
-    refused-vectors e = refused-by Refusal _ out w₀ _ e (sound-on gs _ refl sound (rw rows (refused-up (vector-checks (g .n) (time-checks tau) count w (length out)) _ e fv)))
+  -- a job with nothing between 16 and 17, by its own eta
+  module _ (out w₀ : List Float) {j : RunJob} (ad : Admitted g tau count w (scaling-of g tau count w Own) o (length-checks (length out) (g .n) (length w) (count * g .n) ++ []) (length w₀) j) where
+    pub job-told : j .checked ≡ first (krylov-checks generator tau count w o (length out) (length w₀))
+    unfolding krylov-checks length-checks scaling-by eta-of quotients
+    job-told = rw rows (all-checks (scaling-of g tau count w Own .eta) (length-checks (length out) (g .n) (length w) (count * g .n)) (length w₀) (ad .told))
 
-    -- 12 to 17 passed
-    module _ (ev : v ≡ Sound) {M : ℕ} (em : M ≡ clamp-m (o .m) (g .n + (count - 1))) {p : Checked} (fp : p ≡ first (option-checks o M)) where
-      told : {r : Checked}
-          → r ≡ first (option-checks o M ++ run-checks (g .n) tau (count - 1) (further (g .n) w) (eta-of (g .n) (further (g .n) w) tau (count - 1) .eta) (bound tau (g .norm)) (length w₀) (krylov-need (g .n) (count - 1) M (g .stored)))
-          → r ≡ first (krylov-checks generator tau count w o (length out) (length w₀))
-      unfolding krylov-checks krylov-checks-by vector-checks dimension
-      told f = sound-on gs _ refl sound (rw (← (ok .norm), rows) (sound-on (vector-checks (g .n) (time-checks tau) count w (length out)) _ ev fv (rw (← em) f)))
+    pub refused-run : {k : ℕ} {x : Float} → j .checked ≡ Refused k x → ends (Refusal k x) out w₀ ≡ phi-combination-krylov generator tau count w o out w₀
+    unfolding phi-combination-krylov
+    refused-run e = refused-by Refusal _ out w₀ _ e job-told
 
-      pub refused-options : {k : ℕ} {x : Float} → p ≡ Refused k x → ends (Refusal k x) out w₀ ≡ phi-combination-krylov generator tau count w o out w₀
-      unfolding phi-combination-krylov
-      refused-options e = refused-by Refusal _ out w₀ _ e (told (refused-up (option-checks o M) _ e fp))
+    module _ (e : j .checked ≡ Sound) where
+      k : Known g tau count w (scaling-of g tau count w Own) o (length out) [] (length w₀) j
+      k = known ad e
 
-      -- 18 to 20 passed
-      module _ (ep : p ≡ Sound) {j : RunJob} (ej : j ≡ run-job g tau (count - 1) (further (g .n) w) o M (length w₀)) where
-        job-told : j .checked ≡ first (krylov-checks generator tau count w o (length out) (length w₀))
-        job-told = told (sound-on (option-checks o M) _ ep fp (ap (λ (x : RunJob). x .checked) ej))
+      pub start-fits : (g .n ≤ length w) × (j .k .y + (g .n + j .d) ≤ length w₀)
+      start-fits =
+          let al = allowed mass ok k in
+          (first-within (k .vectors), omega (arith, field-needed al, al .enough, ap (λ (x : RunJob). x .g .n) (k .is)))
 
-        pub refused-run : {k : ℕ} {x : Float} → j .checked ≡ Refused k x → ends (Refusal k x) out w₀ ≡ phi-combination-krylov generator tau count w o out w₀
-        unfolding phi-combination-krylov
-        refused-run e = refused-by Refusal _ out w₀ _ e job-told
+      pub runs-job : {long : ℕ} → long ≡ length w₀ → Allowed starts cols vals mass j (length (further (g .n) w)) long × (length out ≡ j .g .n)
+      runs-job l = (rw l (allowed mass ok k), k .vectors .out ∙ ap (λ (x : RunJob). x .g .n) (sym (k .is)))
 
-        pub combined-is : {c : Call KrylovAnswer} → j .checked ≡ Sound → c ≡ combination-run-krylov generator tau (count - 1) w (further (g .n) w) o w₀
-            → c ≡ phi-combination-krylov generator tau count w o out w₀
-        unfolding phi-combination-krylov
-        combined-is e h = runs Refusal _ out w₀ _ e job-told (h ∙ rw rows refl)
+      pub combined-is : {c : Call KrylovAnswer} {w₁ : List Float} → w₁ ≡ splice (j .k .y) (combination-start (g .n) w (j .d) (j .eta .inv)) w₀
+          → c ≡ after-run (j .g .n) (j .need) w₁ (run-of j (matrix-of (j .g) starts cols vals mass) (further (g .n) w) (window (j .k .y) (j .g .n + j .d) w₁))
+          → c ≡ phi-combination-krylov generator tau count w o out w₀
+      unfolding phi-combination-krylov combination-run-krylov combination-operator dimension scaling-by eta-of
+      combined-is e₁ r =
+          let d = count - 1 in
+          let f = further (g .n) w in
+          let M = dimension (g .n) d (o .m) in
+          let J = run-job-by g tau d f (scaling-of g tau count w Own) o M (length w₀) in
+          let q = generator .matrix in
+          let y = combination-start (g .n) w d (J .eta .inv) in
+          let ly = length-start (g .n) w d (J .eta .inv) (first-within (k .vectors)) in
+          let B = augmented q d f (J .b .places) (J .b .gains) (J .b .count) in
+          let clamped = rw ly at (expv-clamped B tau (J .k .anorm) (o .tol) (o .m) (o .«max_substeps») y) in
+          runs Refusal _ out w₀ _ e job-told ((rw (k .is) at r) ∙ run-from q f y w₀ (rw (k .is) at (allowed mass ok k)) ly (rw (k .is) at e₁) ∙ ap (after-run (g .n) (J .need) w₀) clamped ∙ rw (← (ok .norm), rows) refl)

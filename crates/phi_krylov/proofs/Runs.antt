@@ -15,6 +15,7 @@ use Rattle.doubles.specs.F64.{+0}
 use Rattle.general_operator.specs.Csr.{csr}
 use Rattle.generator_action.specs.Mass.{given, stored}
 use Rattle.phi_action_helpers.specs.declared.Layout.{Layout}
+use Rattle.phi_action_helpers.specs.Augmented.{augmented}
 use Rattle.phi_action_helpers.specs.Laid.{Lined, matrix-at, operator-at}
 use Rattle.combination.specs.Call.{ends, cleared}
 use Rattle.combination.specs.Inner.{matrix-of}
@@ -91,12 +92,16 @@ module _
           then-q = rw el (omega arith);
         }
 
+    pub operator-is : operator-at l (j .b) starts cols vals vectors w₁ ≡ augmented (matrix-of (j .g) starts cols vals mass) (j .d) vectors (j .b .places) (j .b .gains) (j .b .count)
+    operator-is = job.operator-is held e₁ vectors (al .coupled)
+
+    pub field-is : window (j .k .y) (l .n + l .d) w₁ ≡ window (j .k .y) (j .g .n + j .d) w₀
+    field-is = job.front-is held e₁ (j .k .y) (l .n + l .d) (omega (arith, room .then-av, room .then-q)) ∙ rw (held .rows, held .chain) refl
+
     module _ {w₂ : List Float} (kept : Kept 0 (l .q) +0 w₁ w₂) where
       pub run-is : (r : RunAnswer) → end-at l (j .k) r w₂ ≡ expv (operator-at l (j .b) starts cols vals vectors w₁) (j .k .tau) (j .k .anorm) (j .k .tol) (j .k .m) (j .limit) (window (j .k .y) (l .n + l .d) w₁)
           → end-at (layout (j .g .n) (j .d) (j .k .m) (j .g .«with_mass»)) (j .k) r w₂ ≡ run-of j (matrix-of (j .g) starts cols vals mass) vectors (window (j .k .y) (j .g .n + j .d) w₀)
-      run-is r e =
-          let y-is : window (j .k .y) (l .n + l .d) w₁ ≡ window (j .k .y) (j .g .n + j .d) w₀ = job.front-is held e₁ (j .k .y) (l .n + l .d) (omega (arith, room .then-av, room .then-q)) ∙ rw (held .rows, held .chain) refl in
-          ap (λ (x : Layout). end-at x (j .k) r w₂) (sym el) ∙ rw (job.operator-is held e₁ vectors (al .coupled), y-is) at e
+      run-is r e = ap (λ (x : Layout). end-at x (j .k) r w₂) (sym el) ∙ rw (operator-is, field-is) at e
 
       pub spared : cleared (j .need) w₂ ≡ cleared (j .need) w₀
       spared = job.cleared-is held e₁ kept refl

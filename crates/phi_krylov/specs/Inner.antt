@@ -1,27 +1,33 @@
 -- What the checks of a run hand back beside their answer, and what the run takes from them: cited by contracts of inner functions, and by no
 -- definition of a call. Definitions only.
-use mathlib.Core.List.{List}
+use mathlib.Core.List.{List, _++_}
 use mathlib.Core.Path.{_≡_}
-use Prim.Native.Nat.{ℕ, _+_, _≤_}
+use Prim.Native.Nat.{ℕ, _+_, _-_, _≤_}
 use lib.Ieee.{Float}
-use Rattle.checks.specs.First.{first}
+use Rattle.doubles.specs.F64.{1f}
+use Rattle.checks.specs.First.{Check, first}
+use Rattle.checks.specs.declared.Checked.the-variants.{Sound}
 use Rattle.general_operator.specs.Csr.{Csr, csr}
 use Rattle.generator_action.specs.Mass.{given}
 use Rattle.generator_action.specs.Known.{Passed}
 use Rattle.generator_action.specs.declared.Shape.{Shape}
+use Rattle.pow2.specs.Pow2.{eta-scaling}
 use Rattle.pow2.specs.declared.Scaling.{Scaling}
 use Rattle.phi_action_helpers.specs.Augmented.{augmented}
-use Rattle.combination.specs.Combination.{eta-of}
+use Rattle.combination.specs.Combination.{further, magnitude}
+use Rattle.combination.specs.Checks.{time-checks, vector-checks-by}
 use Rattle.combination.specs.Inner.{coupling-by, Coupled}
 use Rattle.phi_krylov_arnoldi.specs.Run.{End, clamp-m, expv}
 use Rattle.phi_krylov_arnoldi.specs.declared.RunAnswer.{RunAnswer}
 use Rattle.phi_krylov_arnoldi.specs.declared.RunAnswer.the-variants.{Finished, Refused}
-use Rattle.phi_krylov.specs.KrylovCall.{bound, run-checks, krylov-need}
+use Rattle.phi_krylov.specs.KrylovCall.{bound, dimension, option-checks, run-checks, krylov-need}
 use Rattle.phi_krylov.specs.Memory.{krylov}
 use Rattle.phi_krylov.specs.declared.KrylovPhiOptions.{KrylovPhiOptions}
 use Rattle.phi_krylov.specs.declared.KrylovAnswer.{KrylovAnswer}
 use Rattle.phi_krylov.specs.declared.KrylovAnswer.the-variants.{Refusal, Soaked}
 use Rattle.phi_krylov.specs.declared.RunJob.{RunJob}
+use Rattle.phi_krylov.specs.declared.Eta.{Eta}
+use Rattle.phi_krylov.specs.declared.Eta.the-variants.{Own, Began}
 
 -- 21, 22 by eta, 24 and 26 of a combination of dimension M over a generator with the numbers g: the answer, and what was found
 abbrev pub run-job-by : Shape → Float → ℕ → List Float → Scaling → KrylovPhiOptions → ℕ → ℕ → RunJob
@@ -31,14 +37,32 @@ run-job-by g tau d f eta o M memory =
       g = g;
       d = d;
       need = krylov-need (g .n) d M (g .stored);
-      inv = eta .inv;
+      eta = eta;
       b = coupling-by (g .n) f tau d (eta .eta);
       k = krylov (g .n) d M tau (bound tau (g .norm)) (o .tol);
       limit = o .«max_substeps»;
     }
 
-abbrev pub run-job : Shape → Float → ℕ → List Float → KrylovPhiOptions → ℕ → ℕ → RunJob
-run-job g tau d f o M memory = run-job-by g tau d f (eta-of (g .n) f tau d) o M memory
+-- eta of the sum of a job's shares, or what a run began with
+unfoldable pub scaling-by : Eta → Float → Scaling
+scaling-by Own sum = eta-scaling sum
+scaling-by (Began x) sum = record { eta = x; inv = 1f }
+
+abbrev pub scaling-of : Shape → Float → ℕ → List Float → Eta → Scaling
+scaling-of g tau count w eta = scaling-by eta (magnitude (g .n) (further (g .n) w) tau (count - 1))
+
+-- 12 to 22, 24 and 26 over a generator with the numbers g
+unfoldable pub checks-after : Shape → Float → ℕ → List Float → Float → KrylovPhiOptions → List Check → ℕ → List Check
+checks-after g tau count w eta o of-lengths memory =
+    let d = count - 1 in
+    let M = dimension (g .n) d (o .m) in
+    vector-checks-by (time-checks tau) of-lengths count w
+    ++ (option-checks o M ++ run-checks (g .n) tau d (further (g .n) w) eta (bound tau (g .norm)) memory (krylov-need (g .n) d M (g .stored)))
+
+-- j is the answer of all of them, and the job where none holds
+pub record Admitted (g : Shape) (tau : Float) (count : ℕ) (w : List Float) (eta : Scaling) (o : KrylovPhiOptions) (of-lengths : List Check) (memory : ℕ) (j : RunJob) : Type 0 where
+  pub told : j .checked ≡ first (checks-after g tau count w (eta .eta) o of-lengths memory)
+  pub is : j .checked ≡ Sound → j ≡ run-job-by g tau (count - 1) (further (g .n) w) eta o (dimension (g .n) (count - 1) (o .m)) memory
 
 -- a job that passed: of the vectors and the memory the lengths
 pub record Allowed (starts cols : List ℕ) (vals mass : List Float) (j : RunJob) (vectors memory : ℕ) : Type 0 where

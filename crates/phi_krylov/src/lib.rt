@@ -10,10 +10,11 @@ use phi_action_helpers::Coupling;
 use phi_action_helpers::Layout;
 use phi_krylov_arnoldi::KrylovPhiReport;
 use phi_krylov_arnoldi::RunAnswer;
+use pow2::Scaling;
 ghost use mathlib.Core.Path.{_≡_};
 ghost use mathlib.Core.Bool.{_&&_, _||_};
 ghost use mathlib.Core.List.{List, _++_};
-ghost use Prim.Native.Nat.{_+_, _*_, _≤_};
+ghost use Prim.Native.Nat.{_+_, _-_, _*_, _≤_};
 ghost use lib.Dec.{ltb};
 ghost use lib.ListN.{length};
 ghost use lib.Ieee.{Float};
@@ -21,21 +22,20 @@ ghost use Rattle.lists.specs.Window.{window, splice};
 ghost use Rattle.doubles.specs.F64.{_⋖_, +0, 1f};
 ghost use Rattle.checks.specs.First.{Check, first};
 ghost use Rattle.checks.specs.declared.Checked.the-variants.{Sound};
-ghost use Rattle.pow2.specs.declared.Scaling.{Scaling};
 ghost use Rattle.general_operator.specs.Csr.{csr};
 ghost use Rattle.generator_action.specs.Mass.{given};
 ghost use Rattle.generator_action.specs.Generator.{forward};
 ghost use Rattle.generator_action.specs.Known.{Passed};
-ghost use Rattle.combination.specs.Combination.{combination-start};
+ghost use Rattle.combination.specs.Combination.{magnitude, combination-start};
 ghost use Rattle.combination.specs.Call.{ends, cleared};
-ghost use Rattle.combination.specs.Checks.{memory-checks};
+ghost use Rattle.combination.specs.Checks.{time-checks, length-checks, vector-checks-by, memory-checks};
 ghost use Rattle.combination.specs.Inner.{weights-by, matrix-of, after-checks};
 ghost use Rattle.phi_krylov_arnoldi.specs.Run.{clamp-m};
 ghost use Rattle.phi_krylov_arnoldi.specs.Memory.{end-at};
-ghost use Rattle.phi_krylov.specs.KrylovCall.{bound, option-checks, bound-checks, krylov-need, after-run, phi-combination-krylov};
+ghost use Rattle.phi_krylov.specs.KrylovCall.{bound, dimension, option-checks, bound-checks, krylov-need, after-run, phi-combination-krylov};
 ghost use Rattle.phi_krylov.specs.Combine.{of-taylor, of-krylov, combine};
 ghost use Rattle.phi_krylov.specs.Memory.{layout, krylov};
-ghost use Rattle.phi_krylov.specs.Inner.{answer-of, run-job-by, run-job, Allowed, run-of};
+ghost use Rattle.phi_krylov.specs.Inner.{answer-of, scaling-by, scaling-of, run-job-by, Admitted, Allowed, run-of};
 
 // The accuracy wanted relative to the start's norm, the Krylov dimension, and the limit of substeps.
 pub struct KrylovPhiOptions {
@@ -107,6 +107,28 @@ pub fn check_options(o: KrylovPhiOptions, m: usize) -> Checked
     Checked::Sound
 }
 
+// 12 to 20; `others` is the answer of what stands between 16 and 17.
+fn check_job(
+    n: usize,
+    tau: f64,
+    count: usize,
+    w: &[f64],
+    o: KrylovPhiOptions,
+    output: usize,
+    others: Checked,
+) -> Checked
+    requires { ⌜ n ≤ 1000000 ⌝ }
+    ensures { λ r. ⌜ ((os : List Check) → others ≡ first os → r ≡ first (vector-checks-by (time-checks tau) (length-checks output n (length (now (w .entry))) (count * n) ++ os) count (now (w .entry)) ++ option-checks o (dimension n (count - 1) (o .m)))) ⌝ }
+{
+    let time = combination::check_time(tau);
+    let vectors = combination::validate_combination(n, time, count, w, output, others);
+    let Checked::Sound = vectors else {
+        return vectors;
+    };
+    let m = clamp_m(o.m, n + (count - 1));
+    check_options(o, m)
+}
+
 // tau * norm + 2
 fn bound(tau: f64, norm: f64) -> f64
     ensures { λ r. ⌜ r ≡ bound tau norm ⌝ }
@@ -133,7 +155,7 @@ fn check_run(weighed: Checked, anorm: f64, memory: usize, need: usize) -> Checke
 }
 
 // What a run needs of the lent memory.
-fn krylov_need(n: usize, d: usize, m: usize, stored: usize) -> usize
+pub fn krylov_need(n: usize, d: usize, m: usize, stored: usize) -> usize
     requires { ⌜ (n ≤ 1000000) × (d ≤ 3) × (m ≤ 128) × (stored ≤ 16777216) ⌝ }
     ensures { λ r. ⌜ r ≡ krylov-need n d m stored ⌝ }
 {
@@ -176,24 +198,41 @@ pub struct RunJob {
     pub g: Shape,
     pub d: usize,
     pub need: usize,
-    pub inv: f64,
+    pub eta: Scaling,
     pub b: Coupling,
     pub k: Krylov,
     pub limit: usize,
 }
 
+// What scales the gains: the job's own eta, or the one that a run began with.
+pub enum Eta {
+    Own,
+    Began(f64),
+}
+
+// Of the sum of all shares; 1 / eta is of use to a job's own alone.
+fn scaling_by(eta: Eta, sum: f64) -> Scaling
+    ensures { λ r. ⌜ r ≡ scaling-by eta sum ⌝ }
+{
+    match eta {
+        Eta::Own => pow2::eta_scaling(sum),
+        Eta::Began(x) => Scaling { eta: x, inv: 1.0 },
+    }
+}
+
 // 24 and 26, after 21 and 22.
-pub fn admit_weighed(
+fn admit_weighed(
     g: Shape,
     tau: f64,
     d: usize,
+    eta: Scaling,
     weights: Weights,
     o: KrylovPhiOptions,
     m: usize,
     memory: usize,
 ) -> RunJob
     requires { ⌜ (g .n ≤ 1000000) × (d ≤ 3) × (m ≤ 128) × (g .stored ≤ 16777216) ⌝ }
-    ensures { λ r. ⌜ ((f : List Float) (eta : Scaling) → weights ≡ weights-by (g .n) f tau d eta → r ≡ run-job-by g tau d f eta o m memory) ⌝ }
+    ensures { λ r. ⌜ ((f : List Float) → weights ≡ weights-by (g .n) f tau d eta → r ≡ run-job-by g tau d f eta o m memory) ⌝ }
 {
     let weighed = weights.checked;
     let b = weights.b;
@@ -204,7 +243,7 @@ pub fn admit_weighed(
         g: g,
         d: d,
         need: need,
-        inv: weights.inv,
+        eta: eta,
         b: b,
         k: krylov(g.n, d, m, tau, anorm, o.tol),
         limit: o.max_substeps,
@@ -212,24 +251,73 @@ pub fn admit_weighed(
 }
 
 // 21, 22, 24 and 26.
-pub fn admit_run(
+fn admit_run(
     g: Shape,
     tau: f64,
     d: usize,
     further: &[f64],
+    eta: Eta,
     o: KrylovPhiOptions,
     m: usize,
     memory: usize,
 ) -> RunJob
     requires { ⌜ (d * g .n ≤ length (now further)) × (g .n ≤ 1000000) × (d ≤ 3) × (m ≤ 128) × (g .stored ≤ 16777216) ⌝ }
-    ensures { λ r. ⌜ r ≡ run-job g tau d (now (further .entry)) o m memory ⌝ }
+    ensures { λ r. ⌜ r ≡ run-job-by g tau d (now (further .entry)) (scaling-by eta (magnitude (g .n) (now (further .entry)) tau d)) o m memory ⌝ }
 {
-    let weights = combination::weigh(g.n, further, tau, d);
-    admit_weighed(g, tau, d, weights, o, m, memory)
+    let p = combination::powers_of(g.n, further, tau, d);
+    let scaling = scaling_by(eta, p.sum);
+    let weights = combination::weigh_by(g.n, d, p, scaling);
+    admit_weighed(g, tau, d, scaling, weights, o, m, memory)
+}
+
+// A job that 12 to 20 refuse.
+fn refused_job(checked: Checked, g: Shape) -> RunJob
+    ensures { λ r. ⌜ r .checked ≡ checked ⌝ }
+{
+    let b = Coupling {
+        places: [0, 0, 0],
+        gains: [1.0, 1.0, 1.0],
+        count: 0,
+    };
+    RunJob {
+        checked: checked,
+        g: g,
+        d: 0,
+        need: 0,
+        eta: Scaling { eta: 1.0, inv: 1.0 },
+        b: b,
+        k: krylov(0, 0, 2, 0.0, 0.0, 0.0),
+        limit: 0,
+    }
+}
+
+// 12 to 22, 24 and 26; `others` is the answer of what stands between 16 and 17.
+pub fn admit_job(
+    g: Shape,
+    tau: f64,
+    count: usize,
+    w: &[f64],
+    eta: Eta,
+    o: KrylovPhiOptions,
+    output: usize,
+    others: Checked,
+    memory: usize,
+) -> RunJob
+    requires { ⌜ (g .n ≤ 1000000) × (g .stored ≤ 16777216) ⌝ }
+    ensures { λ r. ⌜ ((os : List Check) → others ≡ first os → Admitted g tau count (now (w .entry)) (scaling-of g tau count (now (w .entry)) eta) o (length-checks output (g .n) (length (now (w .entry))) (count * g .n) ++ os) memory r) ⌝ }
+{
+    let n = g.n;
+    let early = check_job(n, tau, count, w, o, output, others);
+    let Checked::Sound = early else {
+        return refused_job(early, g);
+    };
+    let d = count - 1;
+    let m = clamp_m(o.m, n + d);
+    admit_run(g, tau, d, &w[n..], eta, o, m, memory)
 }
 
 // The first field from place `at` of the lent memory on; w_0 is the first n values of w.
-pub fn start_in(n: usize, w: &[f64], d: usize, inv: f64, work: &mut [f64], at: usize)
+fn start_in(n: usize, w: &[f64], d: usize, inv: f64, work: &mut [f64], at: usize)
     requires { ⌜ (n ≤ length (now w)) × (at + (n + d) ≤ length (now work)) ⌝ }
     ensures { λ _. ⌜ now (work .exit) ≡ splice at (combination-start n (now (w .entry)) d inv) (now (work .entry)) ⌝ }
 {
@@ -276,7 +364,7 @@ fn run_expv(
 }
 
 // A run whose first field stands at k.y, and what it hands out.
-pub fn run_job(
+fn run_job(
     starts: &[u32],
     cols: &[u32],
     vals: &[f64],
@@ -313,25 +401,14 @@ pub fn combined(
     ensures { λ r. ⌜ ((gs : List Check) → Sound ≡ first gs → ends r (now (out .exit)) (now (work .exit)) ≡ phi-combination-krylov (after-checks gs (csr (g .n) (now (starts .entry)) (now (cols .entry)) (now (vals .entry))) (given (g .«with_mass») (now (mass .entry))) g) tau count (now (w .entry)) o (now (out .entry)) (now (work .entry))) ⌝ }
 {
     let n = g.n;
-    let time = combination::check_time(tau);
-    let vectors = combination::validate_combination(n, time, count, w, out.len(), Checked::Sound);
-    let Checked::Sound = vectors else {
-        return KrylovAnswer::Refusal(checks::number(vectors), checks::reported(vectors));
-    };
-    let d = count - 1;
-    let m = clamp_m(o.m, n + d);
-    let options = check_options(o, m);
-    let Checked::Sound = options else {
-        return KrylovAnswer::Refusal(checks::number(options), checks::reported(options));
-    };
-    let further = &w[n..];
-    let j = admit_run(g, tau, d, further, o, m, work.len());
+    let sound = Checked::Sound;
+    let j = admit_job(g, tau, count, w, Eta::Own, o, out.len(), sound, work.len());
     let run = j.checked;
     let Checked::Sound = run else {
         return KrylovAnswer::Refusal(checks::number(run), checks::reported(run));
     };
-    start_in(n, w, d, j.inv, work, j.k.y);
-    run_job(starts, cols, vals, mass, further, out, work, j)
+    start_in(n, w, j.d, j.eta.inv, work, j.k.y);
+    run_job(starts, cols, vals, mass, &w[n..], out, work, j)
 }
 
 // The sum over k of tau^k phi_k(tau G) w_k, of `count` vectors in one slice, by adaptive substeps.

@@ -71,7 +71,7 @@ pub enum RunAnswer {
 }
 
 // The first length proposed.
-fn first_length(m: usize, anorm: f64, tol: f64, beta: f64) -> f64
+pub fn first_length(m: usize, anorm: f64, tol: f64, beta: f64) -> f64
     requires { ⌜ m ≤ 128 ⌝ }
     ensures { λ r. ⌜ r ≡ first-length m anorm tol beta ⌝ }
 {
@@ -188,7 +188,7 @@ fn products(basis: BasisAnswer) -> usize
 }
 
 // One substep: the basis once, then lengths tried on it; 28 after eleven rejections, 29 without an inner plan.
-fn substep(
+pub fn substep(
     starts: &[u32],
     cols: &[u32],
     vals: &[f64],
@@ -294,7 +294,7 @@ fn substeps(
     spent(run_substeps(starts, cols, vals, vectors, work, l, b, k, limit, c, r))
 }
 
-fn relative_report(r: KrylovPhiReport, beta: f64) -> KrylovPhiReport
+pub fn relative_report(r: KrylovPhiReport, beta: f64) -> KrylovPhiReport
     ensures { λ x. ⌜ x ≡ relative-report r beta ⌝ }
 {
     KrylovPhiReport {

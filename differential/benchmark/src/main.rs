@@ -6,6 +6,7 @@ mod join;
 mod memory;
 mod plate;
 mod scipy;
+mod steps;
 mod transpose;
 
 use std::time::Instant;
@@ -38,8 +39,9 @@ fn main() {
         Some("rust") => table(&words[1..]),
         Some("scipy") => scipy::table(),
         Some("join") => join::table(),
+        Some("steps") => steps::table(),
         Some("transpose") => transpose::table(),
-        _ => eprintln!("usage: benchmark [rust [CALL [ROWS]]|scipy|join|transpose]"),
+        _ => eprintln!("usage: benchmark [rust [CALL [ROWS]]|scipy|join|steps|transpose]"),
     }
 }
 

@@ -1,5 +1,6 @@
 //! One job put to the Rust original and to the proved library, the answers compared bit for bit.
 
+pub mod paused;
 pub mod reference;
 
 use jobs::{Answer, Call, Job, DEGREE};

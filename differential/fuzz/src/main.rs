@@ -1,6 +1,16 @@
 //! The comparison of one job under libFuzzer: a job that one side answers otherwise ends the run. See ../README.md.
 
+#[path = "../../src/change.rs"]
+mod change;
 mod code;
+#[allow(dead_code)]
+#[path = "../../src/generate.rs"]
+mod generate;
+#[path = "../../src/paused.rs"]
+mod paused;
+#[allow(dead_code)]
+#[path = "../../src/random.rs"]
+mod random;
 mod tally;
 
 use std::ffi::{c_char, c_int, CString};
@@ -8,8 +18,9 @@ use std::panic::catch_unwind;
 use std::process::ExitCode;
 use std::{fs, slice};
 
-use compare::Difference;
+use compare::paused::Seen;
 use jobs::Job;
+use random::Random;
 
 const USAGE: &str = "usage:
   fuzz seeds FOLDER FILE...        writes the jobs of the files into the folder, one byte string each
@@ -56,20 +67,28 @@ extern "C" fn one(data: *const u8, size: usize) -> c_int {
     let (job, tail) = code::decode(bytes);
     match catch_unwind(|| compared(&job, tail)) {
         Ok(differences) if differences.is_empty() => return 0,
-        Ok(differences) => differences.iter().for_each(|d| eprintln!("{}", d.print(&job))),
+        Ok(differences) => differences.iter().for_each(|d| eprintln!("{d}")),
         Err(_) => eprintln!("the comparison panics:\n  job  {}", job.print()),
     }
     std::process::abort()
 }
 
-fn compared(job: &Job, tail: usize) -> Vec<Difference> {
+fn compared(job: &Job, tail: usize) -> Vec<String> {
     let Some(expected) = compare::expected(job, COST) else {
         tally::costly();
         return vec![];
     };
     tally::compared(expected.answer.number, job.is_large());
     let matrix = compare::matrix(job, &compare::reference::matrix(job));
-    compare::library(job, &expected.answer, tail).into_iter().chain(matrix).collect()
+    let differences = compare::library(job, &expected.answer, tail).into_iter().chain(matrix);
+    let mut seen = Seen::default();
+    if paused::has_steps(job) {
+        let mut r = Random(tail as u64);
+        compare::paused::undivided(job, &expected.answer, COST, |n| r.below(n), &mut seen);
+        paused::changes(job, &expected.answer, paused::COST, &mut r, &mut seen);
+    }
+    tally::paused(&seen);
+    differences.map(|d| d.print(job)).chain(seen.differences).collect()
 }
 
 fn seeds(folder: &str, files: &[String]) -> Result<(), String> {

@@ -22,6 +22,8 @@
 //! the buffers [`START_MARK`] + i, [`COLUMN_MARK`] + i and `mark` (2^33 + i). In an answer `.` stands for an element that still
 //! holds its mark, and `*k` after one for k equal ones. The buffers stand at the end of a transposed job's answer.
 
+pub mod paused;
+
 use std::num::ParseIntError;
 use std::str::FromStr;
 

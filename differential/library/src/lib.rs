@@ -1,8 +1,9 @@
-//! The proved library (crates/exports, crates/exports_transposed, crates/exports_bytes): its exported functions, and a job put to
-//! them.
+//! The proved library (crates/exports, crates/exports_transposed, crates/exports_paused, crates/exports_bytes): its exported
+//! functions, and a job put to them.
 
 #[cfg(feature = "bytes")]
 mod bytes;
+pub mod paused;
 mod slices;
 mod transposed;
 

@@ -7,6 +7,7 @@ use std::collections::BTreeMap;
 thread_local! {
     static HITS: RefCell<BTreeMap<&'static str, u64>> = const { RefCell::new(BTreeMap::new()) };
     static STEPS: RefCell<Vec<f64>> = const { RefCell::new(vec![]) };
+    static FIRST: Cell<f64> = const { Cell::new(f64::NAN) };
     static LEFT: Cell<u64> = const { Cell::new(u64::MAX) };
     static DEGREE: Cell<u32> = const { Cell::new(jobs::DEGREE) };
 }
@@ -61,7 +62,13 @@ pub fn first(x: f64) -> f64 {
     if t.is_nan() {
         hit("first length NaN");
     }
+    FIRST.with(|f| f.set(t));
     t
+}
+
+/// The first length of the last run.
+pub fn first_length() -> f64 {
+    FIRST.with(Cell::get)
 }
 
 pub fn proposal(t: f64) -> f64 {

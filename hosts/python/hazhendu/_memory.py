@@ -105,6 +105,10 @@ def krylov_work(matrix, count, m):
     return matrix.n + vectors + (columns + 2) ** 2 + (matrix.count() if matrix.mass else 0)
 
 
+def field(n, count):
+    return n + count - 1 if n <= MAX_ROWS and 1 <= count <= MAX_VECTORS else 0
+
+
 def flat(vectors, n):
     """The vectors one after the other. One of the wrong length is put alone, for the library to refuse: a short and a long one could make
     up for each other."""

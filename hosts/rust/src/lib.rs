@@ -18,8 +18,8 @@
 //!
 //! Every input gets a result or a numbered [`Refusal`]; whether a matrix or a job is valid is the library's to say, and
 //! nothing here panics. The functions here allocate output and working memory; those of [`lent`] work on memory that the
-//! caller lends. A call runs to its end, and its thread hears of nothing in between; the process can be stopped at any time. [`matrix_market`]
-//! and [`vectors`] read and write files.
+//! caller lends. A call runs to its end, and its thread hears of nothing in between; the process can be stopped at any time. [`Paused`] is a
+//! Krylov run that is looked at between its substeps. [`matrix_market`] and [`vectors`] read and write files.
 
 #![deny(unsafe_op_in_unsafe_fn)]
 
@@ -27,6 +27,7 @@ pub mod environment;
 pub mod lent;
 mod lines;
 pub mod matrix_market;
+mod paused;
 mod refusal;
 pub mod sizes;
 pub mod sys;
@@ -35,6 +36,7 @@ mod triplets;
 pub mod vectors;
 
 pub use lines::ReadError;
+pub use paused::Paused;
 pub use refusal::{Error, Refusal};
 pub use triplets::Triplets;
 

@@ -23,7 +23,7 @@ const fn meaning(number: u32, wrong: &'static str, value: &'static str, change: 
 }
 
 /// In the order of their numbers; 23 is not used.
-const MEANINGS: [Meaning; 33] = [
+const MEANINGS: [Meaning; 34] = [
     meaning(
         1,
         "the matrix has no rows, or there are not n + 1 row starts",
@@ -69,7 +69,12 @@ const MEANINGS: [Meaning; 33] = [
     meaning(13, "the index of the phi-function is above 3", "the index", "ask for phi_0 to phi_3"),
     meaning(14, "tau is negative, infinite or not a number", "tau", "give a finite time of 0 or more"),
     meaning(15, "the output has the wrong length", "its length", "lend n numbers, for a batch (p + 1) * n"),
-    meaning(16, "the vectors have the wrong length", "their length", "give n numbers in each vector for a matrix of n rows"),
+    meaning(
+        16,
+        "the vectors have the wrong length",
+        "their length",
+        "give n numbers in each vector for a matrix of n rows, and to a paused run as many rows and vectors as at its start",
+    ),
     meaning(17, "a number in a vector is infinite or not a number", "the number", "give finite vectors"),
     meaning(18, "tol is not strictly between 0 and 1", "tol", "take 1e-10, say"),
     meaning(19, "no substep is allowed", "", "allow at least one; 100,000 will do for most jobs"),
@@ -98,7 +103,12 @@ const MEANINGS: [Meaning; 33] = [
         "the schedule's argument",
         "raise the highest degree if it is low, shorten tau, check its units, or take the Krylov solver",
     ),
-    meaning(26, "the working memory is too short", "", "lend as many doubles as the size functions say"),
+    meaning(
+        26,
+        "the working memory is too short, or the field of a paused run has the wrong length",
+        "",
+        "lend as many doubles as the size functions say",
+    ),
     meaning(
         27,
         "the limit of substeps is used up before tau is reached",
@@ -123,6 +133,7 @@ const MEANINGS: [Meaning; 33] = [
         "",
         "lend n + 1 row starts, and a column and an entry for each entry of the matrix",
     ),
+    meaning(31, "the paused run has ended", "", "take the field that it left, or start another run"),
     meaning(
         33,
         "the highest degree is not from 1 to 30",

@@ -34,13 +34,21 @@ pub fn action_work(n: usize, entries: usize, with_mass: bool) -> usize {
     taylor_work(n, entries, with_mass, MAX_INDEX + 1)
 }
 
-/// Working memory of `phi_combination_krylov`.
+/// Working memory of `phi_combination_krylov`, and of the start and each step of a paused run.
 pub fn krylov_work(n: usize, entries: usize, with_mass: bool, count: usize, m: usize) -> usize {
     let columns = dimension(n, count, m);
     if !allowed(n, entries, count) || columns > MAX_DIMENSION {
         return 0;
     }
     n + (columns + 3) * (n + count - 1) + (columns + 2) * (columns + 2) + quotients(entries, with_mass)
+}
+
+/// The scaled field of a paused run.
+pub fn field(n: usize, count: usize) -> usize {
+    if !allowed(n, 0, count) {
+        return 0;
+    }
+    n + count - 1
 }
 
 /// The output's length for the functions phi_0 to phi_p; p is 0 for a single one.

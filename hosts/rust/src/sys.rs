@@ -39,6 +39,13 @@ exported!(hazhendu_combine, tau: f64, degree: u32, count: usize, w: *const f64, 
     max_substeps: usize, out: *mut f64, out_len: usize, work: *mut f64, work_len: usize, value: *mut f64, first: *mut u64,
     second: *mut u64, third: *mut u64, shortest: *mut f64, last: *mut f64);
 
+exported!(hazhendu_krylov_start, tau: f64, count: usize, w: *const f64, w_len: usize, tol: f64, m: usize, max_substeps: usize,
+    out: *mut f64, out_len: usize, work: *mut f64, work_len: usize, field: *mut f64, field_len: usize, numbers: *mut f64, numbers_len: usize,
+    counts: *mut usize, counts_len: usize, value: *mut f64);
+exported!(hazhendu_krylov_step, tau: f64, count: usize, w: *const f64, w_len: usize, with_tol: bool, tol: f64, out: *mut f64,
+    out_len: usize, work: *mut f64, work_len: usize, field: *mut f64, field_len: usize, numbers: *mut f64, numbers_len: usize,
+    counts: *mut usize, counts_len: usize, value: *mut f64);
+
 macro_rules! exported_transposed {
     ($name:ident, $($parameter:ident: $type:ty),+) => {
         exported!($name, t_starts: *mut u32, t_starts_len: usize, t_cols: *mut u32, t_cols_len: usize, t_vals: *mut f64, t_vals_len: usize,

@@ -1,6 +1,6 @@
 //! No combination of lengths and sizes panics, and none allocates beyond the library's limits.
 
-use hazhendu::{check, combine, join, phi_action, phi_action_batched, sizes, Error, KrylovOptions, Matrix, Solver, TaylorOptions};
+use hazhendu::{check, combine, join, phi_action, phi_action_batched, sizes, Error, KrylovOptions, Matrix, Paused, Solver, TaylorOptions};
 
 const ODD: [usize; 10] = [0, 1, 2, 3, 5, 129, 1_000_001, usize::MAX / 8, usize::MAX - 1, usize::MAX];
 
@@ -32,6 +32,7 @@ fn every_odd_size_is_answered() {
                         told(phi_action_batched(&a, 1.0, count, &numbers[..len], TaylorOptions::default()));
                         let options = KrylovOptions { tol: 1e-6, m: count, max_substeps: n };
                         told(combine(Solver::Krylov(options), &a, 1.0, len, &numbers[..len]));
+                        told(Paused::start(&a, 1.0, count, &numbers[..len], KrylovOptions { m: len, ..options }));
                     }
                 }
             }
@@ -50,7 +51,7 @@ fn sizes_never_overflow() {
                     assert!(sizes::dimension(n, count, m) >= 2);
                 }
                 assert!(sizes::taylor_work(n, entries, true, count) <= most);
-                assert!(sizes::output(n, count) <= most);
+                assert!(sizes::output(n, count) <= most && sizes::field(n, count) <= most);
                 assert!(sizes::starts(n) <= sizes::MAX_ROWS + 1 && sizes::joined(entries, count) <= 2 * sizes::MAX_ENTRIES);
             }
         }

@@ -1,12 +1,14 @@
 //! The command line.
 
 use crate::failure::Failure;
+use crate::frames::Frames;
 use crate::guard;
 use crate::input::Source;
 use crate::join::Pair;
 use crate::model::Files;
 use crate::report;
 use crate::sink::is_standard_output;
+use crate::steps::Tightening;
 use hazhendu::sizes::MAX_DEGREE;
 use hazhendu::{KrylovOptions, Solver, TaylorOptions};
 use std::ffi::OsString;
@@ -21,7 +23,7 @@ pub enum Command {
     Version,
     Check(Files),
     Join(Pair),
-    Soak(Request),
+    Soak(Box<Request>),
 }
 
 #[derive(Debug)]
@@ -34,6 +36,8 @@ pub struct Request {
     pub plot: Option<PathBuf>,
     pub reports: Vec<PathBuf>,
     pub drawing: Drawing,
+    pub tightenings: Vec<Tightening>,
+    pub frames: Option<Frames>,
 }
 
 /// How pictures are drawn and called.
@@ -78,6 +82,7 @@ impl Request {
             .writes("the state of --output", state)
             .writes("--plot", &self.plot)
             .writes("--report", &self.reports)
+            .writes("--frames", self.frames.iter().map(|frames| &frames.folder))
     }
 }
 
@@ -98,6 +103,9 @@ struct Given {
     plot: Option<PathBuf>,
     reports: Vec<PathBuf>,
     drawing: Drawing,
+    tightenings: Vec<Tightening>,
+    every: Option<usize>,
+    frames: Option<PathBuf>,
 }
 
 pub fn parse(words: impl Iterator<Item = OsString>) -> Result<Command, Failure> {
@@ -132,7 +140,7 @@ pub fn parse(words: impl Iterator<Item = OsString>) -> Result<Command, Failure> 
     if join {
         return given.pair().map(Command::Join);
     }
-    given.request().map(Command::Soak)
+    given.request().map(Box::new).map(Command::Soak)
 }
 
 impl Given {
@@ -152,6 +160,9 @@ impl Given {
             "--tol" => once(name, &mut self.tol, read(name, value()?, "a number")?)?,
             "--m" => once(name, &mut self.m, read(name, value()?, "a whole number that fits")?)?,
             "--limit" => once(name, &mut self.limit, read(name, value()?, "a whole number that fits")?)?,
+            "--tighten" => self.tightenings.push(tightening(name, value()?)?),
+            "--every" => once(name, &mut self.every, read(name, value()?, "a whole number that fits")?)?,
+            "--frames" => once(name, &mut self.frames, value()?.into())?,
             "--solver" => once(name, &mut self.solver, read(name, value()?, "a solver")?)?,
             _ => return Err(Failure::Usage(format!("there is no option {name}"))),
         }
@@ -171,8 +182,20 @@ impl Given {
             Some("taylor") | None if self.tol.is_some() || self.m.is_some() || self.limit.is_some() => {
                 Err(Failure::Usage("--tol, --m and --limit are for --solver krylov".into()))
             }
+            Some("taylor") | None if !self.tightenings.is_empty() || self.every.is_some() || self.frames.is_some() => {
+                Err(Failure::Usage("--tighten, --every and --frames are for --solver krylov".into()))
+            }
             Some("taylor") | None => Ok(Solver::Taylor(TaylorOptions { degree: self.degree.unwrap_or(MAX_DEGREE) })),
             Some(other) => Err(Failure::Usage(format!("--solver {other:?}: taylor or krylov"))),
+        }
+    }
+
+    fn frames(&mut self) -> Result<Option<Frames>, Failure> {
+        match (self.every.take(), self.frames.take()) {
+            (Some(0), _) => Err(Failure::Usage("--every 0: from 1 on".into())),
+            (Some(every), Some(folder)) => Ok(Some(Frames { every, folder })),
+            (None, None) => Ok(None),
+            _ => Err(Failure::Usage("--every and --frames go together".into())),
         }
     }
 
@@ -210,6 +233,8 @@ impl Given {
         let request = Request {
             solver: self.solver()?,
             files: self.files()?,
+            frames: self.frames()?,
+            tightenings: self.tightenings,
             tau: self.tau.ok_or_else(|| Failure::Usage("--tau is missing".into()))?,
             vectors: self.vectors,
             output: self.output.unwrap_or_else(|| "-".into()),
@@ -233,4 +258,14 @@ fn once<T>(name: &str, place: &mut Option<T>, value: T) -> Result<(), Failure> {
 fn read<T: FromStr>(name: &str, word: OsString, kind: &str) -> Result<T, Failure> {
     let read = word.to_str().and_then(|text| text.trim().parse().ok());
     read.ok_or_else(|| Failure::Usage(format!("{name} {word:?}: not {kind}")))
+}
+
+/// SHARE:TOL. A tol that the library would refuse in the middle of the run is told before it.
+fn tightening(name: &str, word: OsString) -> Result<Tightening, Failure> {
+    let within = |text: &str| text.trim().parse().ok().filter(|x: &f64| (0.0..1.0).contains(x));
+    let pair = word.to_str().and_then(|text| text.split_once(':'));
+    let read = pair.and_then(|(share, tol)| Some(Tightening { share: within(share)?, tol: within(tol).filter(|tol| *tol > 0.0)? }));
+    read.ok_or_else(|| {
+        Failure::Usage(format!("{name} {word:?}: not SHARE:TOL, a share of tau from 0 to below 1 and a tol strictly between 0 and 1"))
+    })
 }

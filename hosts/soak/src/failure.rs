@@ -1,6 +1,8 @@
 //! Why the command ends without a field, and its status.
 
-use hazhendu::Refusal;
+use crate::progress::percent;
+use crate::steps::Stopped;
+use hazhendu::{shortest, Refusal};
 use std::fmt;
 use std::io;
 
@@ -32,6 +34,8 @@ pub enum Failure {
     },
     /// The field, which is written, holds numbers that are not finite.
     NotFinite(String),
+    /// Ctrl-C between two substeps; the field so far is written.
+    Stopped(Stopped),
 }
 
 impl Failure {
@@ -39,7 +43,7 @@ impl Failure {
         Failure::Refused { refusal, place, state: None }
     }
 
-    /// A refusal's number is its status; the others are those of sysexits.h, beyond all refusals, and 80 behind those.
+    /// A refusal's number is its status; the others are those of sysexits.h, beyond all refusals, and 80 and 81 behind those.
     pub fn status(&self) -> u8 {
         match self {
             Failure::Usage(_) => 64,
@@ -48,6 +52,7 @@ impl Failure {
             Failure::OutOfMemory { .. } => 71,
             Failure::CannotWrite { .. } => 74,
             Failure::NotFinite(_) => 80,
+            Failure::Stopped(_) => 81,
             Failure::Refused { refusal, .. } => u8::try_from(refusal.number).unwrap_or(70),
         }
     }
@@ -63,6 +68,7 @@ impl fmt::Display for Failure {
         match self {
             Failure::Usage(wrong) => write!(f, "soak: {wrong}\nsoak --help tells how it is used"),
             Failure::NotFinite(told) => write!(f, "{told}"),
+            Failure::Stopped(stopped) => stopped.fmt(f),
             Failure::BadFile { place, wrong } => write!(f, "{place}: {wrong}"),
             Failure::CannotRead { name, error } => write!(f, "soak: cannot read {name}: {error}"),
             Failure::OutOfMemory { doubles } => write!(f, "soak: no memory for {doubles} numbers"),
@@ -77,6 +83,29 @@ impl fmt::Display for Failure {
                 }
                 write!(f, "\n  what to change: {}", refusal.change())
             }
+        }
+    }
+}
+
+impl fmt::Display for Stopped {
+    fn fmt(&self, f: &mut fmt::Formatter) -> fmt::Result {
+        let Stopped { time, tau, report, .. } = self;
+        write!(
+            f,
+            "soak: stopped by Ctrl-C at {} % of tau, after {} substeps and {} applications",
+            percent(*time),
+            report.substeps,
+            report.matvecs
+        )?;
+        write!(
+            f,
+            "\n  what is written is a paused state, the field at {} of tau {}, and not the field at tau",
+            shortest(*time),
+            shortest(*tau)
+        )?;
+        match self.rest() {
+            Some(rest) => write!(f, "\n  to go on: it as the first --vector, and --tau {}", shortest(rest)),
+            None => Ok(()),
         }
     }
 }

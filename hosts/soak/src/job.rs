@@ -6,7 +6,7 @@ use crate::input::{Source, Vector};
 use crate::memory::joined;
 use crate::model::Model;
 use hazhendu::sizes::{MAX_DEGREE, MAX_VECTORS};
-use hazhendu::{combine, shortest, transposed, Cost, Matrix, Refusal, Soaked, Solver};
+use hazhendu::{combine, shortest, transposed, Cost, Csr, Error, Matrix, Refusal, Soaked, Solver};
 
 pub struct Job<'a> {
     request: &'a Request,
@@ -46,13 +46,22 @@ impl<'a> Job<'a> {
     pub fn soak(&self) -> Result<Soaked<Cost>, Failure> {
         let (count, w) = self.flat()?;
         let combine = if self.request.files.transposed { transposed::combine } else { combine };
-        combine(self.request.solver, &self.model.matrix(), self.request.tau, count, &w)
-            .map_err(|error| self.model.failure(error, |refusal| self.place(refusal)))
+        combine(self.request.solver, &self.model.matrix(), self.request.tau, count, &w).map_err(|error| self.failure(error))
+    }
+
+    pub fn failure(&self, error: Error) -> Failure {
+        self.model.failure(error, |refusal| self.place(refusal))
+    }
+
+    /// The transposed matrix, if that is asked for: a run by substeps is made on it.
+    pub fn turned(&self) -> Result<Option<Csr>, Failure> {
+        let turned = self.request.files.transposed.then(|| self.matrix().transposed());
+        turned.transpose().map_err(|error| self.failure(error))
     }
 
     /// The library sees one slice, in which a vector too short and one too long could make up for each other. A vector of the wrong
     /// length is therefore put to it alone, for the library to refuse (unless there are too many vectors, which it refuses first).
-    fn flat(&self) -> Result<(usize, Vec<f64>), Failure> {
+    pub fn flat(&self) -> Result<(usize, Vec<f64>), Failure> {
         let put = match self.misfit() {
             Some(i) if self.vectors.len() <= MAX_VECTORS => &self.vectors[i..=i],
             _ => &self.vectors,

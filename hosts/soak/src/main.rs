@@ -1,20 +1,24 @@
 //! `soak`: the proved library on models in files. See arguments.rs for what it does (`soak --help`).
 
-#![forbid(unsafe_code)]
+#![deny(unsafe_code)]
 
 mod arguments;
 mod failure;
+mod frames;
 mod guard;
 mod input;
+mod interrupt;
 mod job;
 mod join;
 mod memory;
 mod model;
 mod plot;
 mod points;
+mod progress;
 mod report;
 mod sink;
 mod soak;
+mod steps;
 mod summary;
 mod warnings;
 

@@ -7,6 +7,7 @@ mod json;
 use crate::arguments::Request;
 use crate::job::solver_name;
 use crate::plot::{Geometry, Picture};
+use crate::steps::Stopped;
 use hazhendu::{Cost, Refusal};
 use std::path::{Path, PathBuf};
 
@@ -41,24 +42,37 @@ pub struct Report<'a> {
 }
 
 pub enum Outcome<'a> {
-    Soaked { cost: &'a Cost, picture: Picture<'a> },
-    Refused { refusal: Refusal, place: Option<&'a str>, state: Option<PathBuf> },
+    Soaked {
+        cost: &'a Cost,
+        picture: Picture<'a>,
+    },
+    Refused {
+        refusal: Refusal,
+        place: Option<&'a str>,
+        state: Option<PathBuf>,
+    },
+    /// By Ctrl-C.
+    Stopped {
+        stopped: &'a Stopped,
+        state: Option<PathBuf>,
+    },
 }
 
 impl Report<'_> {
-    /// A report of a kind; a refused job has no rows to list.
+    /// A report of a kind; a job without a field at tau has no rows to list.
     pub fn text(&self, kind: Kind) -> Option<String> {
         match (kind, &self.outcome) {
             (Kind::Html, _) => Some(html::page(self)),
             (Kind::Json, _) => Some(json::text(self)),
             (Kind::Csv, Outcome::Soaked { picture, .. }) => Some(csv::text(picture)),
-            (Kind::Csv, Outcome::Refused { .. }) => None,
+            (Kind::Csv, Outcome::Refused { .. } | Outcome::Stopped { .. }) => None,
         }
     }
 
     fn status(&self) -> u32 {
         match &self.outcome {
             Outcome::Refused { refusal, .. } => refusal.number,
+            Outcome::Stopped { .. } => 81,
             Outcome::Soaked { picture, .. } if picture.summary.not_finite > 0 => 80,
             Outcome::Soaked { .. } => 0,
         }

@@ -2,21 +2,25 @@
 
 use crate::arguments::Request;
 use crate::failure::Failure;
+use crate::frames::Frames;
 use crate::job::{cost_line, solver_name, Job};
 use crate::plot::{Geometry, Picture};
 use crate::points;
+use crate::progress::percent;
 use crate::report::{Kind, Outcome, Report};
 use crate::sink::{is_standard_output, Sink};
+use crate::steps::{self, Stopped};
 use crate::summary::Summary;
 use crate::warnings::{self, Heating};
 use crate::{tell, tell_terminal};
-use hazhendu::{shortest, vectors, Cost, Matrix, Refusal, Soaked};
+use hazhendu::{shortest, vectors, Cost, Matrix, Soaked};
 use std::path::PathBuf;
 use std::time::Instant;
 
 pub fn run(request: &Request) -> Result<(), Failure> {
     let job = Job::read(request)?;
     let geometry = geometry(request, &job)?;
+    request.frames.as_ref().map_or(Ok(()), Frames::open)?;
     let sinks = Sinks::open(request)?;
     let heating = Heating::of(&job.matrix());
     let warnings = heating.iter().map(|heating| heating.warning(&request.files.matrix.to_string())).collect();
@@ -24,7 +28,10 @@ pub fn run(request: &Request) -> Result<(), Failure> {
     run.warnings.iter().for_each(|warning| tell(warning));
     tell_terminal(&format!("soak: {}, solver {}", run.job.size(), solver_name(request)));
     let begun = Instant::now();
-    let soaked = run.job.soak();
+    let soaked = match steps::options(request) {
+        Some(options) => steps::soak(&run.job, request, options, |field, time, substeps| run.frame(field, time, substeps)),
+        None => run.job.soak(),
+    };
     run.seconds = begun.elapsed().as_secs_f64();
     tell_terminal(&format!("soak: {:.3} s", run.seconds));
     match soaked {
@@ -66,24 +73,43 @@ impl Run<'_> {
     }
 
     fn refused(self, failure: Failure) -> Result<(), Failure> {
-        if let Failure::Refused { refusal, place, state } = &failure {
-            let kept = state.as_ref().map(|state| self.keep_state(*refusal, state)).transpose()?.flatten();
-            self.report(Outcome::Refused { refusal: *refusal, place: place.as_deref(), state: kept })?;
+        match &failure {
+            Failure::Refused { refusal, place, state } => {
+                let told = format!("the state after the last accepted substep of a run refused by {}", refusal.number);
+                let kept = state.as_ref().map(|state| self.keep_state(&told, state)).transpose()?.flatten();
+                self.report(Outcome::Refused { refusal: *refusal, place: place.as_deref(), state: kept })?;
+            }
+            Failure::Stopped(stopped) => {
+                let Stopped { time, report, field, .. } = stopped;
+                let told = format!("the state of a run paused at {} of it, after {} substeps", shortest(*time), report.substeps);
+                let kept = self.keep_state(&told, field)?;
+                self.report(Outcome::Stopped { stopped, state: kept })?;
+            }
+            _ => {}
         }
         Err(failure)
     }
 
     /// A comment says what it is, so that nobody takes it for the field; as a vector it reads back. Where it is.
-    fn keep_state(&self, refusal: Refusal, state: &[f64]) -> Result<Option<PathBuf>, Failure> {
+    fn keep_state(&self, told: &str, state: &[f64]) -> Result<Option<PathBuf>, Failure> {
         let (Some(sink), Some(place)) = (&self.sinks.state, self.request.state()) else { return Ok(None) };
-        let (tau, number) = (shortest(self.request.tau), refusal.number);
         sink.fill(|to| {
-            writeln!(to, "# not the field at tau {tau}: the state after the last accepted substep of a run refused by {number}")?;
+            writeln!(to, "# not the field at tau {}: {told}", shortest(self.request.tau))?;
             vectors::write(to, state)
         })?;
         let told = if is_standard_output(&place) { "above".into() } else { format!("in {}", place.display()) };
         tell(&format!("soak: the state after the last accepted substep, at an earlier time than tau, is {told}"));
         Ok(Some(place))
+    }
+
+    fn frame(&self, field: &[f64], time: f64, substeps: usize) -> Result<(), Failure> {
+        let Some(frames) = &self.request.frames else { return Ok(()) };
+        let picture = self.request.plot.as_ref().map(|_| {
+            let summary = Summary::of(field, self.job.weights());
+            let picture = self.picture(field, &summary);
+            Picture { title: format!("{}, at {} % of tau", picture.title, percent(time)), ..picture }.main()
+        });
+        frames.write(substeps, time, self.request.tau, field, picture)
     }
 
     fn not_finite(&self, summary: &Summary, n: usize) -> Option<String> {

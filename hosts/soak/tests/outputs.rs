@@ -143,6 +143,82 @@ fn a_run_that_is_stopped_leaves_nothing() {
     assert_eq!(fs::read_to_string(&field).unwrap(), "kept\n");
 }
 
+const STEPS: &str = "rod.mtx --mass mass.txt --tau 600 --vector start.txt --vector heating.txt --solver krylov --m 4";
+
+#[test]
+fn by_substeps_the_bits_are_the_same() {
+    for more in ["", "--transpose", "--limit 3", "--transpose --limit 3"] {
+        let whole = run(&format!("{STEPS} {more}"));
+        let frames = folder("frames-none");
+        let steps = run(&format!("{STEPS} {more} --every 1000000 --frames {}", frames.display()));
+        assert_eq!(steps.stdout, whole.stdout);
+        assert_eq!((steps.stderr, steps.status), (whole.stderr, whole.status));
+        assert!(listed(&frames).is_empty());
+        let same = run(&format!("{STEPS} {more} --tighten 0:1e-10"));
+        assert_eq!((same.stdout, same.status), (steps.stdout, steps.status));
+    }
+}
+
+#[test]
+fn frames_are_the_field_on_the_way() {
+    let frames = folder("frames").join("new");
+    let plot = scratch("frames.svg");
+    let output = run(&format!("{STEPS} --every 100 --frames {} --plot {}", frames.display(), plot.display()));
+    assert!(output.status.success());
+    let mut names = listed(&frames);
+    names.sort();
+    assert_eq!(names, ["field-0000100.svg", "field-0000100.txt", "field-0000200.svg", "field-0000200.txt"]);
+    let text = fs::read_to_string(frames.join("field-0000200.txt")).unwrap();
+    assert!(text.starts_with("# the field after 200 substeps, at 0.") && text.lines().count() == 9);
+    // What a run with that limit leaves.
+    let stopped = String::from_utf8(run(&format!("{STEPS} --limit 200")).stdout).unwrap();
+    assert!(text.lines().skip(1).eq(stopped.lines().skip(1)));
+    let picture = fs::read_to_string(frames.join("field-0000100.svg")).unwrap();
+    assert!(picture.starts_with("<svg ") && picture.contains(" % of tau"));
+    // A frame is a vector again; and a folder with frames is not written to.
+    let again = frames.join("field-0000100.txt").display().to_string();
+    assert!(run(&format!("rod.mtx --tau 1 --vector {again}")).status.success());
+    let output = run(&format!("{STEPS} --every 1 --frames {}", frames.display()));
+    assert_eq!(output.status.code(), Some(74));
+    assert_eq!(listed(&frames).len(), 4);
+}
+
+#[test]
+fn what_was_tightened_is_reported() {
+    let reports = ["tightened.html", "tightened.json"].map(scratch);
+    let [html, json] = reports.clone().map(|path| path.display().to_string());
+    assert!(run(&format!("{STEPS} --tol 1e-6 --tighten 0.5:1e-9 --report {html} --report {json}")).status.success());
+    let [html, json] = reports.map(|path| fs::read_to_string(path).unwrap());
+    assert!(html.contains("tol 1e-9 from 0.5 of tau on") && json.contains("\"tightened\":[{\"share\":0.5,\n\"tol\":1e-9}]"));
+}
+
+/// Not on a terminal either: a run by substeps hears Ctrl-C.
+#[test]
+fn a_run_that_ctrl_c_stops_leaves_a_paused_state() {
+    let folder = folder("paused");
+    let (field, html, json) = (folder.join("field.txt"), folder.join("page.html"), folder.join("page.json"));
+    fs::write(&field, "kept\n").unwrap();
+    let job = "rod.mtx --mass mass.txt --tau 6000 --vector start.txt --solver krylov --m 2 --tol 1e-13 --limit 1000000 --tighten 0:1e-13";
+    let words = format!("{job} --output {} --report {} --report {}", field.display(), html.display(), json.display());
+    let child = soak(&words).stdout(Stdio::piped()).stderr(Stdio::piped()).spawn().unwrap();
+    std::thread::sleep(std::time::Duration::from_millis(300));
+    assert!(Command::new("kill").args(["-INT", &child.id().to_string()]).status().unwrap().success());
+    let output = child.wait_with_output().unwrap();
+    let told = String::from_utf8_lossy(&output.stderr).into_owned();
+    assert_eq!(output.status.code(), Some(81), "{told}");
+    assert!(told.contains("soak: stopped by Ctrl-C at ") && told.contains("a paused state"));
+    assert!(output.stdout.is_empty() && fs::read_to_string(&field).unwrap() == "kept\n");
+    let state = folder.join("field.txt.state");
+    let text = fs::read_to_string(&state).unwrap();
+    assert!(text.starts_with("# not the field at tau 6000: the state of a run paused at ") && text.lines().count() == 9);
+    // What it says of going on can be done.
+    let rest = told.lines().find_map(|line| line.trim().strip_prefix("to go on: it as the first --vector, and --tau ")).unwrap();
+    let on = format!("rod.mtx --mass mass.txt --tau {rest} --vector {} --solver krylov", state.display());
+    assert!(run(&on).status.success());
+    let [html, json] = [html, json].map(|path| fs::read_to_string(path).unwrap());
+    assert!(html.contains("Stopped by Ctrl-C") && json.contains("\"status\":81") && json.contains("\"stopped_at\":"));
+}
+
 #[test]
 fn a_plot_goes_to_the_standard_output() {
     let field = scratch("beside-plot.txt");

@@ -8,7 +8,7 @@ use Rattle.phi_krylov.proofs.admit_weighed.Tie as tie
 
 returns : tie.Need-returns
 unfolding run-checks
-returns c f eta e =
+returns c f e =
     let n = c .before .before in
     let checked = c .before .check-run .ensures _ (ap (λ (r : Weights). r .checked) e) in
     rw (checked, c .krylov .ensures, n .krylov-need .ensures, n .before .bound .ensures, e) refl

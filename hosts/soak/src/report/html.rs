@@ -3,9 +3,10 @@
 use super::{command_line, Outcome, Report};
 use crate::plot::{escaped, Picture};
 use crate::sink::is_standard_output;
+use crate::steps::{Stopped, Tightening};
 use crate::summary::{rounded, Extreme, Summary};
 use hazhendu::{shortest, Cost, Refusal, Solver};
-use std::path::PathBuf;
+use std::path::Path;
 
 /// A field of more rows is not listed.
 const LISTED: usize = 5000;
@@ -24,15 +25,13 @@ pub fn page(report: &Report) -> String {
     let title = match &report.outcome {
         Outcome::Soaked { picture, .. } => picture.title.clone(),
         Outcome::Refused { .. } => format!("{}, refused", report.request.files.matrix.short_name()),
+        Outcome::Stopped { .. } => format!("{}, stopped", report.request.files.matrix.short_name()),
     };
     let title = escaped(&title);
     let body = match &report.outcome {
         Outcome::Soaked { cost, picture } => soaked(report, cost, picture),
-        Outcome::Refused { refusal, place, state } => {
-            let told = |path: &PathBuf| if is_standard_output(path) { "the standard output".into() } else { path.display().to_string() };
-            let state = state.as_ref().map(told);
-            refused(*refusal, *place, state.as_deref())
-        }
+        Outcome::Refused { refusal, place, state } => refused(*refusal, *place, state.as_deref().map(named)),
+        Outcome::Stopped { stopped, state } => stopped_run(stopped, report.seconds, state.as_deref().map(named)),
     };
     let warning = |text: &String| format!("<p class=\"warning\">{}</p>\n", escaped(text.trim_start_matches("soak: ")));
     let warnings: String = report.warnings.iter().map(warning).collect();
@@ -65,12 +64,28 @@ fn soaked(report: &Report, cost: &Cost, picture: &Picture) -> String {
     )
 }
 
-fn refused(refusal: Refusal, place: Option<&str>, state: Option<&str>) -> String {
+fn named(path: &Path) -> String {
+    if is_standard_output(path) {
+        "the standard output".into()
+    } else {
+        path.display().to_string()
+    }
+}
+
+fn stopped_run(stopped: &Stopped, seconds: f64, state: Option<String>) -> String {
+    let mut rows = vec![("stopped at, of tau".into(), shortest(stopped.time))];
+    rows.extend(state.map(|path| ("state after the last accepted substep".into(), path)));
+    rows.extend(stopped.rest().map(|rest| ("to go on from it".into(), format!("--tau {}", shortest(rest)))));
+    rows.extend(spent(&Cost::Krylov(stopped.report), seconds));
+    format!("<p class=\"bad\">Stopped by Ctrl-C: there is no field at tau.</p>\n{}", table(rows))
+}
+
+fn refused(refusal: Refusal, place: Option<&str>, state: Option<String>) -> String {
     let mut rows = vec![("refused".into(), format!("({}) {}", refusal.number, refusal.wrong()))];
     rows.extend(refusal.told().map(|told| ("told".into(), told)));
     rows.extend(place.map(|place| ("where".into(), place.to_owned())));
     rows.push(("what to change".into(), refusal.change().to_owned()));
-    rows.extend(state.map(|path| ("state after the last accepted substep".into(), path.to_owned())));
+    rows.extend(state.map(|path| ("state after the last accepted substep".into(), path)));
     format!("<p class=\"bad\">Refused: there is no field.</p>\n{}", table(rows))
 }
 
@@ -120,6 +135,8 @@ fn asked(report: &Report) -> String {
     };
     let transposed = if request.files.transposed { ", on the transposed matrix" } else { "" };
     rows.push(("solver".into(), format!("{}{options}{transposed}", report.solver())));
+    let tightened = |t: &Tightening| format!("tol {} from {} of tau on", shortest(t.tol), shortest(t.share));
+    rows.extend(request.tightenings.iter().map(|t| ("tightened".into(), tightened(t))));
     format!("<h2>What was asked</h2>\n{}", table(rows))
 }
 

@@ -20,6 +20,7 @@ pub fn text(report: &Report) -> String {
         ("vectors", list(request.vectors.iter().map(|source| string(&source.to_string())))),
         ("tau", number(request.tau)),
         ("solver", solver(&request.solver)),
+        ("tightened", list(request.tightenings.iter().map(|t| object(vec![("share", number(t.share)), ("tol", number(t.tol))])))),
         ("seconds", number(report.seconds)),
         ("warnings", list(report.warnings.iter().map(|warning| string(warning)))),
     ];
@@ -28,6 +29,12 @@ pub fn text(report: &Report) -> String {
             fields.push(("refusal", refused(*refusal, *place)));
             fields.push(("state", state.as_ref().map_or(null(), |path| string(&path.display().to_string()))));
         }
+        Outcome::Stopped { stopped, state } => fields.extend([
+            ("refusal", null()),
+            ("stopped_at", number(stopped.time)),
+            ("cost", spent(&Cost::Krylov(stopped.report))),
+            ("state", state.as_ref().map_or(null(), |path| string(&path.display().to_string()))),
+        ]),
         Outcome::Soaked { cost, picture } => {
             fields.extend([
                 ("refusal", null()),

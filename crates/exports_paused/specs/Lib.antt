@@ -1,0 +1,2 @@
+-- What the exported functions on paused runs hand back.
+pub mod Told

@@ -1,0 +1,98 @@
+//! How far a run is: one line on the terminal, written over.
+
+use hazhendu::Report;
+use std::io::{self, IsTerminal, Write};
+use std::time::{Duration, Instant};
+
+const BETWEEN: Duration = Duration::from_millis(100);
+
+pub struct Progress {
+    /// Whether there is a terminal to tell.
+    told: bool,
+    /// When the line was last written, and its length.
+    last: Option<Instant>,
+    length: usize,
+}
+
+impl Progress {
+    pub fn new() -> Self {
+        Progress { told: io::stderr().is_terminal(), last: None, length: 0 }
+    }
+
+    /// After a substep; not more often than can be read, but after the first one and the last one.
+    pub fn tell(&mut self, time: f64, report: &Report, ended: bool) {
+        if self.told && (ended || self.last.map_or(true, |last| last.elapsed() >= BETWEEN)) {
+            self.write(&line(time, report));
+            self.last = Some(Instant::now());
+        }
+    }
+
+    fn write(&mut self, line: &str) {
+        let length = line.chars().count();
+        let blanks = " ".repeat(self.length.saturating_sub(length));
+        let back = if line.is_empty() { "\r" } else { "" };
+        // Where even this cannot be written, there is nobody to tell.
+        let _ = write!(io::stderr(), "\r{line}{blanks}{back}").and_then(|()| io::stderr().flush());
+        self.length = length;
+    }
+}
+
+/// Room for what is told next.
+impl Drop for Progress {
+    fn drop(&mut self) {
+        if self.length > 0 {
+            self.write("");
+        }
+    }
+}
+
+/// 100 % only at the end itself.
+pub fn percent(time: f64) -> u32 {
+    let percent = (time * 100.0).floor().clamp(0.0, 100.0) as u32;
+    if time < 1.0 {
+        percent.min(99)
+    } else {
+        percent
+    }
+}
+
+fn line(time: f64, report: &Report) -> String {
+    format!(
+        "{} % of tau, {} substeps, {} applications, step {}, error {}",
+        percent(time),
+        report.substeps,
+        report.matvecs,
+        exponent(report.last_step, 1),
+        exponent(report.estimated_error, 0)
+    )
+}
+
+/// With a sign and two digits in the exponent, so that the line keeps its length.
+fn exponent(value: f64, digits: usize) -> String {
+    let text = format!("{value:.digits$e}");
+    match text.split_once('e') {
+        Some((digits, power)) => {
+            let (sign, power) = power.strip_prefix('-').map_or(('+', power), |power| ('-', power));
+            format!("{digits}e{sign}{power:0>2}")
+        }
+        None => text,
+    }
+}
+
+#[cfg(test)]
+mod tests {
+    use super::{exponent, line, percent};
+    use hazhendu::Report;
+
+    #[test]
+    fn a_line_says_how_far_it_is() {
+        let report = Report { substeps: 31, matvecs: 1271, rejected: 0, estimated_error: 3.2e-10, shortest_step: 1e-3, last_step: 0.0123 };
+        assert_eq!(line(0.4321, &report), "43 % of tau, 31 substeps, 1271 applications, step 1.2e-02, error 3e-10");
+    }
+
+    #[test]
+    fn numbers_of_the_line() {
+        assert_eq!([0.0, 0.999, 0.9999999999999999, 1.0, f64::NAN].map(percent), [0, 99, 99, 100, 0]);
+        assert_eq!([0.0123, 1.0, 0.0, 1e-300, f64::NAN].map(|x| exponent(x, 1)), ["1.2e-02", "1.0e+00", "0.0e+00", "1.0e-300", "NaN"]);
+    }
+}
