@@ -179,11 +179,9 @@ const FIXED_RUNS: usize = 20;
 fn fixed(o: &Options, t: &mut Tally) {
     let lines = FIXED.iter().flat_map(|file| file.lines()).filter(|line| !line.trim().is_empty() && !line.starts_with('#'));
     for job in lines.map(|line| Job::parse(line).expect("a job in the text form")).filter(paused::has_steps) {
-        if let Some(expected) = compare::expected(&job, o.cost) {
-            let answer = &expected.answer;
-            paused(o, usize::MAX, t, |r, seen| undivided(&job, answer, o.cost, |n| r.below(n), seen));
-            (1..=FIXED_RUNS).for_each(|i| paused(o, usize::MAX - i, t, |r, seen| paused::changes(&job, answer, o.cost, r, seen)));
-        }
+        let Some(Expected { answer, .. }) = compare::expected(&job, o.cost) else { continue };
+        paused(o, usize::MAX, t, |r, seen| undivided(&job, &answer, o.cost, |n| r.below(n), seen));
+        (1..=FIXED_RUNS).for_each(|i| paused(o, usize::MAX - i, t, |r, seen| paused::changes(&job, &answer, o.cost, r, seen)));
     }
 }
 
