@@ -1,3 +1,0 @@
-pub mod OneStage
-pub mod Few
-pub mod Turns
