@@ -13,6 +13,7 @@ use borrow.Author.Tests.{not-false, eq-eqb, eqb-true, lt-ltb, ltb-true}
 use Rattle.lists.specs.Find.{find, exists}
 use Rattle.lists.proofs.Find.{found-at, find-before, find-holds}
 use Rattle.doubles.specs.F64.{_⊕_, _⊗_, _⋖_, _⩽_, +0, 2f, at, is-finite}
+use Rattle.doubles.proofs.Finite.{holds}
 use Rattle.doubles.proofs.Total.{le-number-left, ⋖-not, ⩽-or-⋖}
 use Rattle.doubles.proofs.Monotone.{finite-number, mul-number, add-nonneg, mul-nonneg}
 use Rattle.checks.specs.First.{Check, refuse, first, before}
@@ -82,9 +83,6 @@ module _ (tau : Float) (cap : ℕ) (b : Augmented) (runs : ℕ) (start : ℕ →
 two-nonneg : T (+0 ⩽ 2f)
 unfolding le ofBits
 two-nonneg = tt
-
-holds : {b : Bool} → b ≡ true → T b
-holds e = rw e tt
 
 in-range : (x : Float) → out-of-range x ≡ false → T (is-finite x) × T (+0 ⩽ x)
 unfolding out-of-range

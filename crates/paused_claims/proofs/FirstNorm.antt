@@ -24,7 +24,7 @@ use Rattle.doubles.specs.Value.{val}
 use Rattle.doubles.proofs.Unique.{pattern-value}
 use Rattle.doubles.proofs.Monotone.{add-mono, mul-mono, mul-number, round-not}
 use Rattle.doubles.proofs.Order.{nonneg-number, nonneg-zero, nonneg-round, nonneg-add, le→cross, cross→le}
-use Rattle.doubles.proofs.Sizes.{sum-nonneg}
+use Rattle.doubles.proofs.Sizes.{abs-is, sum-nonneg}
 use Rattle.doubles.proofs.Total.{⩽-refl, ⩽-trans}
 use Rattle.sqrt.specs.Sqrt.{sqrt}
 use Rattle.sqrt.proofs.Sandwich.{sqrt-above}
@@ -255,13 +255,6 @@ leading m e f =
     ]
 
 -- ---- signs
-abs-clear : (x : Float) → T (nonneg x) → abs x ≡ x
-abs-clear nan p = absurd p
-abs-clear (inf true) p = absurd p
-abs-clear (inf false) p = refl
-abs-clear (fin true m e) p = absurd p
-abs-clear (fin false m e) p = refl
-
 abs-opposite : (x : Float) → abs (neg x) ≡ abs x
 unfolding neg
 abs-opposite nan = refl
@@ -269,8 +262,8 @@ abs-opposite (inf s) = refl
 abs-opposite (fin s m e) = refl
 
 abs-round : (s : Bool) (a c : ℕ) → abs (round binary64 s a c) ≡ round binary64 false a c
-abs-round false a c = abs-clear (round binary64 false a c) (nonneg-round binary64 a c)
-abs-round true a c = ap abs (round-not binary64 false a c) ∙ abs-opposite (round binary64 false a c) ∙ abs-clear (round binary64 false a c) (nonneg-round binary64 a c)
+abs-round false a c = abs-is (round binary64 false a c) (nonneg-round binary64 a c)
+abs-round true a c = ap abs (round-not binary64 false a c) ∙ abs-opposite (round binary64 false a c) ∙ abs-is (round binary64 false a c) (nonneg-round binary64 a c)
 
 -- a square is that of the size, and not negative
 abs-square : (w : Float) → w ⊗ w ≡ abs w ⊗ abs w
