@@ -251,7 +251,7 @@ fn admit_weighed(
 }
 
 // 21, 22, 24 and 26.
-fn admit_run(
+pub fn admit_run(
     g: Shape,
     tau: f64,
     d: usize,
@@ -317,7 +317,7 @@ pub fn admit_job(
 }
 
 // The first field from place `at` of the lent memory on; w_0 is the first n values of w.
-fn start_in(n: usize, w: &[f64], d: usize, inv: f64, work: &mut [f64], at: usize)
+pub fn start_in(n: usize, w: &[f64], d: usize, inv: f64, work: &mut [f64], at: usize)
     requires { ⌜ (n ≤ length (now w)) × (at + (n + d) ≤ length (now work)) ⌝ }
     ensures { λ _. ⌜ now (work .exit) ≡ splice at (combination-start n (now (w .entry)) d inv) (now (work .entry)) ⌝ }
 {
@@ -364,7 +364,7 @@ fn run_expv(
 }
 
 // A run whose first field stands at k.y, and what it hands out.
-fn run_job(
+pub fn run_job(
     starts: &[u32],
     cols: &[u32],
     vals: &[f64],
@@ -439,7 +439,7 @@ pub fn phi_combination_krylov(
     combined(starts, cols, vals, mass, g, tau, count, w, o, out, work)
 }
 
-fn of_taylor(answer: TaylorAnswer) -> PhiAnswer
+pub fn of_taylor(answer: TaylorAnswer) -> PhiAnswer
     ensures { λ r. ⌜ r ≡ of-taylor answer ⌝ }
 {
     match answer {
@@ -448,7 +448,7 @@ fn of_taylor(answer: TaylorAnswer) -> PhiAnswer
     }
 }
 
-fn of_krylov(answer: KrylovAnswer) -> PhiAnswer
+pub fn of_krylov(answer: KrylovAnswer) -> PhiAnswer
     ensures { λ r. ⌜ r ≡ of-krylov answer ⌝ }
 {
     match answer {

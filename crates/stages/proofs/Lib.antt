@@ -1,0 +1,3 @@
+pub mod OneStage
+pub mod Few
+pub mod Turns

@@ -1,0 +1,3 @@
+-- A soak in stages: single calls in a row.
+pub mod Stages
+pub mod Inner

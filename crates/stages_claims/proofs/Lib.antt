@@ -1,0 +1,10 @@
+pub mod Checks
+pub mod Walks
+pub mod Accepted
+pub mod Reached
+pub mod Answers
+pub mod Bounded
+pub mod Memory
+pub mod Never23
+pub mod Examples
+pub mod Single
