@@ -1,7 +1,4 @@
-pub mod Gains
+pub mod Counts
 pub mod Further
-pub mod Starts
-pub mod Admitted
 pub mod Ends
-pub mod Stored
 pub mod Range

@@ -1,5 +1,4 @@
 -- What a combination is made of, and the checks of a job.
 pub mod Combination
 pub mod Checks
-pub mod Inner
 pub mod Call

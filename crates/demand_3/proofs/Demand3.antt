@@ -30,7 +30,7 @@ use Rattle.combination.specs.Call.{Call, unless-refused}
 use Rattle.combination.specs.Combination.{further}
 use Rattle.combination.specs.Checks.{out-of-range, count-checks, time-checks, length-checks, finite-checks, magnitude-checks, memory-checks, vector-checks-by, vector-checks}
 use Rattle.combination.proofs.Range.{no-23}
-use Rattle.combination.proofs.Admitted.{vectors-known, first-within, length-start}
+use Rattle.admission.proofs.Admitted.{vectors-known, first-within, length-start}
 use Rattle.arnoldi.specs.Basis.{norm2}
 use Rattle.phi_krylov_arnoldi.specs.Run.{State, End, finished, refused, clamp-m, idle}
 use Rattle.phi_krylov_arnoldi.specs.declared.KrylovPhiReport.{KrylovPhiReport}

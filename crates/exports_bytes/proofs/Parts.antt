@@ -24,7 +24,7 @@ use Rattle.generator_action.specs.Generator.{Generator, forward}
 use Rattle.combination.specs.Call.{Call, ends, unless-refused}
 use Rattle.combination.specs.Combination.{further, eta-of}
 use Rattle.combination.specs.Checks.{count-checks, index-checks, time-checks, degree-checks, plan-checks, length-checks, finite-checks, schedule-checks, memory-checks, taylor-need, vector-checks-by, vector-checks, sweep-checks, job-checks}
-use Rattle.combination.proofs.Stored.{quotients-rows}
+use Rattle.admission.proofs.Stored.{quotients-rows}
 use Rattle.phi_action.specs.Calls.{combination-checks, action-checks, phi-combination, phi-action, phi-action-batched}
 use Rattle.phi_action.specs.declared.TaylorAnswer.the-variants as taylor
 use Rattle.phi_krylov.specs.KrylovCall.{bound, dimension, option-checks, run-checks, krylov-need, krylov-checks-by, krylov-checks, phi-combination-krylov}

@@ -18,7 +18,7 @@ use Rattle.checks.specs.declared.Checked.{Checked}
 use Rattle.checks.specs.declared.Checked.the-variants.{Sound, Refused}
 use Rattle.phi_krylov_arnoldi.specs.Run.{State, End, finished}
 use Rattle.combination.specs.Combination.{further}
-use Rattle.combination.proofs.Admitted.{first-within}
+use Rattle.admission.proofs.Admitted.{first-within}
 use Rattle.arnoldi.specs.Basis.{norm2}
 use Rattle.phi_krylov.specs.KrylovCall.{krylov-checks}
 use Rattle.phi_krylov.specs.declared.KrylovPhiOptions.{KrylovPhiOptions}

@@ -9,7 +9,7 @@ use Rattle.checks.specs.declared.Checked.the-variants.{Sound}
 use Rattle.checks.proofs.First.{sound-cons, sound-append}
 use Rattle.combination.specs.Combination.{further}
 use Rattle.combination.specs.Checks.{time-checks, vector-checks}
-use Rattle.combination.proofs.Admitted.{Vectors, vectors-known, first-within, length-start}
+use Rattle.admission.proofs.Admitted.{Vectors, vectors-known, first-within, length-start}
 use Rattle.phi_krylov_arnoldi.specs.Run.{clamp-m}
 use Rattle.phi_krylov.specs.KrylovCall.{dimension, option-checks, krylov-checks-by, krylov-checks}
 use Rattle.phi_krylov.specs.declared.KrylovPhiOptions.{KrylovPhiOptions}

@@ -28,9 +28,9 @@ use Rattle.generator_action.specs.declared.Shape.{Shape}
 use Rattle.combination.specs.Combination.{further, eta-of, combination-start}
 use Rattle.combination.specs.Call.{cleared}
 use Rattle.combination.specs.Checks.{length-checks}
-use Rattle.combination.specs.Inner.{after-checks}
-use Rattle.combination.proofs.Admitted.{first-within}
-use Rattle.combination.proofs.Stored.{quotients-rows}
+use Rattle.admission.specs.Inner.{after-checks}
+use Rattle.admission.proofs.Admitted.{first-within}
+use Rattle.admission.proofs.Stored.{quotients-rows}
 use Rattle.arnoldi.specs.Basis.{norm2}
 use Rattle.phi_krylov_arnoldi.specs.Run.{first-length}
 use Rattle.phi_krylov.specs.KrylovCall.{dimension, krylov-checks, krylov-checks-by}

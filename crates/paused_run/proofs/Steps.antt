@@ -29,9 +29,9 @@ use Rattle.phi_action_helpers.specs.Laid.{matrix-at}
 use Rattle.combination.specs.Combination.{further, combination-operator}
 use Rattle.combination.specs.Call.{cleared}
 use Rattle.combination.specs.Checks.{length-checks}
-use Rattle.combination.specs.Inner.{matrix-of}
-use Rattle.combination.proofs.Admitted.{first-within}
-use Rattle.combination.proofs.Stored.{quotients-rows, clear-over}
+use Rattle.admission.specs.Inner.{matrix-of}
+use Rattle.admission.proofs.Admitted.{first-within}
+use Rattle.admission.proofs.Stored.{quotients-rows, clear-over}
 use Rattle.arnoldi.specs.Basis.{norm2}
 use Rattle.arnoldi.specs.Memory.{setting-at, Room}
 use Rattle.arnoldi.specs.declared.Krylov.{Krylov}

@@ -17,7 +17,7 @@ use Rattle.generator_action.specs.Mass.{given}
 use Rattle.generator_action.specs.declared.Shape.{Shape}
 use Rattle.phi_action_helpers.specs.Augmented.{augmented}
 use Rattle.combination.specs.Call.{cleared}
-use Rattle.combination.specs.Inner.{after-checks}
+use Rattle.admission.specs.Inner.{after-checks}
 use Rattle.arnoldi.specs.Basis.{Setting, norm2}
 use Rattle.phi_krylov_arnoldi.specs.Run.{State, End, finished, refused, setting, first-length, empty-report}
 use Rattle.phi_krylov_arnoldi.specs.declared.Control.{Control}

@@ -30,7 +30,7 @@ ghost use Rattle.generator_action.specs.Generator.{forward};
 ghost use Rattle.generator_action.specs.Known.{Passed};
 ghost use Rattle.combination.specs.Combination.{combination-start};
 ghost use Rattle.combination.specs.Call.{cleared};
-ghost use Rattle.combination.specs.Inner.{matrix-of};
+ghost use Rattle.admission.specs.Inner.{matrix-of};
 ghost use Rattle.phi_krylov_arnoldi.specs.Run.{substep};
 ghost use Rattle.phi_krylov.specs.Inner.{Allowed};
 ghost use Rattle.paused_run.specs.Paused.{leaves, start, tol-in, options-in, over, resumed, moved, stopped, verdict, step};
@@ -142,7 +142,7 @@ fn begin(
     ensures { λ r. ⌜ leaves r (now (out .exit)) (now (work .exit)) (now (field .exit)) ≡ begun-of o j (combination-start (j .g .n) (now (w .entry)) (j .d) (j .eta .inv)) (cleared (j .need) (now (work .entry))) (pow2-scale (combination-start (j .g .n) (now (w .entry)) (j .d) (j .eta .inv))) ⌝ }
 {
     let n = j.g.n;
-    combination::combination_start(n, w, j.d, j.eta.inv, field);
+    admission::combination_start(n, w, j.d, j.eta.inv, field);
     vectors::clear_in(work, 0, j.need);
     let scaling = pow2::pow2_scale(field);
     match scaling {

@@ -25,7 +25,7 @@ use Rattle.phi_action_helpers.proofs.Counts.{run-counted}
 use Rattle.combination.specs.Combination.{init-aug-vector}
 use Rattle.phi_action.specs.Calls.{soaked, batch-step, batched}
 use Rattle.phi_action.proofs.Jobs.{soak-long}
-use Rattle.combination.proofs.Admitted.{length-init}
+use Rattle.admission.proofs.Admitted.{length-init}
 
 -- ---- one run
 pub soak-counted : (b : Augmented) (tau : Float) (y : List Float) (p : SweepPlan) → soaked b tau y p .applied ≡ p .s * p .m

@@ -18,11 +18,11 @@ use Rattle.generator_action.specs.declared.Shape.{Shape}
 use Rattle.combination.specs.Combination.{further, combination-operator, combination-start, action-operator, init-aug-vector}
 use Rattle.combination.specs.Checks.{index-checks, plan-checks, vector-checks, job-checks, taylor-need}
 use Rattle.combination.specs.Call.{Call, ends}
-use Rattle.combination.specs.Inner.{Coupled, matrix-of, after-checks, combination-job, action-job}
-use Rattle.combination.specs.declared.Job.{Job}
+use Rattle.admission.specs.Inner.{Coupled, matrix-of, after-checks, combination-job, action-job}
+use Rattle.admission.specs.declared.Job.{Job}
 use Rattle.combination.proofs.Ends.{refused-by, runs}
-use Rattle.combination.proofs.Stored.{quotients-rows}
-use Rattle.combination.proofs.Admitted.{coupled-in, coupled-one, sweeps-known, Action, action-known, length-start, length-init}
+use Rattle.admission.proofs.Stored.{quotients-rows}
+use Rattle.admission.proofs.Admitted.{coupled-in, coupled-one, sweeps-known, Action, action-known, length-start, length-init}
 use Rattle.phi_action.specs.Inner.{Allowed, operator-by, job-end}
 use Rattle.phi_action.specs.Calls.{soaked, combination-checks, combination-run, phi-combination, action-checks, phi-action, batched, phi-action-batched}
 use Rattle.phi_action.specs.declared.TaylorAnswer.{TaylorAnswer}

@@ -25,10 +25,10 @@ use Rattle.phi_shift.proofs.Chosen.{plan-bounded}
 use Rattle.phi_shift.proofs.Ways as plan-ways
 use Rattle.combination.specs.Call.{Call, ends, cleared}
 use Rattle.combination.specs.Checks.{taylor-need}
-use Rattle.combination.specs.Inner.{Coupled, matrix-of}
-use Rattle.combination.specs.declared.Job.{Job}
-use Rattle.combination.proofs.Stored.{Held, clear-over, long₁, matrix-is, front-is, cleared-is, operator-is}
-use Rattle.combination.proofs.Stored as stored-laws
+use Rattle.admission.specs.Inner.{Coupled, matrix-of}
+use Rattle.admission.specs.declared.Job.{Job}
+use Rattle.admission.proofs.Stored.{Held, clear-over, long₁, matrix-is, front-is, cleared-is, operator-is}
+use Rattle.admission.proofs.Stored as stored-laws
 use Rattle.phi_action.specs.Calls.{Fields, after-plan, report, soaked}
 use Rattle.phi_action.specs.Inner.{layout, Allowed, plan-by, operator-by, job-end}
 use Rattle.phi_action.specs.declared.TaylorAnswer.{TaylorAnswer}

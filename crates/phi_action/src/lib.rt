@@ -1,6 +1,6 @@
 // Taylor: the combination, the single action and the batch of actions.
+use admission::Job;
 use checks::Checked;
-use combination::Job;
 use csr_shift::Shift;
 use generator_action::MatrixAnswer;
 use generator_action::Shape;
@@ -24,7 +24,7 @@ ghost use Rattle.generator_action.specs.Known.{Passed};
 ghost use Rattle.csr_shift.specs.Shift.{negated-csr-shift};
 ghost use Rattle.phi_action_helpers.specs.Laid.{matrix-at, operator-at, Ready, Lined};
 ghost use Rattle.combination.specs.Call.{ends, cleared};
-ghost use Rattle.combination.specs.Inner.{Coupled, matrix-of, after-checks};
+ghost use Rattle.admission.specs.Inner.{Coupled, matrix-of, after-checks};
 ghost use Rattle.phi_action.specs.Inner.{layout, plan-by, operator-by, job-end, Allowed};
 ghost use Rattle.phi_action.specs.Calls.{report, soaked, phi-combination, phi-action, batched, phi-action-batched};
 
@@ -184,12 +184,12 @@ pub fn combined(
     };
     let d = count - 1;
     let further = &w[n..];
-    let j = combination::admit_combination(g, tau, cap, d, further, work.len());
+    let j = admission::admit_combination(g, tau, cap, d, further, work.len());
     let checked = j.checked;
     let Checked::Sound = checked else {
         return TaylorAnswer::Refusal(checks::number(checked), checks::reported(checked));
     };
-    combination::combination_start(n, w, d, j.inv, work);
+    admission::combination_start(n, w, d, j.inv, work);
     run_job(starts, cols, vals, mass, further, out, work, j)
 }
 
@@ -238,12 +238,12 @@ pub fn acted(
     requires { ⌜ Passed (csr (g .n) (now starts) (now cols) (now vals)) (given (g .«with_mass») (now mass)) g ⌝ }
     ensures { λ r. ⌜ ((gs : List Check) → Sound ≡ first gs → ends r (now (out .exit)) (now (work .exit)) ≡ phi-action (after-checks gs (csr (g .n) (now (starts .entry)) (now (cols .entry)) (now (vals .entry))) (given (g .«with_mass») (now (mass .entry))) g) tau cap k (now (v .entry)) (now (out .entry)) (now (work .entry))) ⌝ }
 {
-    let j = combination::admit_action(g, tau, cap, k, v, out.len(), g.n, work.len());
+    let j = admission::admit_action(g, tau, cap, k, v, out.len(), g.n, work.len());
     let checked = j.checked;
     let Checked::Sound = checked else {
         return TaylorAnswer::Refusal(checks::number(checked), checks::reported(checked));
     };
-    combination::init_aug_vector(g.n, v, k, j.inv, work);
+    admission::init_aug_vector(g.n, v, k, j.inv, work);
     run_job(starts, cols, vals, mass, v, out, work, j)
 }
 
@@ -297,7 +297,7 @@ fn sweep_batch(
     let n = x.l.n;
     let mut applied = 0u64;
     for k in 0..count {
-        combination::init_aug_vector(n, v, k, inv, work);
+        admission::init_aug_vector(n, v, k, inv, work);
         applied = applied + swept_out(starts, cols, vals, v, out, k * n, work, x);
     }
     applied
@@ -356,7 +356,7 @@ pub fn acted_batched(
         return TaylorAnswer::Refusal(checks::number(index), checks::reported(index));
     };
     let count = p + 1;
-    let j = combination::admit_action(g, tau, cap, p, v, out.len(), count * g.n, work.len());
+    let j = admission::admit_action(g, tau, cap, p, v, out.len(), count * g.n, work.len());
     let checked = j.checked;
     let Checked::Sound = checked else {
         return TaylorAnswer::Refusal(checks::number(checked), checks::reported(checked));

@@ -26,10 +26,10 @@ use Rattle.phi_action_helpers.specs.Augmented.{augmented}
 use Rattle.combination.specs.Combination.{further, eta-of, combination-operator, combination-start}
 use Rattle.combination.specs.Call.{Call, ends, cleared}
 use Rattle.combination.specs.Checks.{count-checks, time-checks, length-checks, finite-checks, vector-checks-by, vector-checks, magnitude-checks}
-use Rattle.combination.specs.Inner.{matrix-of, after-checks}
-use Rattle.combination.proofs.Admitted.{Vectors, vectors-known, first-within, further-within, coupled-in, enough-known, length-start}
+use Rattle.admission.specs.Inner.{matrix-of, after-checks}
+use Rattle.admission.proofs.Admitted.{Vectors, vectors-known, first-within, further-within, coupled-in, enough-known, length-start}
 use Rattle.combination.proofs.Further.{length-further}
-use Rattle.combination.proofs.Stored.{quotients-rows, clear-over}
+use Rattle.admission.proofs.Stored.{quotients-rows, clear-over}
 use Rattle.combination.proofs.Ends.{refused-by, runs}
 use Rattle.arnoldi.specs.declared.Krylov.{Krylov}
 use Rattle.phi_krylov_arnoldi.specs.Run.{End, finished, refused, clamp-m}

@@ -18,9 +18,9 @@ use Rattle.phi_action_helpers.specs.declared.Layout.{Layout}
 use Rattle.phi_action_helpers.specs.Augmented.{augmented}
 use Rattle.phi_action_helpers.specs.Laid.{Lined, matrix-at, operator-at}
 use Rattle.combination.specs.Call.{ends, cleared}
-use Rattle.combination.specs.Inner.{matrix-of}
-use Rattle.combination.proofs.Stored.{Held}
-use Rattle.combination.proofs.Stored as job
+use Rattle.admission.specs.Inner.{matrix-of}
+use Rattle.admission.proofs.Stored.{Held}
+use Rattle.admission.proofs.Stored as job
 use Rattle.arnoldi.specs.declared.Krylov.{Krylov}
 use Rattle.arnoldi.specs.Memory.{Room}
 use Rattle.phi_krylov_arnoldi.specs.Run.{End, expv}

@@ -1,7 +1,7 @@
 // Krylov: the combination by adaptive substeps.
+use admission::Weights;
 use arnoldi::Krylov;
 use checks::Checked;
-use combination::Weights;
 use generator_action::MatrixAnswer;
 use generator_action::Shape;
 use phi_action::TaylorAnswer;
@@ -29,7 +29,7 @@ ghost use Rattle.generator_action.specs.Known.{Passed};
 ghost use Rattle.combination.specs.Combination.{magnitude, combination-start};
 ghost use Rattle.combination.specs.Call.{ends, cleared};
 ghost use Rattle.combination.specs.Checks.{time-checks, length-checks, vector-checks-by, memory-checks};
-ghost use Rattle.combination.specs.Inner.{weights-by, matrix-of, after-checks};
+ghost use Rattle.admission.specs.Inner.{weights-by, matrix-of, after-checks};
 ghost use Rattle.phi_krylov_arnoldi.specs.Run.{clamp-m};
 ghost use Rattle.phi_krylov_arnoldi.specs.Memory.{end-at};
 ghost use Rattle.phi_krylov.specs.KrylovCall.{bound, dimension, option-checks, bound-checks, krylov-need, after-run, phi-combination-krylov};
@@ -264,9 +264,9 @@ pub fn admit_run(
     requires { ⌜ (d * g .n ≤ length (now further)) × (g .n ≤ 1000000) × (d ≤ 3) × (m ≤ 128) × (g .stored ≤ 16777216) ⌝ }
     ensures { λ r. ⌜ r ≡ run-job-by g tau d (now (further .entry)) (scaling-by eta (magnitude (g .n) (now (further .entry)) tau d)) o m memory ⌝ }
 {
-    let p = combination::powers_of(g.n, further, tau, d);
+    let p = admission::powers_of(g.n, further, tau, d);
     let scaling = scaling_by(eta, p.sum);
-    let weights = combination::weigh_by(g.n, d, p, scaling);
+    let weights = admission::weigh_by(g.n, d, p, scaling);
     admit_weighed(g, tau, d, scaling, weights, o, m, memory)
 }
 
@@ -322,7 +322,7 @@ pub fn start_in(n: usize, w: &[f64], d: usize, inv: f64, work: &mut [f64], at: u
     ensures { λ _. ⌜ now (work .exit) ≡ splice at (combination-start n (now (w .entry)) d inv) (now (work .entry)) ⌝ }
 {
     let to = at + (n + d);
-    combination::combination_start(n, w, d, inv, &mut work[at..to]);
+    admission::combination_start(n, w, d, inv, &mut work[at..to]);
 }
 
 fn answer_of(end: RunAnswer) -> KrylovAnswer

@@ -21,10 +21,10 @@ use Rattle.generator_action.specs.declared.Shape.{Shape}
 use Rattle.combination.specs.Combination.{further, magnitude, combination-start}
 use Rattle.combination.specs.Checks.{count-checks, time-checks, plan-checks, length-checks, finite-checks, vector-checks-by, vector-checks}
 use Rattle.combination.specs.Call.{Call, ends}
-use Rattle.combination.specs.Inner.{Coupled, matrix-of, after-checks, combination-job}
-use Rattle.combination.specs.declared.Job.{Job}
+use Rattle.admission.specs.Inner.{Coupled, matrix-of, after-checks, combination-job}
+use Rattle.admission.specs.declared.Job.{Job}
 use Rattle.combination.proofs.Ends.{refused-by, runs}
-use Rattle.combination.proofs.Stored.{quotients-rows}
+use Rattle.admission.proofs.Stored.{quotients-rows}
 use Rattle.combination.proofs.Further.{further-behind, start-of}
 use Rattle.phi_action.specs.Calls.{soaked, phi-combination}
 use Rattle.phi_action.specs.Inner.{Allowed, operator-by, job-end}

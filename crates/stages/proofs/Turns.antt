@@ -17,7 +17,7 @@ use Rattle.generator_action.specs.Mass.{Mass, quotient-need, generator-checks, 
 use Rattle.generator_action.specs.Generator.{Generator, forward}
 use Rattle.generator_action.specs.declared.Shape.{Shape}
 use Rattle.combination.specs.Call.{Call, ends, unless-refused}
-use Rattle.combination.specs.Inner.{after-checks}
+use Rattle.admission.specs.Inner.{after-checks}
 use Rattle.combination.proofs.Ends.{refused-by, runs}
 use Rattle.phi_krylov.specs.declared.PhiAnswer.{PhiAnswer}
 use Rattle.phi_krylov.specs.declared.PhiAnswer.the-variants as phi

@@ -27,7 +27,7 @@ ghost use Rattle.generator_action.specs.Generator.{forward};
 ghost use Rattle.generator_action.specs.Known.{Passed};
 ghost use Rattle.combination.specs.Checks.{time-checks, plan-checks};
 ghost use Rattle.combination.specs.Call.{ends};
-ghost use Rattle.combination.specs.Inner.{after-checks};
+ghost use Rattle.admission.specs.Inner.{after-checks};
 ghost use Rattle.phi_action.specs.Calls.{phi-combination};
 ghost use Rattle.phi_krylov.specs.KrylovCall.{phi-combination-krylov};
 ghost use Rattle.phi_krylov.specs.Combine.{combine};
@@ -61,7 +61,7 @@ fn taylor_stage(
         return TaylorAnswer::Refusal(checks::number(finite), checks::reported(finite));
     };
     let d = count - 1;
-    let j = combination::admit_combination(g, tau, cap, d, vectors, work.len());
+    let j = admission::admit_combination(g, tau, cap, d, vectors, work.len());
     let checked = j.checked;
     let Checked::Sound = checked else {
         return TaylorAnswer::Refusal(checks::number(checked), checks::reported(checked));

@@ -11,7 +11,7 @@ use Rattle.checks.proofs.First.{sound-append}
 use Rattle.generator_action.specs.Generator.{Generator}
 use Rattle.combination.specs.Call.{Call, unless-refused}
 use Rattle.combination.specs.Checks.{count-checks, plan-checks, time-checks, vector-checks, vector-checks-by}
-use Rattle.combination.proofs.Admitted.{Vectors, vectors-known}
+use Rattle.admission.proofs.Admitted.{Vectors, vectors-known}
 use Rattle.phi_action.specs.Calls.{combination-checks, phi-combination}
 use Rattle.phi_action.specs.declared.TaylorAnswer.{TaylorAnswer}
 use Rattle.phi_action.specs.declared.TaylorAnswer.the-variants as taylor

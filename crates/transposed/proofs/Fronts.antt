@@ -19,7 +19,7 @@ use Rattle.transpose.specs.Transpose.{Buffers, buffers, lengths, transpose, tra
 use Rattle.transpose.proofs.Passed.{Transposable, transposable, before-sound, transposed-shape, transposed-passed}
 use Rattle.transpose.proofs.Answer.{Written, written-starts, written-columns, written-values, fronts}
 use Rattle.combination.specs.Call.{Call}
-use Rattle.combination.specs.Inner.{after-checks}
+use Rattle.admission.specs.Inner.{after-checks}
 use Rattle.transposed.specs.Transposed.{lends}
 use Rattle.transposed.specs.Inner.{shape-answer}
 use Rattle.transposed.specs.declared.ShapeAnswer.{ShapeAnswer}

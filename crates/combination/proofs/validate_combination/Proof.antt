@@ -3,7 +3,7 @@ use borrow.Author.Needs.{needs}
 use native.Mathlib.Omega.{arith}
 use Prim.Native.Nat.{_*_, _≤_}
 use Rattle.checks.proofs.First.{refused-up, sound-on}
-use Rattle.combination.proofs.Gains.{vectors-fit}
+use Rattle.combination.proofs.Counts.{vectors-fit}
 use Rattle.combination.specs.Checks.{vector-checks-by}
 use Rattle.combination.proofs.validate_combination.Statement.{statement}
 use Rattle.combination.proofs.validate_combination.Tie as tie

@@ -7,7 +7,7 @@ use Prim.Native.Nat.{_-_}
 use lib.ListN.{length}
 use Rattle.lists.proofs.Window.{length-splice}
 use Rattle.checks.proofs.First.{passed-up, ends-sound}
-use Rattle.combination.proofs.Admitted.{vectors-known, of-one-slice, further-within, first-within}
+use Rattle.admission.proofs.Admitted.{vectors-known, of-one-slice, further-within, first-within}
 use Rattle.combination.proofs.Further.{part-further, length-further}
 use Rattle.phi_action.proofs.Calls.{allowed-combination, runs-combination, field-fits, refused-vectors, refused-sweeps, ran, combined-is}
 use Rattle.phi_action.proofs.combined.Statement.{statement}

@@ -1,6 +1,6 @@
 -- `phi_action::prepare` meets its contract. Assumes nothing.
 use borrow.Author.Needs.{needs}
-use Rattle.combination.proofs.Stored.{store-fits, matrix-valid, stored-in}
+use Rattle.admission.proofs.Stored.{store-fits, matrix-valid, stored-in}
 use Rattle.phi_action.proofs.Jobs.{held, plan-is}
 use Rattle.phi_action.proofs.prepare.Statement.{statement}
 use Rattle.phi_action.proofs.prepare.Tie as tie

@@ -8,7 +8,7 @@ use Rattle.checks.specs.First.{first}
 use Rattle.checks.proofs.First.{passed-up}
 use Rattle.general_operator.specs.Csr.{csr}
 use Rattle.generator_action.specs.Mass.{given}
-use Rattle.combination.proofs.Stored.{quotients-rows}
+use Rattle.admission.proofs.Stored.{quotients-rows}
 use Rattle.stage_checks.specs.Inner.{field-of}
 use Rattle.stage_checks.specs.Schedule.{stage-checks}
 use Rattle.stage_checks.proofs.Checks.{stage-known, few-further}

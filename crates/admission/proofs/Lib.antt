@@ -1,0 +1,4 @@
+pub mod Gains
+pub mod Starts
+pub mod Admitted
+pub mod Stored
