@@ -1,4 +1,4 @@
-pub mod Gains
+pub mod Rows
 pub mod Starts
 pub mod Admitted
 pub mod Stored

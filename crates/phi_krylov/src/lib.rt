@@ -1,5 +1,4 @@
 // Krylov: the combination by adaptive substeps.
-use admission::Weights;
 use arnoldi::Krylov;
 use checks::Checked;
 use generator_action::MatrixAnswer;
@@ -11,6 +10,7 @@ use phi_action_helpers::Layout;
 use phi_krylov_arnoldi::KrylovPhiReport;
 use phi_krylov_arnoldi::RunAnswer;
 use pow2::Scaling;
+use weighted_columns::Weights;
 ghost use mathlib.Core.Path.{_≡_};
 ghost use mathlib.Core.Bool.{_&&_, _||_};
 ghost use mathlib.Core.List.{List, _++_};
@@ -29,7 +29,8 @@ ghost use Rattle.generator_action.specs.Known.{Passed};
 ghost use Rattle.combination.specs.Combination.{magnitude, combination-start};
 ghost use Rattle.combination.specs.Call.{ends, cleared};
 ghost use Rattle.combination.specs.Checks.{time-checks, length-checks, vector-checks-by, memory-checks};
-ghost use Rattle.admission.specs.Inner.{weights-by, matrix-of, after-checks};
+ghost use Rattle.admission.specs.Inner.{matrix-of, after-checks};
+ghost use Rattle.weighted_columns.specs.Inner.{weights-by};
 ghost use Rattle.phi_krylov_arnoldi.specs.Run.{clamp-m};
 ghost use Rattle.phi_krylov_arnoldi.specs.Memory.{end-at};
 ghost use Rattle.phi_krylov.specs.KrylovCall.{bound, dimension, option-checks, bound-checks, krylov-need, after-run, phi-combination-krylov};
@@ -264,9 +265,9 @@ pub fn admit_run(
     requires { ⌜ (d * g .n ≤ length (now further)) × (g .n ≤ 1000000) × (d ≤ 3) × (m ≤ 128) × (g .stored ≤ 16777216) ⌝ }
     ensures { λ r. ⌜ r ≡ run-job-by g tau d (now (further .entry)) (scaling-by eta (magnitude (g .n) (now (further .entry)) tau d)) o m memory ⌝ }
 {
-    let p = admission::powers_of(g.n, further, tau, d);
+    let p = weighted_columns::powers_of(g.n, further, tau, d);
     let scaling = scaling_by(eta, p.sum);
-    let weights = admission::weigh_by(g.n, d, p, scaling);
+    let weights = weighted_columns::weigh_by(g.n, d, p, scaling);
     admit_weighed(g, tau, d, scaling, weights, o, m, memory)
 }
 

@@ -2,7 +2,7 @@
 use borrow.Author.Needs.{needs}
 use mathlib.Core.Path.{ap}
 use Rattle.combination.specs.Checks.{sweep-checks}
-use Rattle.admission.specs.declared.Weights.{Weights}
+use Rattle.weighted_columns.specs.declared.Weights.{Weights}
 use Rattle.admission.proofs.admit_combination.Statement.{statement}
 use Rattle.admission.proofs.admit_combination.Tie as tie
 

@@ -1,6 +1,6 @@
 -- `admission::check_schedule` meets its contract. Assumes nothing.
 use borrow.Author.Needs.{needs}
-use Rattle.admission.proofs.Gains.{row-missing, row-found}
+use Rattle.admission.proofs.Rows.{row-missing, row-found}
 use Rattle.admission.proofs.check_schedule.Statement.{statement}
 use Rattle.admission.proofs.check_schedule.Tie as tie
 

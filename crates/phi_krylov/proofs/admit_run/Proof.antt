@@ -2,7 +2,7 @@
 use borrow.Author.Needs.{needs}
 use mathlib.Core.Path.{ap, _∙_}
 use Rattle.pow2.specs.declared.Scaling.{Scaling}
-use Rattle.admission.specs.declared.Powers.{Powers}
+use Rattle.weighted_columns.specs.declared.Powers.{Powers}
 use Rattle.phi_krylov.specs.Inner.{scaling-by, run-job-by}
 use Rattle.phi_krylov.proofs.admit_run.Statement.{statement}
 use Rattle.phi_krylov.proofs.admit_run.Tie as tie

@@ -1,7 +1,7 @@
 -- `phi_krylov::admit_weighed` meets its contract. Assumes nothing.
 use borrow.Author.Needs.{needs}
 use mathlib.Core.Path.{refl, ap}
-use Rattle.admission.specs.declared.Weights.{Weights}
+use Rattle.weighted_columns.specs.declared.Weights.{Weights}
 use Rattle.phi_krylov.specs.KrylovCall.{run-checks}
 use Rattle.phi_krylov.proofs.admit_weighed.Statement.{statement}
 use Rattle.phi_krylov.proofs.admit_weighed.Tie as tie

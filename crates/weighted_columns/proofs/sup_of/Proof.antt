@@ -1,11 +1,11 @@
--- `admission::sup_of` meets its contract. Assumes nothing.
+-- `weighted_columns::sup_of` meets its contract. Assumes nothing.
 use borrow.Author.Needs.{needs}
 use mathlib.Core.Path.{ap, _∙_}
 use Rattle.pow2.specs.Pow2.{sup}
 use Rattle.lists.proofs.Window.{part-window}
 use Rattle.combination.specs.Combination.{vector}
-use Rattle.admission.proofs.sup_of.Statement.{statement}
-use Rattle.admission.proofs.sup_of.Tie as tie
+use Rattle.weighted_columns.proofs.sup_of.Statement.{statement}
+use Rattle.weighted_columns.proofs.sup_of.Tie as tie
 
 returns : tie.Need-returns
 unfolding vector

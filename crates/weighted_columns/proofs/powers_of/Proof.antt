@@ -1,14 +1,14 @@
--- `admission::powers_of` meets its contract. Assumes nothing.
+-- `weighted_columns::powers_of` meets its contract. Assumes nothing.
 use native.Mathlib.Omega.{arith}
-use Prim.Native.Nat.{ℕ, _+_, _-_, _≤_}
+use Prim.Native.Nat.{_-_, _≤_}
 use mathlib.Core.Path.{_≡_, sym, ap, _∙_}
 use Rattle.lists.proofs.Loop.{iter-none, iter-turn, Filled, started, turned₀, finished, front-filled}
 use Rattle.lists.proofs.Bounds.{column-within}
 use Rattle.doubles.specs.F64.{+0}
 use Rattle.combination.specs.Combination.{gain, magnitude}
-use Rattle.admission.specs.declared.Share.{Share}
-use Rattle.admission.proofs.powers_of.Statement.{statement}
-use Rattle.admission.proofs.powers_of.Tie as tie
+use Rattle.weighted_columns.specs.declared.Share.{Share}
+use Rattle.weighted_columns.proofs.powers_of.Statement.{statement}
+use Rattle.weighted_columns.proofs.powers_of.Tie as tie
 
 abbrev Inv-loop : tie.InvT-loop
 Inv-loop n further tau d gains₀ sum₀ j₀ gains sum j = (j ≤ d) × Filled 0 j (gain n further tau) gains₀ gains × (sum ≡ magnitude n further tau j)

@@ -1,29 +1,25 @@
--- The weights of a combination from its powers, and the row of a schedule. Assumes nothing.
+-- The weights of a combination from its powers. Assumes nothing.
 use mathlib.Core.Bool.{Bool, true, false}
 use mathlib.Core.List.{List}
-use mathlib.Core.Path.{_≡_, refl, sym, ap, _∙_}
-use Prim.Native.Nat.{ℕ, zero, suc, _+_, _-_, _*_, _≤_, _<_}
+use mathlib.Core.Path.{_≡_, refl, ap, _∙_}
+use Prim.Native.Nat.{ℕ, _-_, _≤_, _<_}
 use native.Mathlib.Omega.{arith}
 use lib.Ieee.{Float, nan}
 use lib.Dec.{ltb}
-use borrow.Author.Tests.{lt-ltb, ltb-true, ltb-false}
+use borrow.Author.Tests.{lt-ltb, ltb-true}
 use Rattle.lists.specs.Find.{find, exists}
 use Rattle.lists.proofs.Find.{find-ext}
 use Rattle.lists.proofs.Loop.{getD-tabulate, tabulate-ext}
 use Rattle.doubles.specs.F64.{if_then_else_, _⊗_, 1f, at}
 use Rattle.checks.specs.First.{first}
 use Rattle.checks.specs.declared.Checked.{Checked}
-use Rattle.phi_shift.specs.Plan.{argument}
-use Rattle.expmv.specs.Select.{select-s-m}
-use Rattle.expmv.specs.declared.Selected.{Selected}
-use Rattle.expmv.specs.declared.Selected.the-variants.{NoRow, Row}
 use Rattle.pow2.specs.Pow2.{eta-scaling}
 use Rattle.pow2.specs.declared.Scaling.{Scaling}
 use Rattle.combination.specs.Combination.{gain, magnitude, eta-of, column-places, scaled-gains}
-use Rattle.combination.specs.Checks.{bad-gain, magnitude-checks, schedule-checks}
-use Rattle.admission.specs.Inner.{powers-of, not-finite-by, power-checks, reversed-by, weights-by, weights, argument-checks, schedule}
-use Rattle.admission.specs.declared.Powers.{Powers}
-use Rattle.admission.specs.declared.Weights.{Weights}
+use Rattle.combination.specs.Checks.{bad-gain, magnitude-checks}
+use Rattle.weighted_columns.specs.Inner.{powers-of, not-finite-by, power-checks, reversed-by, weights-by, weights}
+use Rattle.weighted_columns.specs.declared.Powers.{Powers}
+use Rattle.weighted_columns.specs.declared.Weights.{Weights}
 
 -- a search that ends below n
 pub found-some : (p : ℕ → Bool) (n : ℕ) {i : ℕ} → i ≡ find p n → i < n → exists p n ≡ true
@@ -62,13 +58,3 @@ pub own-weights : (n : ℕ) (f : List Float) (tau : Float) (d : ℕ) {p : Powers
     → r ≡ weights n f tau d
 unfolding eta-of
 own-weights n f tau d e h w = w ∙ ap (weights-by n f tau d) (h ∙ ap (λ (x : Powers). eta-scaling (x .sum)) e)
-
--- ---- 24 and 25
-module _ (m-max : ℕ) (norm tau : Float) {arg : Float} {row : Selected} {r : Checked} (e : arg ≡ argument tau norm) (f : row ≡ select-s-m m-max arg) where
-  pub row-missing : row ≡ NoRow → r ≡ first (argument-checks arg true) → record { checked = r; s = 0; m = 0 } ≡ schedule m-max norm tau
-  unfolding schedule-checks
-  row-missing h d = rw (d, ← e, ← f, h) refl
-
-  pub row-found : {s m : ℕ} → row ≡ Row s m → r ≡ first (argument-checks arg false) → record { checked = r; s = s; m = m } ≡ schedule m-max norm tau
-  unfolding schedule-checks
-  row-found h d = rw (d, ← e, ← f, h) refl

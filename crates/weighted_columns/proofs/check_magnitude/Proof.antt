@@ -1,9 +1,9 @@
--- `admission::check_magnitude` meets its contract. Assumes nothing.
+-- `weighted_columns::check_magnitude` meets its contract. Assumes nothing.
 use borrow.Author.Needs.{needs}
 use Rattle.checks.proofs.First.{chain}
-use Rattle.admission.proofs.Gains.{found-some}
-use Rattle.admission.proofs.check_magnitude.Statement.{statement}
-use Rattle.admission.proofs.check_magnitude.Tie as tie
+use Rattle.weighted_columns.proofs.Gains.{found-some}
+use Rattle.weighted_columns.proofs.check_magnitude.Statement.{statement}
+use Rattle.weighted_columns.proofs.check_magnitude.Tie as tie
 
 returns : tie.Need-returns
 returns c = search chain

@@ -1,12 +1,12 @@
--- `admission::first_bad_gain` meets its contract. Assumes nothing.
+-- `weighted_columns::first_bad_gain` meets its contract. Assumes nothing.
 use native.Mathlib.Omega.{arith}
 use Prim.Native.Nat.{_-_, _≤_}
 use mathlib.Core.Path.{sym, ap, _∙_}
 use mathlib.Core.Bool.{not}
 use Rattle.lists.proofs.Find.{Passed, passed-start, passed-next, found-at, found-none}
-use Rattle.admission.specs.Inner.{not-finite-by}
-use Rattle.admission.proofs.first_bad_gain.Statement.{statement}
-use Rattle.admission.proofs.first_bad_gain.Tie as tie
+use Rattle.weighted_columns.specs.Inner.{not-finite-by}
+use Rattle.weighted_columns.proofs.first_bad_gain.Statement.{statement}
+use Rattle.weighted_columns.proofs.first_bad_gain.Tie as tie
 
 abbrev Inv-loop : tie.InvT-loop
 Inv-loop d eta gains j₀ j = (j ≤ d) × Passed (not-finite-by gains eta) j

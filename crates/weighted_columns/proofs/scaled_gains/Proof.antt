@@ -1,11 +1,11 @@
--- `admission::scaled_gains` meets its contract. Assumes nothing.
+-- `weighted_columns::scaled_gains` meets its contract. Assumes nothing.
 use native.Mathlib.Omega.{arith}
 use Prim.Native.Nat.{_-_, _≤_}
 use mathlib.Core.Path.{refl, _∙_}
 use Rattle.lists.proofs.Loop.{Filled, started, turned₀, finished, front-filled}
 use Rattle.doubles.specs.F64.{_⊗_, 1f, at}
-use Rattle.admission.proofs.scaled_gains.Statement.{statement}
-use Rattle.admission.proofs.scaled_gains.Tie as tie
+use Rattle.weighted_columns.proofs.scaled_gains.Statement.{statement}
+use Rattle.weighted_columns.proofs.scaled_gains.Tie as tie
 
 abbrev Inv-loop : tie.InvT-loop
 Inv-loop d eta powers gains₀ j₀ gains j = (j ≤ d) × Filled 0 j (λ k. at powers (d - k - 1) ⊗ eta) gains₀ gains

@@ -1,8 +1,8 @@
--- `admission::share_of` meets its contract. Assumes nothing.
+-- `weighted_columns::share_of` meets its contract. Assumes nothing.
 use borrow.Author.Needs.{needs}
 use Rattle.combination.specs.Combination.{gain, weighed}
-use Rattle.admission.proofs.share_of.Statement.{statement}
-use Rattle.admission.proofs.share_of.Tie as tie
+use Rattle.weighted_columns.proofs.share_of.Statement.{statement}
+use Rattle.weighted_columns.proofs.share_of.Tie as tie
 
 returns : tie.Need-returns
 unfolding gain weighed

@@ -1,8 +1,8 @@
--- `admission::weigh` meets its contract. Assumes nothing.
+-- `weighted_columns::weigh` meets its contract. Assumes nothing.
 use borrow.Author.Needs.{needs}
-use Rattle.admission.proofs.Gains.{own-weights}
-use Rattle.admission.proofs.weigh.Statement.{statement}
-use Rattle.admission.proofs.weigh.Tie as tie
+use Rattle.weighted_columns.proofs.Gains.{own-weights}
+use Rattle.weighted_columns.proofs.weigh.Statement.{statement}
+use Rattle.weighted_columns.proofs.weigh.Tie as tie
 
 returns : tie.Need-returns
 returns c =

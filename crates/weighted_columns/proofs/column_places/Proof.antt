@@ -1,12 +1,12 @@
--- `admission::column_places` meets its contract. Assumes nothing.
+-- `weighted_columns::column_places` meets its contract. Assumes nothing.
 use native.Mathlib.Omega.{arith}
 use Prim.Native.Nat.{ℕ, _-_, _*_, _≤_}
 use mathlib.Core.Path.{refl, _∙_}
 use Rattle.lists.proofs.Loop.{Filled, started, turned₀, finished, front-filled}
 use Rattle.lists.proofs.Bounds.{product-within}
 use Rattle.combination.specs.Combination.{column-places}
-use Rattle.admission.proofs.column_places.Statement.{statement}
-use Rattle.admission.proofs.column_places.Tie as tie
+use Rattle.weighted_columns.proofs.column_places.Statement.{statement}
+use Rattle.weighted_columns.proofs.column_places.Tie as tie
 
 abbrev Inv-loop : tie.InvT-loop
 Inv-loop n d places₀ j₀ places j = (j ≤ d) × Filled 0 j (λ k. (d - k - 1) * n) places₀ places

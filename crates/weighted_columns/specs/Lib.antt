@@ -1,0 +1,2 @@
+-- The weighted columns of a combination.
+pub mod Inner
