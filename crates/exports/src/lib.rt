@@ -1,11 +1,4 @@
 // The library for programs in other languages: straight on slices, with no copy and no memory of its own.
-use generator_action::MatrixAnswer;
-use join::JoinAnswer;
-use phi_action::TaylorAnswer;
-use phi_krylov::KrylovAnswer;
-use phi_krylov::KrylovPhiOptions;
-use phi_krylov::PhiAnswer;
-use phi_krylov::PhiSolver;
 ghost use mathlib.Core.Path.{_≡_};
 ghost use Rattle.combination.specs.Call.{ends};
 ghost use Rattle.general_operator.specs.Csr.{csr};
@@ -16,167 +9,7 @@ ghost use Rattle.join.specs.Join.{join-call};
 ghost use Rattle.phi_action.specs.Calls.{phi-combination, phi-action, phi-action-batched};
 ghost use Rattle.phi_krylov.specs.KrylovCall.{phi-combination-krylov};
 ghost use Rattle.phi_krylov.specs.Combine.{answering, combine};
-ghost use Rattle.exports.specs.Told.{numbers, matrix-numbers, join-numbers, join-told, telling-join, taylor-numbers, krylov-numbers, phi-numbers, run-numbers, options, solver};
-
-// The result is 0 or the refusal's number; `value` is the norm or the refusal's double.
-pub fn tell_matrix(answer: MatrixAnswer, value: &mut f64, row: &mut usize) -> u32
-    ensures { λ r. ⌜ numbers r (now (value .exit)) (now (row .exit)) 0 0 ≡ matrix-numbers answer ⌝ }
-{
-    match answer {
-        MatrixAnswer::Refusal(k, x) => {
-            *value = x;
-            *row = 0;
-            k
-        }
-        MatrixAnswer::Norm(norm, i) => {
-            *value = norm;
-            *row = i;
-            0
-        }
-    }
-}
-
-// The result is 0 or the refusal's number; `value` is 0 or the refusal's double.
-fn tell_join(answer: JoinAnswer, value: &mut f64, entries: &mut usize) -> u32
-    ensures { λ r. ⌜ numbers r (now (value .exit)) (now (entries .exit)) 0 0 ≡ join-numbers answer ⌝ }
-{
-    match answer {
-        JoinAnswer::Refusal(k, x) => {
-            *value = x;
-            *entries = 0;
-            k
-        }
-        JoinAnswer::Joined(count) => {
-            *value = 0.0;
-            *entries = count;
-            0
-        }
-    }
-}
-
-// The result is 0 or the refusal's number; `value` is mu or the refusal's double.
-pub fn tell_taylor(
-    answer: TaylorAnswer,
-    value: &mut f64,
-    s: &mut u32,
-    m: &mut u32,
-    applications: &mut u64,
-) -> u32
-    ensures { λ r. ⌜ numbers r (now (value .exit)) (now (s .exit)) (now (m .exit)) (now (applications .exit)) ≡ taylor-numbers answer ⌝ }
-{
-    match answer {
-        TaylorAnswer::Refusal(k, x) => {
-            *value = x;
-            *s = 0;
-            *m = 0;
-            *applications = 0;
-            k
-        }
-        TaylorAnswer::Soaked(report) => {
-            *value = report.mu;
-            *s = report.s;
-            *m = report.m;
-            *applications = report.applications;
-            0
-        }
-    }
-}
-
-// The result is 0 or the refusal's number; `value` is the estimate or the refusal's double. A refusal has the counts and steps 0.
-pub fn tell_krylov(
-    answer: KrylovAnswer,
-    value: &mut f64,
-    substeps: &mut usize,
-    matvecs: &mut usize,
-    rejected: &mut usize,
-    shortest: &mut f64,
-    last: &mut f64,
-) -> u32
-    ensures { λ r. ⌜ run-numbers r (now (value .exit)) (now (substeps .exit)) (now (matvecs .exit)) (now (rejected .exit)) (now (shortest .exit)) (now (last .exit)) ≡ krylov-numbers answer ⌝ }
-{
-    match answer {
-        KrylovAnswer::Refusal(k, x) => {
-            *value = x;
-            *substeps = 0;
-            *matvecs = 0;
-            *rejected = 0;
-            *shortest = 0.0;
-            *last = 0.0;
-            k
-        }
-        KrylovAnswer::Soaked(report) => {
-            *value = report.est_error;
-            *substeps = report.substeps;
-            *matvecs = report.matvecs;
-            *rejected = report.rejected;
-            *shortest = report.shortest;
-            *last = report.last;
-            0
-        }
-    }
-}
-
-// The result is 0 or the refusal's number; `value` and the counts are told as of the evaluator used.
-fn tell_phi(
-    answer: PhiAnswer,
-    value: &mut f64,
-    first: &mut u64,
-    second: &mut u64,
-    third: &mut u64,
-    shortest: &mut f64,
-    last: &mut f64,
-) -> u32
-    ensures { λ r. ⌜ run-numbers r (now (value .exit)) (now (first .exit)) (now (second .exit)) (now (third .exit)) (now (shortest .exit)) (now (last .exit)) ≡ phi-numbers answer ⌝ }
-{
-    match answer {
-        PhiAnswer::Refusal(k, x) => {
-            *value = x;
-            *first = 0;
-            *second = 0;
-            *third = 0;
-            *shortest = 0.0;
-            *last = 0.0;
-            k
-        }
-        PhiAnswer::Taylor(report) => {
-            *value = report.mu;
-            *first = report.s as u64;
-            *second = report.m as u64;
-            *third = report.applications;
-            *shortest = 0.0;
-            *last = 0.0;
-            0
-        }
-        PhiAnswer::Krylov(report) => {
-            *value = report.est_error;
-            *first = report.substeps as u64;
-            *second = report.matvecs as u64;
-            *third = report.rejected as u64;
-            *shortest = report.shortest;
-            *last = report.last;
-            0
-        }
-    }
-}
-
-pub fn options(tol: f64, m: usize, max_substeps: usize) -> KrylovPhiOptions
-    ensures { λ r. ⌜ r ≡ options tol m «max_substeps» ⌝ }
-{
-    KrylovPhiOptions {
-        tol: tol,
-        m: m,
-        max_substeps: max_substeps,
-    }
-}
-
-fn solver(krylov: bool, degree: u32, o: KrylovPhiOptions) -> PhiSolver
-    ensures { λ r. ⌜ r ≡ solver krylov degree o ⌝ }
-{
-    if krylov {
-        return PhiSolver::Krylov(o);
-    }
-    PhiSolver::Taylor(degree)
-}
+ghost use Rattle.answers.specs.Told.{numbers, matrix-numbers, join-told, telling-join, taylor-numbers, krylov-numbers, phi-numbers, run-numbers, options, solver};
 
 // `generator_action::check_generator`, told by `tell_matrix`.
 #[no_mangle]
@@ -193,7 +26,7 @@ pub extern "C" fn hazhendu_check_generator(
     ensures { λ r. ⌜ numbers r (now (value .exit)) (now (row .exit)) 0 0 ≡ matrix-numbers (matrix-answer (csr n (now (starts .entry)) (now (cols .entry)) (now (vals .entry))) (given «with_mass» (now (mass .entry)))) ⌝ }
 {
     let answer = generator_action::check_generator(n, starts, cols, vals, with_mass, mass);
-    tell_matrix(answer, value, row)
+    answers::tell_matrix(answer, value, row)
 }
 
 // `join::join`, told by `tell_join`: the barrel first, then the mount, then the slices of the result.
@@ -228,7 +61,7 @@ pub extern "C" fn hazhendu_join(
         cols,
         vals,
     );
-    tell_join(answer, value, entries)
+    answers::tell_join(answer, value, entries)
 }
 
 // `phi_action::phi_combination`, told by `tell_taylor`.
@@ -267,7 +100,7 @@ pub extern "C" fn hazhendu_phi_combination(
         out,
         work,
     );
-    tell_taylor(answer, value, s, m, applications)
+    answers::tell_taylor(answer, value, s, m, applications)
 }
 
 // `phi_action::phi_action`, told by `tell_taylor`.
@@ -306,7 +139,7 @@ pub extern "C" fn hazhendu_phi_action(
         out,
         work,
     );
-    tell_taylor(answer, value, s, m, applications)
+    answers::tell_taylor(answer, value, s, m, applications)
 }
 
 // `phi_action::phi_action_batched`, told by `tell_taylor`.
@@ -345,7 +178,7 @@ pub extern "C" fn hazhendu_phi_action_batched(
         out,
         work,
     );
-    tell_taylor(answer, value, s, m, applications)
+    answers::tell_taylor(answer, value, s, m, applications)
 }
 
 // `phi_krylov::phi_combination_krylov`, told by `tell_krylov`.
@@ -374,7 +207,7 @@ pub extern "C" fn hazhendu_phi_combination_krylov(
 ) -> u32
     ensures { λ r. ⌜ ends (run-numbers r (now (value .exit)) (now (substeps .exit)) (now (matvecs .exit)) (now (rejected .exit)) (now (shortest .exit)) (now (last .exit))) (now (out .exit)) (now (work .exit)) ≡ answering krylov-numbers (phi-combination-krylov (forward (csr n (now (starts .entry)) (now (cols .entry)) (now (vals .entry))) (given «with_mass» (now (mass .entry)))) tau count (now (w .entry)) (options tol m «max_substeps») (now (out .entry)) (now (work .entry))) ⌝ }
 {
-    let o = options(tol, m, max_substeps);
+    let o = answers::options(tol, m, max_substeps);
     let answer = phi_krylov::phi_combination_krylov(
         n,
         starts,
@@ -389,7 +222,7 @@ pub extern "C" fn hazhendu_phi_combination_krylov(
         out,
         work,
     );
-    tell_krylov(answer, value, substeps, matvecs, rejected, shortest, last)
+    answers::tell_krylov(answer, value, substeps, matvecs, rejected, shortest, last)
 }
 
 // `phi_krylov::combine`, told by `tell_phi`.
@@ -420,8 +253,8 @@ pub extern "C" fn hazhendu_combine(
 ) -> u32
     ensures { λ r. ⌜ ends (run-numbers r (now (value .exit)) (now (first .exit)) (now (second .exit)) (now (third .exit)) (now (shortest .exit)) (now (last .exit))) (now (out .exit)) (now (work .exit)) ≡ answering phi-numbers (combine (solver krylov degree (options tol m «max_substeps»)) (forward (csr n (now (starts .entry)) (now (cols .entry)) (now (vals .entry))) (given «with_mass» (now (mass .entry)))) tau count (now (w .entry)) (now (out .entry)) (now (work .entry))) ⌝ }
 {
-    let o = options(tol, m, max_substeps);
-    let chosen = solver(krylov, degree, o);
+    let o = answers::options(tol, m, max_substeps);
+    let chosen = answers::solver(krylov, degree, o);
     let answer = phi_krylov::combine(
         chosen,
         n,
@@ -436,5 +269,5 @@ pub extern "C" fn hazhendu_combine(
         out,
         work,
     );
-    tell_phi(answer, value, first, second, third, shortest, last)
+    answers::tell_phi(answer, value, first, second, third, shortest, last)
 }

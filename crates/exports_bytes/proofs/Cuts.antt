@@ -12,7 +12,7 @@ use Rattle.general_operator.specs.Csr.{csr}
 use Rattle.generator_action.specs.Mass.{Mass, given}
 use Rattle.generator_action.specs.Generator.{forward}
 use Rattle.combination.specs.Call.{Call}
-use Rattle.exports.specs.Told.{Numbers}
+use Rattle.answers.specs.Told.{Numbers}
 use Rattle.le_bytes.specs.Bytes.{numbers-of, doubles-of, written-over}
 use Rattle.exports_bytes.specs.Replies.{Reply, replies, packed}
 use Rattle.exports_bytes.specs.Inner.{told, revalued, Cut, long-told, called}

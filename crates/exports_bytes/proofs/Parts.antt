@@ -30,7 +30,7 @@ use Rattle.phi_action.specs.declared.TaylorAnswer.the-variants as taylor
 use Rattle.phi_krylov.specs.KrylovCall.{bound, dimension, option-checks, run-checks, krylov-need, krylov-checks-by, krylov-checks, phi-combination-krylov}
 use Rattle.phi_krylov.specs.declared.KrylovAnswer.the-variants as krylov
 use Rattle.phi_krylov.specs.Combine.{answering}
-use Rattle.exports.specs.Told.{Numbers, numbers, run-numbers, taylor-numbers, krylov-numbers, options}
+use Rattle.answers.specs.Told.{Numbers, numbers, run-numbers, taylor-numbers, krylov-numbers, options}
 use Rattle.exports_bytes.specs.Inner.{long-told, called}
 use Rattle.exports_bytes.specs.declared.PhiCall.{PhiCall}
 use Rattle.exports_bytes.specs.declared.PhiCall.the-variants.{Combination, Action, Batch, Krylov}

@@ -5,7 +5,7 @@ use mathlib.Core.Path.{_≡_, _∙_, ap}
 use Prim.Native.Nat.{ℕ}
 use lib.Ieee.{Float}
 use Rattle.combination.specs.Call.{Call, ends}
-use Rattle.exports.specs.Told.{Numbers}
+use Rattle.answers.specs.Told.{Numbers}
 use Rattle.le_bytes.specs.Bytes.{written-over}
 use Rattle.exports_bytes.specs.Replies.{Reply, replies, packed, replied}
 

@@ -12,7 +12,7 @@ use Rattle.combination.specs.Call.{Call}
 use Rattle.phi_action.specs.Calls.{phi-combination, phi-action, phi-action-batched}
 use Rattle.phi_krylov.specs.KrylovCall.{phi-combination-krylov}
 use Rattle.phi_krylov.specs.Combine.{answering}
-use Rattle.exports.specs.Told.{Numbers, numbers, run-numbers, taylor-numbers, krylov-numbers, options}
+use Rattle.answers.specs.Told.{Numbers, numbers, run-numbers, taylor-numbers, krylov-numbers, options}
 use Rattle.exports_bytes.specs.declared.Told.{Told}
 use Rattle.exports_bytes.specs.declared.PhiCall.{PhiCall}
 use Rattle.exports_bytes.specs.declared.PhiCall.the-variants.{Combination, Action, Batch, Krylov}

@@ -8,7 +8,7 @@ use mathlib.Core.List.{List}
 use Prim.Native.Nat.{ℕ, _/_}
 use lib.Dec.{ltb}
 use Rattle.combination.specs.Call.{Call}
-use Rattle.exports.specs.Told.{Numbers}
+use Rattle.answers.specs.Told.{Numbers}
 use Rattle.le_bytes.specs.Bytes.{written-over}
 
 -- by the rows, and the lengths in bytes of entries and working memory

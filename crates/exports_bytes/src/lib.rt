@@ -14,7 +14,7 @@ ghost use Rattle.phi_action.specs.Calls.{phi-combination, phi-action, phi-actio
 ghost use Rattle.phi_krylov.specs.KrylovCall.{phi-combination-krylov};
 ghost use Rattle.phi_krylov.specs.Combine.{answering};
 ghost use Rattle.le_bytes.specs.Bytes.{numbers-of, doubles-of};
-ghost use Rattle.exports.specs.Told.{numbers, run-numbers, taylor-numbers, krylov-numbers, options};
+ghost use Rattle.answers.specs.Told.{numbers, run-numbers, taylor-numbers, krylov-numbers, options};
 ghost use Rattle.exports_bytes.specs.Replies.{large, replies, packed, replied};
 ghost use Rattle.exports_bytes.specs.Inner.{taylor-told, krylov-told, told, revalued, Cut, long-told, called};
 

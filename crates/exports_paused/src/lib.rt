@@ -13,7 +13,7 @@ ghost use Rattle.doubles.specs.F64.{if_then_else_};
 ghost use Rattle.general_operator.specs.Csr.{csr};
 ghost use Rattle.generator_action.specs.Mass.{given};
 ghost use Rattle.generator_action.specs.Generator.{forward};
-ghost use Rattle.exports.specs.Told.{options};
+ghost use Rattle.answers.specs.Told.{options};
 ghost use Rattle.exports_paused.specs.Told.{numbers-of, flag, counts-of, fits, held, no-run, run-of, state, written, start-state, ran, step-state, told, start-told, tolerance, step-told};
 
 // Whether the slices of a state have its lengths.
@@ -222,7 +222,7 @@ pub extern "C" fn hazhendu_krylov_start(
 ) -> u32
     ensures { λ r. ⌜ told (state r (now (value .exit)) (now (numbers .exit)) (now (counts .exit))) (now (out .exit)) (now (work .exit)) (now (field .exit)) ≡ start-told (options tol m «max_substeps») (record { g = forward (csr n (now (starts .entry)) (now (cols .entry)) (now (vals .entry))) (given «with_mass» (now (mass .entry))); tau = tau; count = count; w = now (w .entry) }) (now (out .entry)) (now (work .entry)) (now (field .entry)) (now (numbers .entry)) (now (counts .entry)) ⌝ }
 {
-    let o = exports::options(tol, m, max_substeps);
+    let o = answers::options(tol, m, max_substeps);
     let to = field_end(numbers, counts, field.len());
     let answer = paused_run::start(
         n,

@@ -3,7 +3,7 @@ use mathlib.Core.List.{List}
 use mathlib.Core.Path.{_≡_, ap}
 use lib.Ieee.{Float}
 use Rattle.combination.specs.Call.{ends}
-use Rattle.exports.specs.Told.{Numbers}
+use Rattle.answers.specs.Told.{Numbers}
 use Rattle.phi_krylov.proofs.Dispatch.{answered}
 use Rattle.transpose.specs.Transpose.{Buffers}
 use Rattle.transposed.specs.Transposed.{Lending, lends}

@@ -6,7 +6,7 @@ ghost use Rattle.generator_action.specs.Mass.{given};
 ghost use Rattle.combination.specs.Call.{ends};
 ghost use Rattle.transpose.specs.Transpose.{buffers, lengths, buffers-after, transposed-answer};
 ghost use Rattle.transposed.specs.Transposed.{lends, phi-combination-transposed, phi-action-transposed, phi-action-batched-transposed, phi-combination-krylov-transposed};
-ghost use Rattle.exports.specs.Told.{numbers, run-numbers, matrix-numbers, taylor-numbers, krylov-numbers, options};
+ghost use Rattle.answers.specs.Told.{numbers, run-numbers, matrix-numbers, taylor-numbers, krylov-numbers, options};
 ghost use Rattle.exports_transposed.specs.Telling.{telling, matrix-told};
 
 // `transpose::check_transposed`, told by `tell_matrix`.
@@ -37,7 +37,7 @@ pub extern "C" fn hazhendu_check_transposed(
         t_cols,
         t_vals,
     );
-    exports::tell_matrix(answer, value, row)
+    answers::tell_matrix(answer, value, row)
 }
 
 // `transposed::phi_combination_transposed`, told by `tell_taylor`.
@@ -82,7 +82,7 @@ pub extern "C" fn hazhendu_phi_combination_transposed(
         out,
         work,
     );
-    exports::tell_taylor(answer, value, s, m, applications)
+    answers::tell_taylor(answer, value, s, m, applications)
 }
 
 // `transposed::phi_action_transposed`, told by `tell_taylor`.
@@ -127,7 +127,7 @@ pub extern "C" fn hazhendu_phi_action_transposed(
         out,
         work,
     );
-    exports::tell_taylor(answer, value, s, m, applications)
+    answers::tell_taylor(answer, value, s, m, applications)
 }
 
 // `transposed::phi_action_batched_transposed`, told by `tell_taylor`.
@@ -172,7 +172,7 @@ pub extern "C" fn hazhendu_phi_action_batched_transposed(
         out,
         work,
     );
-    exports::tell_taylor(answer, value, s, m, applications)
+    answers::tell_taylor(answer, value, s, m, applications)
 }
 
 // `transposed::phi_combination_krylov_transposed`, told by `tell_krylov`.
@@ -204,7 +204,7 @@ pub extern "C" fn hazhendu_phi_combination_krylov_transposed(
 ) -> u32
     ensures { λ r. ⌜ lends (ends (run-numbers r (now (value .exit)) (now (substeps .exit)) (now (matvecs .exit)) (now (rejected .exit)) (now (shortest .exit)) (now (last .exit))) (now (out .exit)) (now (work .exit))) (buffers (now («t_starts» .exit)) (now («t_cols» .exit)) (now («t_vals» .exit))) ≡ telling krylov-numbers (phi-combination-krylov-transposed (csr n (now (starts .entry)) (now (cols .entry)) (now (vals .entry))) (given «with_mass» (now (mass .entry))) (buffers (now («t_starts» .entry)) (now («t_cols» .entry)) (now («t_vals» .entry))) tau count (now (w .entry)) (options tol m «max_substeps») (now (out .entry)) (now (work .entry))) ⌝ }
 {
-    let o = exports::options(tol, m, max_substeps);
+    let o = answers::options(tol, m, max_substeps);
     let answer = transposed::phi_combination_krylov_transposed(
         n,
         starts,
@@ -222,5 +222,5 @@ pub extern "C" fn hazhendu_phi_combination_krylov_transposed(
         out,
         work,
     );
-    exports::tell_krylov(answer, value, substeps, matvecs, rejected, shortest, last)
+    answers::tell_krylov(answer, value, substeps, matvecs, rejected, shortest, last)
 }

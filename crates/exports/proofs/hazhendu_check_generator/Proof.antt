@@ -1,7 +1,7 @@
 -- `exports::hazhendu_check_generator` meets its contract. Assumes nothing.
 use borrow.Author.Needs.{needs}
 use mathlib.Core.Path.{ap, _∙_}
-use Rattle.exports.specs.Told.{matrix-numbers}
+use Rattle.answers.specs.Told.{matrix-numbers}
 use Rattle.exports.proofs.hazhendu_check_generator.Statement.{statement}
 use Rattle.exports.proofs.hazhendu_check_generator.Tie as tie
 

@@ -1,7 +1,7 @@
 -- `exports::hazhendu_combine` meets its contract. Assumes nothing.
 use borrow.Author.Needs.{needs}
 use Rattle.phi_krylov.proofs.Dispatch.{answered}
-use Rattle.exports.specs.Told.{phi-numbers}
+use Rattle.answers.specs.Told.{phi-numbers}
 use Rattle.exports.proofs.hazhendu_combine.Statement.{statement}
 use Rattle.exports.proofs.hazhendu_combine.Tie as tie
 

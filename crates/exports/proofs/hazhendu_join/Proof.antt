@@ -6,7 +6,7 @@ use Prim.Native.Nat.{ℕ}
 use lib.Ieee.{Float}
 use Rattle.join.specs.Join.{Call, ends}
 use Rattle.join.specs.declared.JoinAnswer.{JoinAnswer}
-use Rattle.exports.specs.Told.{Numbers, join-numbers, join-told, telling-join}
+use Rattle.answers.specs.Told.{Numbers, join-numbers, join-told, telling-join}
 use Rattle.exports.proofs.hazhendu_join.Statement.{statement}
 use Rattle.exports.proofs.hazhendu_join.Tie as tie
 

@@ -1,7 +1,7 @@
 -- `exports::hazhendu_phi_combination_krylov` meets its contract. Assumes nothing.
 use borrow.Author.Needs.{needs}
 use Rattle.phi_krylov.proofs.Dispatch.{answered}
-use Rattle.exports.specs.Told.{krylov-numbers}
+use Rattle.answers.specs.Told.{krylov-numbers}
 use Rattle.exports.proofs.hazhendu_phi_combination_krylov.Statement.{statement}
 use Rattle.exports.proofs.hazhendu_phi_combination_krylov.Tie as tie
 

@@ -6,7 +6,7 @@ use lib.ListN.{take}
 use lib.Seq.{length-take-le}
 use Rattle.generator_action.specs.Mass.{given}
 use Rattle.combination.specs.Call.{Call}
-use Rattle.exports.specs.Told.{Numbers}
+use Rattle.answers.specs.Told.{Numbers}
 use Rattle.le_bytes.specs.Bytes.{numbers-of, doubles-of}
 use Rattle.exports_bytes.specs.Replies.{packed}
 use Rattle.le_bytes.proofs.Counts.{count-doubles}

@@ -1,7 +1,7 @@
 -- `exports_bytes::of_krylov` meets its contract. Assumes nothing.
 use borrow.Author.Needs.{needs}
 use mathlib.Core.Path.{ap, sym, _∙_}
-use Rattle.exports.specs.Told.{krylov-numbers}
+use Rattle.answers.specs.Told.{krylov-numbers}
 use Rattle.exports_bytes.proofs.of_krylov.Statement.{statement}
 use Rattle.exports_bytes.proofs.of_krylov.Tie as tie
 

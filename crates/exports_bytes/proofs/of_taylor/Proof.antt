@@ -1,7 +1,7 @@
 -- `exports_bytes::of_taylor` meets its contract. Assumes nothing.
 use borrow.Author.Needs.{needs}
 use mathlib.Core.Path.{ap, sym, _∙_}
-use Rattle.exports.specs.Told.{taylor-numbers}
+use Rattle.answers.specs.Told.{taylor-numbers}
 use Rattle.exports_bytes.proofs.of_taylor.Statement.{statement}
 use Rattle.exports_bytes.proofs.of_taylor.Tie as tie
 

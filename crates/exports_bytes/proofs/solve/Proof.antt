@@ -1,7 +1,7 @@
 -- `exports_bytes::solve` meets its contract. Assumes nothing.
 use borrow.Author.Needs.{needs}
 use Rattle.phi_krylov.proofs.Dispatch.{answered}
-use Rattle.exports.specs.Told.{taylor-numbers, krylov-numbers}
+use Rattle.answers.specs.Told.{taylor-numbers, krylov-numbers}
 use Rattle.exports_bytes.specs.Inner.{told, called}
 use Rattle.exports_bytes.proofs.solve.Statement.{statement}
 use Rattle.exports_bytes.proofs.solve.Tie as tie

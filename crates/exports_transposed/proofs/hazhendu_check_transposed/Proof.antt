@@ -1,7 +1,7 @@
 -- `exports_transposed::hazhendu_check_transposed` meets its contract. Assumes nothing.
 use borrow.Author.Needs.{needs}
 use mathlib.Core.Path.{ap, _∙_}
-use Rattle.exports.specs.Told.{matrix-numbers}
+use Rattle.answers.specs.Told.{matrix-numbers}
 use Rattle.exports_transposed.proofs.Telling.{matrix-told-of}
 use Rattle.exports_transposed.proofs.hazhendu_check_transposed.Statement.{statement}
 use Rattle.exports_transposed.proofs.hazhendu_check_transposed.Tie as tie

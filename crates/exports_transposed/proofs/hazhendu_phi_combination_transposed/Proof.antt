@@ -1,6 +1,6 @@
 -- `exports_transposed::hazhendu_phi_combination_transposed` meets its contract. Assumes nothing.
 use borrow.Author.Needs.{needs}
-use Rattle.exports.specs.Told.{taylor-numbers}
+use Rattle.answers.specs.Told.{taylor-numbers}
 use Rattle.exports_transposed.proofs.Telling.{told-of}
 use Rattle.exports_transposed.proofs.hazhendu_phi_combination_transposed.Statement.{statement}
 use Rattle.exports_transposed.proofs.hazhendu_phi_combination_transposed.Tie as tie

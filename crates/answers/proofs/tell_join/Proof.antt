@@ -1,9 +1,9 @@
--- `exports::tell_join` meets its contract. Assumes nothing.
+-- `answers::tell_join` meets its contract. Assumes nothing.
 use borrow.Author.Needs.{needs}
 use mathlib.Core.Path.{ap, sym}
-use Rattle.exports.specs.Told.{join-numbers}
-use Rattle.exports.proofs.tell_join.Statement.{statement}
-use Rattle.exports.proofs.tell_join.Tie as tie
+use Rattle.answers.specs.Told.{join-numbers}
+use Rattle.answers.proofs.tell_join.Statement.{statement}
+use Rattle.answers.proofs.tell_join.Tie as tie
 
 returns : tie.Need-returns
 unfolding join-numbers

@@ -1,9 +1,9 @@
--- `exports::tell_taylor` meets its contract. Assumes nothing.
+-- `answers::tell_taylor` meets its contract. Assumes nothing.
 use borrow.Author.Needs.{needs}
 use mathlib.Core.Path.{ap, sym}
-use Rattle.exports.specs.Told.{taylor-numbers}
-use Rattle.exports.proofs.tell_taylor.Statement.{statement}
-use Rattle.exports.proofs.tell_taylor.Tie as tie
+use Rattle.answers.specs.Told.{taylor-numbers}
+use Rattle.answers.proofs.tell_taylor.Statement.{statement}
+use Rattle.answers.proofs.tell_taylor.Tie as tie
 
 returns : tie.Need-returns
 unfolding taylor-numbers

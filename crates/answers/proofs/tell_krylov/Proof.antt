@@ -1,9 +1,9 @@
--- `exports::tell_krylov` meets its contract. Assumes nothing.
+-- `answers::tell_krylov` meets its contract. Assumes nothing.
 use borrow.Author.Needs.{needs}
 use mathlib.Core.Path.{ap, sym}
-use Rattle.exports.specs.Told.{krylov-numbers}
-use Rattle.exports.proofs.tell_krylov.Statement.{statement}
-use Rattle.exports.proofs.tell_krylov.Tie as tie
+use Rattle.answers.specs.Told.{krylov-numbers}
+use Rattle.answers.proofs.tell_krylov.Statement.{statement}
+use Rattle.answers.proofs.tell_krylov.Tie as tie
 
 returns : tie.Need-returns
 unfolding krylov-numbers

@@ -1,9 +1,9 @@
--- `exports::tell_phi` meets its contract. Assumes nothing.
+-- `answers::tell_phi` meets its contract. Assumes nothing.
 use borrow.Author.Needs.{needs}
 use mathlib.Core.Path.{ap, sym}
-use Rattle.exports.specs.Told.{phi-numbers, taylor-numbers, krylov-numbers}
-use Rattle.exports.proofs.tell_phi.Statement.{statement}
-use Rattle.exports.proofs.tell_phi.Tie as tie
+use Rattle.answers.specs.Told.{phi-numbers, taylor-numbers, krylov-numbers}
+use Rattle.answers.proofs.tell_phi.Statement.{statement}
+use Rattle.answers.proofs.tell_phi.Tie as tie
 
 returns : tie.Need-returns
 unfolding phi-numbers

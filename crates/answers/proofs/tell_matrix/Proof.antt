@@ -1,9 +1,9 @@
--- `exports::tell_matrix` meets its contract. Assumes nothing.
+-- `answers::tell_matrix` meets its contract. Assumes nothing.
 use borrow.Author.Needs.{needs}
 use mathlib.Core.Path.{ap, sym}
-use Rattle.exports.specs.Told.{matrix-numbers}
-use Rattle.exports.proofs.tell_matrix.Statement.{statement}
-use Rattle.exports.proofs.tell_matrix.Tie as tie
+use Rattle.answers.specs.Told.{matrix-numbers}
+use Rattle.answers.proofs.tell_matrix.Statement.{statement}
+use Rattle.answers.proofs.tell_matrix.Tie as tie
 
 returns : tie.Need-returns
 unfolding matrix-numbers

@@ -1,7 +1,7 @@
--- `exports::solver` meets its contract. Assumes nothing.
-use Rattle.exports.specs.Told.{solver}
-use Rattle.exports.proofs.solver.Statement.{statement}
-use Rattle.exports.proofs.solver.Tie as tie
+-- `answers::solver` meets its contract. Assumes nothing.
+use Rattle.answers.specs.Told.{solver}
+use Rattle.answers.proofs.solver.Statement.{statement}
+use Rattle.answers.proofs.solver.Tie as tie
 
 returns : tie.Need-returns
 unfolding solver
