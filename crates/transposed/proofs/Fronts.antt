@@ -1,50 +1,27 @@
 -- What a transposed job hands to the forward one: the fronts of the buffers are the transposed quotients. Assumes nothing.
-use mathlib.Core.Bool.{false}
 use mathlib.Core.List.{List}
 use mathlib.Core.Option.{none}
 use mathlib.Core.Path.{_≡_, refl, sym, ap, _∙_, subst}
 use Prim.Native.Nat.{ℕ, _+_, _≤_}
-use native.Mathlib.Omega.{arith}
 use lib.ListN.{length, take}
 use lib.Ieee.{Float}
 use Rattle.checks.specs.First.{first}
-use Rattle.checks.specs.declared.Checked.{Checked}
 use Rattle.checks.specs.declared.Checked.the-variants.{Sound, Refused}
-use Rattle.general_operator.specs.Csr.{Csr, csr, row-sum-norm}
+use Rattle.general_operator.specs.Csr.{Csr, csr}
 use Rattle.generator_action.specs.Mass.{Mass, given, quotients, quotient-need}
 use Rattle.generator_action.specs.Generator.{Generator}
 use Rattle.generator_action.specs.Known.{Passed}
 use Rattle.generator_action.specs.declared.Shape.{Shape}
-use Rattle.transpose.specs.Transpose.{Buffers, buffers, lengths, transpose, transposed-checks, filled, buffers-after, transposed}
+use Rattle.transpose.specs.Transpose.{Buffers, buffers, lengths, transposed-checks, filled, buffers-after, transposed}
 use Rattle.transpose.proofs.Passed.{Transposable, transposable, before-sound, transposed-shape, transposed-passed}
 use Rattle.transpose.proofs.Answer.{Written, written-starts, written-columns, written-values, fronts}
 use Rattle.combination.specs.Call.{Call}
 use Rattle.admission.specs.Inner.{after-checks}
 use Rattle.transposed.specs.Transposed.{lends}
-use Rattle.transposed.specs.Inner.{shape-answer}
-use Rattle.transposed.specs.declared.ShapeAnswer.{ShapeAnswer}
-use Rattle.transposed.specs.declared.ShapeAnswer.the-variants.{Refusal, Passed as Shaped}
-
--- ---- the answer of the checks
-module _ (a : Csr) (mass : Mass) where
-  pub refused-shape : {c : Checked} {k : ℕ} {x : Float} → Refused k x ≡ c → Refusal k x ≡ shape-answer a mass c
-  unfolding shape-answer
-  refused-shape e = rw (← e) refl
-
-  pub passed-shape : {c : Checked} {stored : ℕ} {x : Float} → Sound ≡ c → stored ≡ quotient-need a mass → x ≡ row-sum-norm (transpose (quotients a mass))
-      → Shaped (record { n = a .n; «with_mass» = false; stored = stored; norm = x }) ≡ shape-answer a mass c
-  unfolding shape-answer
-  passed-shape e d f = rw (← e, d, f) refl
-
-  refused-told : (c : Checked) {k : ℕ} {x : Float} → Refusal k x ≡ shape-answer a mass c → Refused k x ≡ c
-  unfolding shape-answer
-  refused-told (Refused j y) e = cc
-  refused-told Sound e = cc
-
-  passed-told : (c : Checked) {g : Shape} → Shaped g ≡ shape-answer a mass c → (Sound ≡ c) × (g ≡ transposed-shape a mass)
-  unfolding shape-answer
-  passed-told (Refused j y) e = (cc, cc)
-  passed-told Sound e = (refl, cc)
+use Rattle.transposed_shape.specs.Inner.{shape-answer}
+use Rattle.transposed_shape.specs.declared.ShapeAnswer.{ShapeAnswer}
+use Rattle.transposed_shape.specs.declared.ShapeAnswer.the-variants.{Refusal, Passed as Shaped}
+use Rattle.transposed_shape.proofs.Answers.{refused-told, passed-told}
 
 -- a call that passes the refusal up
 pub over-refusal : (a : Csr) (mass : Mass) (b : Buffers) {bs : Buffers} {A : Type 0} {r : ShapeAnswer} {k : ℕ} {x : Float} {c d : Call A}

@@ -1,3 +1,2 @@
 -- The calls on the transposed matrix.
 pub mod Transposed
-pub mod Inner

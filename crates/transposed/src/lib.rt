@@ -1,63 +1,14 @@
 // The four calls on the transposed matrix, over buffers that are lent for it.
-use generator_action::MatrixAnswer;
-use generator_action::Shape;
 use phi_action::TaylorAnswer;
 use phi_krylov::KrylovAnswer;
 use phi_krylov::KrylovPhiOptions;
+use transposed_shape::ShapeAnswer;
 ghost use mathlib.Core.Path.{_≡_};
-ghost use Rattle.checks.specs.First.{first};
 ghost use Rattle.general_operator.specs.Csr.{csr};
 ghost use Rattle.generator_action.specs.Mass.{given};
-ghost use Rattle.transpose.specs.Transpose.{buffers, lengths, buffers-after, transposed-checks};
+ghost use Rattle.transpose.specs.Transpose.{buffers};
 ghost use Rattle.combination.specs.Call.{ends};
 ghost use Rattle.transposed.specs.Transposed.{lends, phi-combination-transposed, phi-action-transposed, phi-action-batched-transposed, phi-combination-krylov-transposed};
-ghost use Rattle.transposed.specs.Inner.{shape-answer};
-
-// A refusal's number and double, or what a job takes from its generator.
-enum ShapeAnswer {
-    Refusal(u32, f64),
-    Passed(Shape),
-}
-
-// Every check of the matrix. The transposed generator has no mass; a job over it needs the working memory of the forward one.
-fn transposed_shape(
-    n: usize,
-    starts: &[u32],
-    cols: &[u32],
-    vals: &[f64],
-    with_mass: bool,
-    mass: &[f64],
-    t_starts: &mut [u32],
-    t_cols: &mut [u32],
-    t_vals: &mut [f64],
-) -> ShapeAnswer
-    ensures { λ r. ⌜ r ≡ shape-answer (csr n (now (starts .entry)) (now (cols .entry)) (now (vals .entry))) (given «with_mass» (now (mass .entry))) (first (transposed-checks (csr n (now (starts .entry)) (now (cols .entry)) (now (vals .entry))) (given «with_mass» (now (mass .entry))) (lengths (buffers (now («t_starts» .entry)) (now («t_cols» .entry)) (now («t_vals» .entry)))))) ⌝ }
-    ensures { λ _. ⌜ buffers (now («t_starts» .exit)) (now («t_cols» .exit)) (now («t_vals» .exit)) ≡ buffers-after (csr n (now (starts .entry)) (now (cols .entry)) (now (vals .entry))) (given «with_mass» (now (mass .entry))) (buffers (now («t_starts» .entry)) (now («t_cols» .entry)) (now («t_vals» .entry))) ⌝ }
-{
-    let matrix = transpose::check_transposed(
-        n,
-        starts,
-        cols,
-        vals,
-        with_mass,
-        mass,
-        t_starts,
-        t_cols,
-        t_vals,
-    );
-    match matrix {
-        MatrixAnswer::Refusal(k, x) => ShapeAnswer::Refusal(k, x),
-        MatrixAnswer::Norm(norm, _) => {
-            let forward = generator_action::generator_shape(n, with_mass, vals.len(), norm);
-            ShapeAnswer::Passed(Shape {
-                n: n,
-                with_mass: false,
-                stored: forward.stored,
-                norm: norm,
-            })
-        }
-    }
-}
 
 // `phi_combination` on the transposed quotients, which stay in the buffers.
 pub fn phi_combination_transposed(
@@ -79,7 +30,7 @@ pub fn phi_combination_transposed(
 ) -> TaylorAnswer
     ensures { λ r. ⌜ lends (ends r (now (out .exit)) (now (work .exit))) (buffers (now («t_starts» .exit)) (now («t_cols» .exit)) (now («t_vals» .exit))) ≡ phi-combination-transposed (csr n (now (starts .entry)) (now (cols .entry)) (now (vals .entry))) (given «with_mass» (now (mass .entry))) (buffers (now («t_starts» .entry)) (now («t_cols» .entry)) (now («t_vals» .entry))) tau cap count (now (w .entry)) (now (out .entry)) (now (work .entry)) ⌝ }
 {
-    let shape = transposed_shape(
+    let shape = transposed_shape::transposed_shape(
         n,
         starts,
         cols,
@@ -134,7 +85,7 @@ pub fn phi_action_transposed(
 ) -> TaylorAnswer
     ensures { λ r. ⌜ lends (ends r (now (out .exit)) (now (work .exit))) (buffers (now («t_starts» .exit)) (now («t_cols» .exit)) (now («t_vals» .exit))) ≡ phi-action-transposed (csr n (now (starts .entry)) (now (cols .entry)) (now (vals .entry))) (given «with_mass» (now (mass .entry))) (buffers (now («t_starts» .entry)) (now («t_cols» .entry)) (now («t_vals» .entry))) tau cap k (now (v .entry)) (now (out .entry)) (now (work .entry)) ⌝ }
 {
-    let shape = transposed_shape(
+    let shape = transposed_shape::transposed_shape(
         n,
         starts,
         cols,
@@ -177,7 +128,7 @@ pub fn phi_action_batched_transposed(
 ) -> TaylorAnswer
     ensures { λ r. ⌜ lends (ends r (now (out .exit)) (now (work .exit))) (buffers (now («t_starts» .exit)) (now («t_cols» .exit)) (now («t_vals» .exit))) ≡ phi-action-batched-transposed (csr n (now (starts .entry)) (now (cols .entry)) (now (vals .entry))) (given «with_mass» (now (mass .entry))) (buffers (now («t_starts» .entry)) (now («t_cols» .entry)) (now («t_vals» .entry))) tau cap p (now (v .entry)) (now (out .entry)) (now (work .entry)) ⌝ }
 {
-    let shape = transposed_shape(
+    let shape = transposed_shape::transposed_shape(
         n,
         starts,
         cols,
@@ -220,7 +171,7 @@ pub fn phi_combination_krylov_transposed(
 ) -> KrylovAnswer
     ensures { λ r. ⌜ lends (ends r (now (out .exit)) (now (work .exit))) (buffers (now («t_starts» .exit)) (now («t_cols» .exit)) (now («t_vals» .exit))) ≡ phi-combination-krylov-transposed (csr n (now (starts .entry)) (now (cols .entry)) (now (vals .entry))) (given «with_mass» (now (mass .entry))) (buffers (now («t_starts» .entry)) (now («t_cols» .entry)) (now («t_vals» .entry))) tau count (now (w .entry)) o (now (out .entry)) (now (work .entry)) ⌝ }
 {
-    let shape = transposed_shape(
+    let shape = transposed_shape::transposed_shape(
         n,
         starts,
         cols,

@@ -1,4 +1,4 @@
--- `transposed::transposed_shape` meets its contract. Assumes nothing.
+-- `transposed_shape::transposed_shape` meets its contract. Assumes nothing.
 use borrow.Author.Needs.{needs}
 use mathlib.Core.Path.{refl, _∙_, ap, sym}
 use Rattle.general_operator.specs.Csr.{Csr, csr}
@@ -6,9 +6,9 @@ use Rattle.generator_action.specs.Mass.{Mass, given}
 use Rattle.generator_action.specs.declared.Shape.{Shape}
 use Rattle.transpose.specs.Transpose.{Buffers, buffers, lengths}
 use Rattle.transpose.proofs.Passed.{transposed-refusal-told, transposed-norm-told}
-use Rattle.transposed.proofs.Fronts.{refused-shape, passed-shape}
-use Rattle.transposed.proofs.transposed_shape.Statement.{statement}
-use Rattle.transposed.proofs.transposed_shape.Tie as tie
+use Rattle.transposed_shape.proofs.Answers.{refused-shape, passed-shape}
+use Rattle.transposed_shape.proofs.transposed_shape.Statement.{statement}
+use Rattle.transposed_shape.proofs.transposed_shape.Tie as tie
 
 -- the matrix, the mass and the buffers at the function's entry
 abbrev a : tie.Start → Csr

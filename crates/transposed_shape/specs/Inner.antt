@@ -6,8 +6,8 @@ use Rattle.checks.specs.declared.Checked.the-variants.{Sound, Refused}
 use Rattle.general_operator.specs.Csr.{Csr, row-sum-norm}
 use Rattle.generator_action.specs.Mass.{Mass, quotients, quotient-need}
 use Rattle.transpose.specs.Transpose.{transpose}
-use Rattle.transposed.specs.declared.ShapeAnswer.{ShapeAnswer}
-use Rattle.transposed.specs.declared.ShapeAnswer.the-variants.{Refusal, Passed}
+use Rattle.transposed_shape.specs.declared.ShapeAnswer.{ShapeAnswer}
+use Rattle.transposed_shape.specs.declared.ShapeAnswer.the-variants.{Refusal, Passed}
 
 -- the refusal, or the numbers of the transposed generator: it has no mass, and takes the places that the forward one takes
 unfoldable pub shape-answer : Csr → Mass → Checked → ShapeAnswer

@@ -1,0 +1,2 @@
+-- What a job takes from the transposed generator.
+pub mod Inner
