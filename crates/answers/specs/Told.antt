@@ -13,9 +13,9 @@ use Rattle.phi_action.specs.declared.TaylorReport.{TaylorReport}
 use Rattle.phi_action.specs.declared.TaylorAnswer.{TaylorAnswer}
 use Rattle.phi_action.specs.declared.TaylorAnswer.the-variants as taylor
 use Rattle.phi_krylov_arnoldi.specs.declared.KrylovPhiReport.{KrylovPhiReport}
-use Rattle.phi_krylov.specs.declared.KrylovPhiOptions.{KrylovPhiOptions}
-use Rattle.phi_krylov.specs.declared.KrylovAnswer.{KrylovAnswer}
-use Rattle.phi_krylov.specs.declared.KrylovAnswer.the-variants as krylov
+use Rattle.krylov_job.specs.declared.KrylovPhiOptions.{KrylovPhiOptions}
+use Rattle.krylov_job.specs.declared.KrylovAnswer.{KrylovAnswer}
+use Rattle.krylov_job.specs.declared.KrylovAnswer.the-variants as krylov
 use Rattle.phi_krylov.specs.declared.PhiSolver.{PhiSolver}
 use Rattle.phi_krylov.specs.declared.PhiSolver.the-variants.{Taylor, Krylov}
 use Rattle.phi_krylov.specs.declared.PhiAnswer.{PhiAnswer}

@@ -1,9 +1,9 @@
 // Answers as the numbers that an exported function hands back, and solvers from the numbers handed in.
 use generator_action::MatrixAnswer;
 use join::JoinAnswer;
+use krylov_job::KrylovAnswer;
+use krylov_job::KrylovPhiOptions;
 use phi_action::TaylorAnswer;
-use phi_krylov::KrylovAnswer;
-use phi_krylov::KrylovPhiOptions;
 use phi_krylov::PhiAnswer;
 use phi_krylov::PhiSolver;
 ghost use mathlib.Core.Path.{_≡_};

@@ -34,10 +34,10 @@ use Rattle.admission.proofs.Admitted.{vectors-known, first-within, length-start
 use Rattle.arnoldi.specs.Basis.{norm2}
 use Rattle.phi_krylov_arnoldi.specs.Run.{State, End, finished, refused, clamp-m, idle}
 use Rattle.phi_krylov_arnoldi.specs.declared.KrylovPhiReport.{KrylovPhiReport}
-use Rattle.phi_krylov.specs.KrylovCall.{bound, dimension, option-checks, bound-checks, run-checks, krylov-need, krylov-checks-by, krylov-checks, after-run, combination-run-krylov, phi-combination-krylov}
-use Rattle.phi_krylov.specs.declared.KrylovPhiOptions.{KrylovPhiOptions}
-use Rattle.phi_krylov.specs.declared.KrylovAnswer.{KrylovAnswer}
-use Rattle.phi_krylov.specs.declared.KrylovAnswer.the-variants.{Refusal, Soaked}
+use Rattle.krylov_job.specs.KrylovCall.{bound, dimension, option-checks, bound-checks, run-checks, krylov-need, krylov-checks-by, krylov-checks, after-run, combination-run-krylov, phi-combination-krylov}
+use Rattle.krylov_job.specs.declared.KrylovPhiOptions.{KrylovPhiOptions}
+use Rattle.krylov_job.specs.declared.KrylovAnswer.{KrylovAnswer}
+use Rattle.krylov_job.specs.declared.KrylovAnswer.the-variants.{Refusal, Soaked}
 use Rattle.demand_3.specs.Krylov.{Zeros, KrylovCost, AtLimit, Exactly27}
 use Rattle.demand_3.specs.Demand3.{start-of, krylov-run, clamped, OneProduct, Demand3}
 use Rattle.demand_3.proofs.Start.{vectors-finite, start-finite}

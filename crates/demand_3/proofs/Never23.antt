@@ -21,8 +21,8 @@ use Rattle.combination.specs.Combination.{further, eta-of}
 use Rattle.combination.specs.Checks.{out-of-range, count-checks, index-checks, time-checks, degree-checks, plan-checks, length-checks, finite-checks, magnitude-checks, schedule-checks, memory-checks, vector-checks-by, vector-checks, sweep-checks, job-checks, taylor-need}
 use Rattle.combination.proofs.Range.{in-range, no-23}
 use Rattle.phi_action.specs.Calls.{combination-checks, action-checks}
-use Rattle.phi_krylov.specs.KrylovCall.{bound, dimension, option-checks, bound-checks, run-checks, krylov-need, krylov-checks-by, krylov-checks}
-use Rattle.phi_krylov.specs.declared.KrylovPhiOptions.{KrylovPhiOptions}
+use Rattle.krylov_job.specs.KrylovCall.{bound, dimension, option-checks, bound-checks, run-checks, krylov-need, krylov-checks-by, krylov-checks}
+use Rattle.krylov_job.specs.declared.KrylovPhiOptions.{KrylovPhiOptions}
 
 -- what 23 was
 abbrev pub check-23 : Generator → Check

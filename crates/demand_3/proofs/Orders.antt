@@ -9,8 +9,8 @@ use Rattle.general_operator.specs.Csr.{Csr}
 use Rattle.generator_action.specs.Generator.{forward}
 use Rattle.transpose.specs.Transpose.{Lent, transposed, open-Transpose}
 use Rattle.phi_action.specs.Calls.{combination-checks, action-checks, open-Calls}
-use Rattle.phi_krylov.specs.declared.KrylovPhiOptions.{KrylovPhiOptions}
-use Rattle.phi_krylov.specs.KrylovCall.{krylov-checks, open-KrylovCall}
+use Rattle.krylov_job.specs.declared.KrylovPhiOptions.{KrylovPhiOptions}
+use Rattle.krylov_job.specs.KrylovCall.{krylov-checks, open-KrylovCall}
 
 abbrev numbers : List Check → List ℕ
 numbers cs = map (λ (c : Check). c .number) cs

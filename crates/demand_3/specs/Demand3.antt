@@ -17,9 +17,9 @@ use Rattle.checks.specs.declared.Checked.the-variants.{Sound}
 use Rattle.combination.specs.Combination.{further, eta-of, combination-operator, combination-start, action-operator, init-aug-vector}
 use Rattle.phi_action.specs.Calls.{combination-checks, phi-combination, action-checks, phi-action, phi-action-batched}
 use Rattle.phi_krylov_arnoldi.specs.declared.KrylovPhiReport.{KrylovPhiReport}
-use Rattle.phi_krylov.specs.KrylovCall.{bound, krylov-checks, phi-combination-krylov}
-use Rattle.phi_krylov.specs.declared.KrylovPhiOptions.{KrylovPhiOptions}
-use Rattle.phi_krylov.specs.declared.KrylovAnswer.the-variants.{Refusal, Soaked}
+use Rattle.krylov_job.specs.KrylovCall.{bound, krylov-checks, phi-combination-krylov}
+use Rattle.krylov_job.specs.declared.KrylovPhiOptions.{KrylovPhiOptions}
+use Rattle.krylov_job.specs.declared.KrylovAnswer.the-variants.{Refusal, Soaked}
 use Rattle.demand_3.specs.Trace.{Run, run-of}
 use Rattle.demand_3.specs.Krylov.{Zeros, KrylovCost, Exactly27}
 use Rattle.demand_3.specs.Taylor.{Rows, TaylorClaim}

@@ -18,8 +18,8 @@ use Rattle.vectors.specs.Vectors.{dot, scale}
 use Rattle.arnoldi.specs.Basis.{Setting, dim, Basis, breakdown, full, apply, orthogonal}
 use Rattle.phi_krylov_arnoldi.specs.Run.{columns-of}
 use Rattle.phi_krylov_arnoldi.specs.declared.KrylovPhiReport.{KrylovPhiReport}
-use Rattle.phi_krylov.specs.declared.KrylovAnswer.{KrylovAnswer}
-use Rattle.phi_krylov.specs.declared.KrylovAnswer.the-variants.{Refusal}
+use Rattle.krylov_job.specs.declared.KrylovAnswer.{KrylovAnswer}
+use Rattle.krylov_job.specs.declared.KrylovAnswer.the-variants.{Refusal}
 use Rattle.demand_3.specs.Trace.{Accepted, Attempt, total, Run, last-after, accepted-by, tried-by, time-of, field-of, left-by, estimate-of, relative}
 
 -- the norm meant: the rounded Euclidean one of all values

@@ -7,7 +7,7 @@ ghost use Rattle.generator_action.specs.Generator.{forward};
 ghost use Rattle.generator_action.specs.Answer.{matrix-answer};
 ghost use Rattle.join.specs.Join.{join-call};
 ghost use Rattle.phi_action.specs.Calls.{phi-combination, phi-action, phi-action-batched};
-ghost use Rattle.phi_krylov.specs.KrylovCall.{phi-combination-krylov};
+ghost use Rattle.krylov_job.specs.KrylovCall.{phi-combination-krylov};
 ghost use Rattle.phi_krylov.specs.Combine.{answering, combine};
 ghost use Rattle.answers.specs.Told.{numbers, matrix-numbers, join-told, telling-join, taylor-numbers, krylov-numbers, phi-numbers, run-numbers, options, solver};
 

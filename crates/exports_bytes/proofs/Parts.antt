@@ -27,8 +27,8 @@ use Rattle.combination.specs.Checks.{count-checks, index-checks, time-checks, d
 use Rattle.admission.proofs.Stored.{quotients-rows}
 use Rattle.phi_action.specs.Calls.{combination-checks, action-checks, phi-combination, phi-action, phi-action-batched}
 use Rattle.phi_action.specs.declared.TaylorAnswer.the-variants as taylor
-use Rattle.phi_krylov.specs.KrylovCall.{bound, dimension, option-checks, run-checks, krylov-need, krylov-checks-by, krylov-checks, phi-combination-krylov}
-use Rattle.phi_krylov.specs.declared.KrylovAnswer.the-variants as krylov
+use Rattle.krylov_job.specs.KrylovCall.{bound, dimension, option-checks, run-checks, krylov-need, krylov-checks-by, krylov-checks, phi-combination-krylov}
+use Rattle.krylov_job.specs.declared.KrylovAnswer.the-variants as krylov
 use Rattle.phi_krylov.specs.Combine.{answering}
 use Rattle.answers.specs.Told.{Numbers, numbers, run-numbers, taylor-numbers, krylov-numbers, options}
 use Rattle.exports_bytes.specs.Inner.{long-told, called}

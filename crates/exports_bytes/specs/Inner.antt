@@ -10,7 +10,7 @@ use Rattle.doubles.specs.F64.{nat}
 use Rattle.generator_action.specs.Generator.{Generator}
 use Rattle.combination.specs.Call.{Call}
 use Rattle.phi_action.specs.Calls.{phi-combination, phi-action, phi-action-batched}
-use Rattle.phi_krylov.specs.KrylovCall.{phi-combination-krylov}
+use Rattle.krylov_job.specs.KrylovCall.{phi-combination-krylov}
 use Rattle.phi_krylov.specs.Combine.{answering}
 use Rattle.answers.specs.Told.{Numbers, numbers, run-numbers, taylor-numbers, krylov-numbers, options}
 use Rattle.exports_bytes.specs.declared.Told.{Told}

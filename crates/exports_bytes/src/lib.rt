@@ -1,7 +1,7 @@
 // The library for the differential driver: on numbers and bytes, unpacked into local arrays.
+use krylov_job::KrylovAnswer;
+use krylov_job::KrylovPhiOptions;
 use phi_action::TaylorAnswer;
-use phi_krylov::KrylovAnswer;
-use phi_krylov::KrylovPhiOptions;
 ghost use mathlib.Core.Path.{_≡_};
 ghost use mathlib.Core.Bool.{false, cond};
 ghost use Prim.Native.Nat.{_*_, _/_, _≤_};
@@ -11,7 +11,7 @@ ghost use Rattle.generator_action.specs.Mass.{given};
 ghost use Rattle.generator_action.specs.Generator.{forward};
 ghost use Rattle.combination.specs.Call.{ends};
 ghost use Rattle.phi_action.specs.Calls.{phi-combination, phi-action, phi-action-batched};
-ghost use Rattle.phi_krylov.specs.KrylovCall.{phi-combination-krylov};
+ghost use Rattle.krylov_job.specs.KrylovCall.{phi-combination-krylov};
 ghost use Rattle.phi_krylov.specs.Combine.{answering};
 ghost use Rattle.le_bytes.specs.Bytes.{numbers-of, doubles-of};
 ghost use Rattle.answers.specs.Told.{numbers, run-numbers, taylor-numbers, krylov-numbers, options};

@@ -32,8 +32,8 @@ use Rattle.combination.specs.Combination.{further, vector, gain, magnitude, eta
 use Rattle.combination.specs.Checks.{count-checks, time-checks, length-checks, finite-checks, bad-gain, magnitude-checks, memory-checks, vector-checks-by}
 use Rattle.arnoldi.specs.Basis.{Setting}
 use Rattle.phi_krylov_arnoldi.specs.Run.{State, End}
-use Rattle.phi_krylov.specs.KrylovCall.{bound, dimension, option-checks, bound-checks, run-checks, krylov-need, krylov-checks-by, krylov-checks}
-use Rattle.phi_krylov.specs.declared.KrylovPhiOptions.{KrylovPhiOptions}
+use Rattle.krylov_job.specs.KrylovCall.{bound, dimension, option-checks, bound-checks, run-checks, krylov-need, krylov-checks-by, krylov-checks}
+use Rattle.krylov_job.specs.declared.KrylovPhiOptions.{KrylovPhiOptions}
 use Rattle.paused_run.specs.Paused.{Job, rows, degree, leaves, field-checks, Input, tol-in, options-in, over, other-checks, step-checks, step-unless, step}
 use Rattle.paused_run.specs.declared.PausedRun.{PausedRun}
 use Rattle.paused_run.specs.declared.StepAnswer.the-variants.{Refusal}

@@ -20,8 +20,8 @@ use Rattle.phi_krylov_arnoldi.specs.Run.{State, End, finished}
 use Rattle.combination.specs.Combination.{further}
 use Rattle.admission.proofs.Admitted.{first-within}
 use Rattle.arnoldi.specs.Basis.{norm2}
-use Rattle.phi_krylov.specs.KrylovCall.{krylov-checks}
-use Rattle.phi_krylov.specs.declared.KrylovPhiOptions.{KrylovPhiOptions}
+use Rattle.krylov_job.specs.KrylovCall.{krylov-checks}
+use Rattle.krylov_job.specs.declared.KrylovPhiOptions.{KrylovPhiOptions}
 use Rattle.paused_run.specs.Paused.{Job, rows, degree, PausedCall, leaves, start, Input, step-unless, step}
 use Rattle.paused_run.specs.declared.PausedRun.{PausedRun}
 use Rattle.paused_run.specs.declared.StepAnswer.{StepAnswer}

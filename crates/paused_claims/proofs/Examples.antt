@@ -9,7 +9,7 @@ use lib.Ieee.{Float, nan}
 use Rattle.doubles.specs.F64.{bits, nat, 1f, +0}
 use Rattle.general_operator.specs.Csr.{Csr, csr}
 use Rattle.generator_action.specs.Generator.{forward}
-use Rattle.phi_krylov.specs.declared.KrylovPhiOptions.{KrylovPhiOptions}
+use Rattle.krylov_job.specs.declared.KrylovPhiOptions.{KrylovPhiOptions}
 use Rattle.checks.specs.First.{first}
 use Rattle.checks.specs.declared.Checked.the-variants.{Sound}
 use Rattle.phi_krylov_arnoldi.specs.declared.KrylovPhiReport.{KrylovPhiReport}

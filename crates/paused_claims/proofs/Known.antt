@@ -11,9 +11,9 @@ use Rattle.combination.specs.Combination.{further}
 use Rattle.combination.specs.Checks.{time-checks, vector-checks}
 use Rattle.admission.proofs.Admitted.{Vectors, vectors-known, first-within, length-start}
 use Rattle.phi_krylov_arnoldi.specs.Run.{clamp-m}
-use Rattle.phi_krylov.specs.KrylovCall.{dimension, option-checks, krylov-checks-by, krylov-checks}
-use Rattle.phi_krylov.specs.declared.KrylovPhiOptions.{KrylovPhiOptions}
-use Rattle.phi_krylov.proofs.Calls.{options-known}
+use Rattle.krylov_job.specs.KrylovCall.{dimension, option-checks, krylov-checks-by, krylov-checks}
+use Rattle.krylov_job.specs.declared.KrylovPhiOptions.{KrylovPhiOptions}
+use Rattle.krylov_job.proofs.Calls.{options-known}
 use Rattle.paused_run.specs.Paused.{Job, rows, degree}
 use Rattle.demand_3.proofs.Krylov.{Finite}
 use Rattle.demand_3.proofs.Start.{vectors-finite, start-finite}

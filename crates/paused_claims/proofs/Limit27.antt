@@ -9,7 +9,7 @@ use lib.Dec.{T}
 use lib.ListN.{length}
 use lib.Ieee.{Float, lt, ofBits}
 use Rattle.doubles.specs.F64.{_⋖_, 1f}
-use Rattle.phi_krylov.specs.declared.KrylovPhiOptions.{KrylovPhiOptions}
+use Rattle.krylov_job.specs.declared.KrylovPhiOptions.{KrylovPhiOptions}
 use Rattle.paused_run.specs.Paused.{Job, Input}
 use Rattle.paused_run.specs.declared.PausedRun.{PausedRun}
 use Rattle.paused_run.specs.declared.StepAnswer.{StepAnswer}

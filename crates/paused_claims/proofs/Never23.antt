@@ -11,8 +11,8 @@ use Rattle.checks.proofs.Numbers.{before-append}
 use Rattle.general_operator.specs.Csr.{row-sum-norm}
 use Rattle.combination.specs.Combination.{further}
 use Rattle.combination.specs.Checks.{count-checks, time-checks, length-checks, finite-checks, magnitude-checks, memory-checks, vector-checks-by, vector-checks}
-use Rattle.phi_krylov.specs.KrylovCall.{bound, dimension, option-checks, bound-checks, run-checks, krylov-checks-by, krylov-checks}
-use Rattle.phi_krylov.specs.declared.KrylovPhiOptions.{KrylovPhiOptions}
+use Rattle.krylov_job.specs.KrylovCall.{bound, dimension, option-checks, bound-checks, run-checks, krylov-checks-by, krylov-checks}
+use Rattle.krylov_job.specs.declared.KrylovPhiOptions.{KrylovPhiOptions}
 use Rattle.paused_run.specs.Paused.{Job, rows, degree, need-of, scaling-of, field-checks, start-checks, Input, tol-in, options-in, over, other-checks, step-checks}
 use Rattle.paused_run.specs.declared.PausedRun.{PausedRun}
 use Rattle.demand_3.proofs.Never23.{InRange, check-23, never-23}

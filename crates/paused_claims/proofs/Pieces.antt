@@ -11,9 +11,9 @@ use Rattle.checks.proofs.First.{sound-cons, sound-append, sound-on, passes, end
 use Rattle.general_operator.specs.Csr.{row-sum-norm}
 use Rattle.combination.specs.Combination.{further}
 use Rattle.combination.specs.Checks.{count-checks, time-checks, length-checks, finite-checks, magnitude-checks, memory-checks, vector-checks-by}
-use Rattle.phi_krylov.specs.KrylovCall.{bound, dimension, option-checks, bound-checks, run-checks, krylov-need, krylov-checks-by, krylov-checks}
-use Rattle.phi_krylov.specs.declared.KrylovPhiOptions.{KrylovPhiOptions}
-use Rattle.phi_krylov.proofs.Calls.{options-known}
+use Rattle.krylov_job.specs.KrylovCall.{bound, dimension, option-checks, bound-checks, run-checks, krylov-need, krylov-checks-by, krylov-checks}
+use Rattle.krylov_job.specs.declared.KrylovPhiOptions.{KrylovPhiOptions}
+use Rattle.krylov_job.proofs.Calls.{options-known}
 use Rattle.paused_run.specs.Paused.{Job, rows, degree}
 use Rattle.paused_claims.specs.History.{own-eta}
 

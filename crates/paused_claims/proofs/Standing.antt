@@ -30,8 +30,8 @@ use Rattle.arnoldi.specs.Basis.{Setting, len, Basis, norm2}
 use Rattle.trial_steps.specs.Trials.{Trying, Tried, accepted, stuck}
 use Rattle.phi_krylov_arnoldi.specs.Run.{State, End, finished, refused, applied-of, columns-of, advance, unfinished, standing, settle, substep, started, first-length, empty-report, relative-report, clamp-m, setting}
 use Rattle.phi_krylov_arnoldi.specs.declared.KrylovPhiReport.{KrylovPhiReport}
-use Rattle.phi_krylov.specs.KrylovCall.{bound, dimension, krylov-checks-by, krylov-checks}
-use Rattle.phi_krylov.specs.declared.KrylovPhiOptions.{KrylovPhiOptions}
+use Rattle.krylov_job.specs.KrylovCall.{bound, dimension, krylov-checks-by, krylov-checks}
+use Rattle.krylov_job.specs.declared.KrylovPhiOptions.{KrylovPhiOptions}
 use Rattle.paused_run.specs.Paused.{Job, rows, degree, PausedCall, setting-of, need-of, idle-run, first-run, begun, start, Input, tol-in, over, other-checks, step-checks, resumed, moved, verdict, field-after, substep-of, after-substep, step-unless, step}
 use Rattle.paused_run.specs.declared.PausedRun.{PausedRun}
 use Rattle.paused_run.specs.declared.Tolerance.{Tolerance}

@@ -21,8 +21,8 @@ use Rattle.checks.proofs.First.{and-then, unless, first-cons, first-none, first
 use Rattle.combination.specs.Call.{cleared}
 use Rattle.arnoldi.specs.Basis.{norm2}
 use Rattle.phi_krylov_arnoldi.specs.Run.{clamp-m}
-use Rattle.phi_krylov.specs.KrylovCall.{dimension}
-use Rattle.phi_krylov.specs.declared.KrylovPhiOptions.{KrylovPhiOptions}
+use Rattle.krylov_job.specs.KrylovCall.{dimension}
+use Rattle.krylov_job.specs.declared.KrylovPhiOptions.{KrylovPhiOptions}
 use Rattle.paused_run.specs.Paused.{Job, PausedCall, leaves, need-of, fresh, idle-run, first-run, field-checks, start-checks, begun, start-unless, start}
 use Rattle.paused_run.specs.declared.PausedRun.{PausedRun}
 use Rattle.paused_run.specs.declared.StartAnswer.{StartAnswer}

@@ -14,7 +14,7 @@ use Rattle.checks.specs.First.{first}
 use Rattle.checks.specs.declared.Checked.{Checked}
 use Rattle.checks.specs.declared.Checked.the-variants.{Sound, Refused}
 use Rattle.phi_krylov_arnoldi.specs.Run.{State, End, finished, refused}
-use Rattle.phi_krylov.specs.declared.KrylovPhiOptions.{KrylovPhiOptions}
+use Rattle.krylov_job.specs.declared.KrylovPhiOptions.{KrylovPhiOptions}
 use Rattle.paused_run.specs.Paused.{Job, Input, tol-in, setting-of, resumed, moved, step-checks, verdict, substep-of, after-substep, step-unless, step}
 use Rattle.paused_run.specs.declared.PausedRun.{PausedRun}
 use Rattle.paused_run.specs.declared.StepAnswer.{StepAnswer}

@@ -21,8 +21,8 @@ use Rattle.arnoldi.specs.Basis.{Setting, Basis, arnoldi, norm2}
 use Rattle.trial_steps.specs.Trials.{Trying, Tried, accepted, stuck, trials}
 use Rattle.phi_krylov_arnoldi.specs.Run.{State, End, finished, refused, applied-of, columns-of, advance, unfinished, standing, settle, substep, relative-report, clamp-m}
 use Rattle.phi_krylov_arnoldi.specs.declared.KrylovPhiReport.{KrylovPhiReport}
-use Rattle.phi_krylov.specs.KrylovCall.{dimension, krylov-need}
-use Rattle.phi_krylov.specs.declared.KrylovPhiOptions.{KrylovPhiOptions}
+use Rattle.krylov_job.specs.KrylovCall.{dimension, krylov-need}
+use Rattle.krylov_job.specs.declared.KrylovPhiOptions.{KrylovPhiOptions}
 use Rattle.paused_run.specs.Paused.{Job, rows, degree, PausedCall, Input, moved, stopped, over, verdict, after-substep, step-unless, step}
 use Rattle.paused_run.specs.declared.PausedRun.{PausedRun}
 use Rattle.paused_run.specs.declared.StepAnswer.{StepAnswer}

@@ -25,10 +25,10 @@ use Rattle.general_operator.specs.Csr.{row-sum-norm}
 use Rattle.combination.specs.Call.{Call, ends, unless-refused, cleared}
 use Rattle.arnoldi.specs.Basis.{Setting, norm2}
 use Rattle.phi_krylov_arnoldi.specs.Run.{State, End, finished, refused, substep, spent, run, started, scaled-back, back, relative-report, clamp-m, idle, setting, expv-by, expv}
-use Rattle.phi_krylov.specs.KrylovCall.{bound, dimension, krylov-checks, after-run, combination-run-krylov, phi-combination-krylov}
-use Rattle.phi_krylov.specs.declared.KrylovPhiOptions.{KrylovPhiOptions}
-use Rattle.phi_krylov.specs.declared.KrylovAnswer.{KrylovAnswer}
-use Rattle.phi_krylov.specs.declared.KrylovAnswer.the-variants as krylov-answer
+use Rattle.krylov_job.specs.KrylovCall.{bound, dimension, krylov-checks, after-run, combination-run-krylov, phi-combination-krylov}
+use Rattle.krylov_job.specs.declared.KrylovPhiOptions.{KrylovPhiOptions}
+use Rattle.krylov_job.specs.declared.KrylovAnswer.{KrylovAnswer}
+use Rattle.krylov_job.specs.declared.KrylovAnswer.the-variants as krylov-answer
 use Rattle.paused_run.specs.Paused.{Job, rows, PausedCall, need-of, Input, start, moved, over, verdict, field-after, after-substep, step}
 use Rattle.paused_run.specs.declared.PausedRun.{PausedRun}
 use Rattle.paused_run.specs.declared.StepAnswer.{StepAnswer}

@@ -1,7 +1,7 @@
 -- What is claimed of paused runs, in one place (document 02, N5; N14 of their checks). Definitions only.
 use mathlib.Core.List.{List}
 use lib.Ieee.{Float}
-use Rattle.phi_krylov.specs.declared.KrylovPhiOptions.{KrylovPhiOptions}
+use Rattle.krylov_job.specs.declared.KrylovPhiOptions.{KrylovPhiOptions}
 use Rattle.paused_run.specs.Paused.{Job, Input, start}
 use Rattle.paused_run.specs.declared.PausedRun.{PausedRun}
 use Rattle.paused_claims.specs.History.{Past, Left}

@@ -14,7 +14,7 @@ use Rattle.checks.specs.First.{Check, refuse, first, before}
 use Rattle.checks.specs.declared.Checked.the-variants.{Sound, Refused}
 use Rattle.generator_action.specs.Generator.{Generator}
 use Rattle.combination.specs.Combination.{further, vector}
-use Rattle.phi_krylov.specs.declared.KrylovPhiOptions.{KrylovPhiOptions}
+use Rattle.krylov_job.specs.declared.KrylovPhiOptions.{KrylovPhiOptions}
 use Rattle.paused_run.specs.Paused.{Job, leaves, Input}
 use Rattle.paused_run.specs.declared.StepAnswer.the-variants.{Refusal}
 use Rattle.paused_claims.specs.History.{own-eta, Past, call-on, checked, in-force}

@@ -14,8 +14,8 @@ use Rattle.general_operator.specs.Csr.{row-sum-norm}
 use Rattle.combination.specs.Combination.{further, eta-of, combination-operator}
 use Rattle.arnoldi.specs.Basis.{Setting}
 use Rattle.phi_krylov_arnoldi.specs.Run.{setting}
-use Rattle.phi_krylov.specs.KrylovCall.{bound}
-use Rattle.phi_krylov.specs.declared.KrylovPhiOptions.{KrylovPhiOptions}
+use Rattle.krylov_job.specs.KrylovCall.{bound}
+use Rattle.krylov_job.specs.declared.KrylovPhiOptions.{KrylovPhiOptions}
 use Rattle.paused_run.specs.Paused.{Job, PausedCall, start, Input, step-checks, step}
 use Rattle.paused_run.specs.declared.PausedRun.{PausedRun}
 use Rattle.paused_run.specs.declared.Tolerance.{Tolerance}

@@ -16,8 +16,8 @@ use Rattle.checks.specs.declared.Checked.the-variants.{Sound, Refused}
 use Rattle.general_operator.specs.Csr.{row-sum-norm}
 use Rattle.combination.specs.Call.{cleared}
 use Rattle.phi_krylov_arnoldi.specs.Run.{first-length}
-use Rattle.phi_krylov.specs.KrylovCall.{bound, krylov-need, krylov-checks}
-use Rattle.phi_krylov.specs.declared.KrylovPhiOptions.{KrylovPhiOptions}
+use Rattle.krylov_job.specs.KrylovCall.{bound, krylov-need, krylov-checks}
+use Rattle.krylov_job.specs.declared.KrylovPhiOptions.{KrylovPhiOptions}
 use Rattle.paused_run.specs.Paused.{Job, PausedCall, leaves}
 use Rattle.paused_run.specs.declared.PausedRun.{PausedRun}
 use Rattle.paused_run.specs.declared.StartAnswer.{StartAnswer}

@@ -17,7 +17,7 @@ use Rattle.combination.specs.Call.{cleared}
 use Rattle.arnoldi.specs.Basis.{Setting, arnoldi}
 use Rattle.trial_steps.specs.Trials.{stuck, trials}
 use Rattle.phi_krylov_arnoldi.specs.Run.{first-length}
-use Rattle.phi_krylov.specs.declared.KrylovPhiOptions.{KrylovPhiOptions}
+use Rattle.krylov_job.specs.declared.KrylovPhiOptions.{KrylovPhiOptions}
 use Rattle.paused_run.specs.Paused.{Job, PausedCall, Input}
 use Rattle.paused_run.specs.declared.PausedRun.{PausedRun}
 use Rattle.paused_run.specs.declared.StepAnswer.{StepAnswer}

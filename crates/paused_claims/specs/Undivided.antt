@@ -7,10 +7,10 @@ use Prim.Native.Nat.{ℕ, suc, _≤_}
 use lib.ListN.{length}
 use lib.Ieee.{Float}
 use Rattle.combination.specs.Call.{Call, ends}
-use Rattle.phi_krylov.specs.KrylovCall.{phi-combination-krylov}
-use Rattle.phi_krylov.specs.declared.KrylovPhiOptions.{KrylovPhiOptions}
-use Rattle.phi_krylov.specs.declared.KrylovAnswer.{KrylovAnswer}
-use Rattle.phi_krylov.specs.declared.KrylovAnswer.the-variants as krylov-answer
+use Rattle.krylov_job.specs.KrylovCall.{phi-combination-krylov}
+use Rattle.krylov_job.specs.declared.KrylovPhiOptions.{KrylovPhiOptions}
+use Rattle.krylov_job.specs.declared.KrylovAnswer.{KrylovAnswer}
+use Rattle.krylov_job.specs.declared.KrylovAnswer.the-variants as krylov-answer
 use Rattle.paused_run.specs.Paused.{Job, PausedCall, start, Input}
 use Rattle.paused_run.specs.declared.PausedRun.{PausedRun}
 use Rattle.paused_run.specs.declared.StartAnswer.the-variants.{Started}

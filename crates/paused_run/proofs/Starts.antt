@@ -33,12 +33,12 @@ use Rattle.admission.proofs.Admitted.{first-within}
 use Rattle.admission.proofs.Stored.{quotients-rows}
 use Rattle.arnoldi.specs.Basis.{norm2}
 use Rattle.phi_krylov_arnoldi.specs.Run.{first-length}
-use Rattle.phi_krylov.specs.KrylovCall.{dimension, krylov-checks, krylov-checks-by}
-use Rattle.phi_krylov.specs.Inner.{scaling-by, scaling-of, run-job-by, Admitted}
-use Rattle.phi_krylov.proofs.Calls.{Known, known, job-told}
-use Rattle.phi_krylov.specs.declared.KrylovPhiOptions.{KrylovPhiOptions}
-use Rattle.phi_krylov.specs.declared.RunJob.{RunJob}
-use Rattle.phi_krylov.specs.declared.Eta.the-variants.{Own}
+use Rattle.krylov_job.specs.KrylovCall.{dimension, krylov-checks, krylov-checks-by}
+use Rattle.krylov_job.specs.Inner.{scaling-by, scaling-of, run-job-by, Admitted}
+use Rattle.krylov_job.proofs.Calls.{Known, known, job-told}
+use Rattle.krylov_job.specs.declared.KrylovPhiOptions.{KrylovPhiOptions}
+use Rattle.krylov_job.specs.declared.RunJob.{RunJob}
+use Rattle.krylov_job.specs.declared.Eta.the-variants.{Own}
 use Rattle.paused_run.specs.Paused.{Job, PausedCall, leaves, rows, degree, field-checks, start-checks, first-field, need-of, begun, start-unless, start}
 use Rattle.paused_run.specs.Inner.{job-over, fresh-of, first-of, begun-of}
 use Rattle.paused_run.specs.declared.PausedRun.{PausedRun}

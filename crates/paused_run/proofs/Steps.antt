@@ -40,14 +40,14 @@ use Rattle.phi_krylov_arnoldi.specs.Memory.{state-at, progress-at}
 use Rattle.phi_krylov_arnoldi.specs.declared.Progress.{Progress}
 use Rattle.phi_krylov_arnoldi.specs.declared.Progress.the-variants as progress
 use Rattle.phi_krylov_arnoldi.proofs.Whole.{absolute, room-absolute}
-use Rattle.phi_krylov.specs.KrylovCall.{dimension, krylov-checks-by}
-use Rattle.phi_krylov.specs.Memory.{layout}
-use Rattle.phi_krylov.specs.Inner.{scaling-by, scaling-of, run-job-by, Admitted, Allowed}
-use Rattle.phi_krylov.proofs.Calls.{Known, known, allowed, all-checks, field-needed}
-use Rattle.phi_krylov.proofs.Runs.{store-fits, room, operator-is, field-is, spared}
-use Rattle.phi_krylov.specs.declared.KrylovPhiOptions.{KrylovPhiOptions}
-use Rattle.phi_krylov.specs.declared.RunJob.{RunJob}
-use Rattle.phi_krylov.specs.declared.Eta.the-variants.{Began}
+use Rattle.krylov_job.specs.KrylovCall.{dimension, krylov-checks-by}
+use Rattle.krylov_job.specs.Memory.{layout}
+use Rattle.krylov_job.specs.Inner.{scaling-by, scaling-of, run-job-by, Admitted, Allowed}
+use Rattle.krylov_job.proofs.Calls.{Known, known, allowed, all-checks, field-needed}
+use Rattle.krylov_job.proofs.Runs.{store-fits, room, operator-is, field-is, spared}
+use Rattle.krylov_job.specs.declared.KrylovPhiOptions.{KrylovPhiOptions}
+use Rattle.krylov_job.specs.declared.RunJob.{RunJob}
+use Rattle.krylov_job.specs.declared.Eta.the-variants.{Began}
 use Rattle.paused_run.specs.Paused.{Job, Input, PausedCall, leaves, rows, degree, field-checks, setting-of, need-of, tol-in, options-in, over, other-checks, step-checks, resumed, verdict, field-after, substep-of, after-substep, step-unless, step}
 use Rattle.paused_run.specs.Inner.{job-over, other-checks-by, setting-for, turned, after-of}
 use Rattle.paused_run.specs.declared.PausedRun.{PausedRun}

@@ -25,8 +25,8 @@ use Rattle.combination.specs.Checks.{length-checks}
 use Rattle.arnoldi.specs.Basis.{Setting, norm2}
 use Rattle.phi_krylov_arnoldi.specs.Run.{State, End, finished, refused, setting, substep, first-length, empty-report, relative-report}
 use Rattle.phi_krylov_arnoldi.specs.declared.KrylovPhiReport.{KrylovPhiReport}
-use Rattle.phi_krylov.specs.KrylovCall.{bound, dimension, krylov-need, krylov-checks, krylov-checks-by, open-KrylovCall}
-use Rattle.phi_krylov.specs.declared.KrylovPhiOptions.{KrylovPhiOptions}
+use Rattle.krylov_job.specs.KrylovCall.{bound, dimension, krylov-need, krylov-checks, krylov-checks-by, open-KrylovCall}
+use Rattle.krylov_job.specs.declared.KrylovPhiOptions.{KrylovPhiOptions}
 use Rattle.paused_run.specs.declared.PausedRun.{PausedRun}
 use Rattle.paused_run.specs.declared.Tolerance.{Tolerance}
 use Rattle.paused_run.specs.declared.Tolerance.the-variants.{Same, New}

@@ -3,9 +3,9 @@ use arnoldi::Krylov;
 use checks::Checked;
 use generator_action::MatrixAnswer;
 use generator_action::Shape;
-use phi_krylov::Eta;
-use phi_krylov::KrylovPhiOptions;
-use phi_krylov::RunJob;
+use krylov_job::Eta;
+use krylov_job::KrylovPhiOptions;
+use krylov_job::RunJob;
 use phi_krylov_arnoldi::Control;
 use phi_krylov_arnoldi::KrylovPhiReport;
 use phi_krylov_arnoldi::Progress;
@@ -32,7 +32,7 @@ ghost use Rattle.combination.specs.Combination.{combination-start};
 ghost use Rattle.combination.specs.Call.{cleared};
 ghost use Rattle.admission.specs.Inner.{matrix-of};
 ghost use Rattle.phi_krylov_arnoldi.specs.Run.{substep};
-ghost use Rattle.phi_krylov.specs.Inner.{Allowed};
+ghost use Rattle.krylov_job.specs.Inner.{Allowed};
 ghost use Rattle.paused_run.specs.Paused.{leaves, start, tol-in, options-in, over, resumed, moved, stopped, verdict, step};
 ghost use Rattle.paused_run.specs.Inner.{job-over, other-checks-by, fresh-of, first-of, begun-of, setting-for, state, turned, after-of};
 
@@ -170,7 +170,7 @@ pub fn started(
     ensures { λ r. ⌜ ((gs : List Check) (starts cols : List ℕ) (vals mass : List Float) → Sound ≡ first gs → Passed (csr (g .n) starts cols vals) (given (g .«with_mass») mass) g → leaves r (now (out .exit)) (now (work .exit)) (now (field .exit)) ≡ start o (job-over gs g starts cols vals mass tau count (now (w .entry))) (now (out .entry)) (now (work .entry)) (now (field .entry))) ⌝ }
 {
     let none = Checked::Sound;
-    let j = phi_krylov::admit_job(g, tau, count, w, Eta::Own, o, out.len(), none, work.len());
+    let j = krylov_job::admit_job(g, tau, count, w, Eta::Own, o, out.len(), none, work.len());
     let job = j.checked;
     let Checked::Sound = job else {
         return StartAnswer::Refusal(checks::number(job), checks::reported(job));
@@ -343,7 +343,7 @@ fn substep_on(
     ensures { λ _. ⌜ (cleared (j .need) (now (work .exit)) ≡ cleared (j .need) (now (work .entry))) × (length (now (work .exit)) ≡ length (now (work .entry))) × (length (now (field .exit)) ≡ length (now (field .entry))) ⌝ }
 {
     let len = j.g.n + j.d;
-    let l = phi_krylov::layout(j.g.n, j.d, j.k.m, j.g.with_mass);
+    let l = krylov_job::layout(j.g.n, j.d, j.k.m, j.g.with_mass);
     vectors::copy_from(work, j.k.y, field, 0, len);
     generator_action::store_quotients(j.g.n, starts, cols, vals, j.g.with_mass, mass, work, l.q);
     let k = Krylov {
@@ -415,7 +415,7 @@ pub fn stepped(
     let o = options_in(run, tol);
     let others = check_other(run, n, count, w.len());
     let began = Eta::Began(run.eta);
-    let j = phi_krylov::admit_job(g, tau, count, w, began, o, out.len(), others, work.len());
+    let j = krylov_job::admit_job(g, tau, count, w, began, o, out.len(), others, work.len());
     let job = j.checked;
     let Checked::Sound = job else {
         return StepAnswer::Refusal(checks::number(job), checks::reported(job), run);

@@ -8,10 +8,10 @@ use lib.Ieee.{Float, nan}
 use Rattle.doubles.specs.F64.{bits, nat, 1f, +0}
 use Rattle.general_operator.specs.Csr.{Csr, csr}
 use Rattle.generator_action.specs.Generator.{forward}
-use Rattle.phi_krylov.specs.declared.KrylovPhiOptions.{KrylovPhiOptions}
-use Rattle.phi_krylov.specs.declared.KrylovAnswer.the-variants.{Refusal, Soaked}
+use Rattle.krylov_job.specs.declared.KrylovPhiOptions.{KrylovPhiOptions}
+use Rattle.krylov_job.specs.declared.KrylovAnswer.the-variants.{Refusal, Soaked}
 use Rattle.combination.specs.Call.{ends}
-use Rattle.phi_krylov.specs.KrylovCall.{phi-combination-krylov, open-KrylovCall}
+use Rattle.krylov_job.specs.KrylovCall.{phi-combination-krylov, open-KrylovCall}
 
 abbrev empty : Csr
 empty = csr 1 (0 ∷ 0 ∷ []) [] []

@@ -7,9 +7,9 @@ use Rattle.combination.specs.Call.{Call, ends}
 use Rattle.phi_action.specs.Calls.{phi-combination}
 use Rattle.phi_action.specs.declared.TaylorAnswer.{TaylorAnswer}
 use Rattle.phi_action.specs.declared.TaylorAnswer.the-variants as taylor
-use Rattle.phi_krylov.specs.KrylovCall.{phi-combination-krylov}
-use Rattle.phi_krylov.specs.declared.KrylovAnswer.{KrylovAnswer}
-use Rattle.phi_krylov.specs.declared.KrylovAnswer.the-variants as krylov
+use Rattle.krylov_job.specs.KrylovCall.{phi-combination-krylov}
+use Rattle.krylov_job.specs.declared.KrylovAnswer.{KrylovAnswer}
+use Rattle.krylov_job.specs.declared.KrylovAnswer.the-variants as krylov
 use Rattle.phi_krylov.specs.declared.PhiSolver.{PhiSolver}
 use Rattle.phi_krylov.specs.declared.PhiSolver.the-variants as solver
 use Rattle.phi_krylov.specs.declared.PhiAnswer.{PhiAnswer}

@@ -1,4 +1,1 @@
-pub mod KrylovCall
-pub mod Memory
-pub mod Inner
 pub mod Combine

@@ -1,6 +1,6 @@
 // The schedule of a soak in stages: its checks, the checks 12 to 17 of a stage, the first field of its run, and the counts.
 use checks::Checked;
-use phi_krylov::KrylovPhiOptions;
+use krylov_job::KrylovPhiOptions;
 use phi_krylov::PhiAnswer;
 use phi_krylov::PhiSolver;
 ghost use mathlib.Core.Path.{_≡_};

@@ -24,16 +24,16 @@ use Rattle.phi_action.specs.declared.TaylorAnswer.{TaylorAnswer}
 use Rattle.phi_action.specs.declared.TaylorAnswer.the-variants as taylor
 use Rattle.phi_krylov_arnoldi.specs.Run.{clamp-m}
 use Rattle.phi_krylov_arnoldi.specs.declared.KrylovPhiReport.{KrylovPhiReport}
-use Rattle.phi_krylov.specs.KrylovCall.{dimension, option-checks, krylov-checks-by, krylov-checks, phi-combination-krylov}
+use Rattle.krylov_job.specs.KrylovCall.{dimension, option-checks, krylov-checks-by, krylov-checks, phi-combination-krylov}
 use Rattle.phi_krylov.specs.Combine.{of-taylor, of-krylov, answering, combine}
-use Rattle.phi_krylov.specs.declared.KrylovPhiOptions.{KrylovPhiOptions}
-use Rattle.phi_krylov.specs.declared.KrylovAnswer.{KrylovAnswer}
-use Rattle.phi_krylov.specs.declared.KrylovAnswer.the-variants as krylov
+use Rattle.krylov_job.specs.declared.KrylovPhiOptions.{KrylovPhiOptions}
+use Rattle.krylov_job.specs.declared.KrylovAnswer.{KrylovAnswer}
+use Rattle.krylov_job.specs.declared.KrylovAnswer.the-variants as krylov
 use Rattle.phi_krylov.specs.declared.PhiSolver.{PhiSolver}
 use Rattle.phi_krylov.specs.declared.PhiSolver.the-variants as solver
 use Rattle.phi_krylov.specs.declared.PhiAnswer.{PhiAnswer}
 use Rattle.phi_krylov.specs.declared.PhiAnswer.the-variants as phi
-use Rattle.phi_krylov.proofs.Calls.{options-known}
+use Rattle.krylov_job.proofs.Calls.{options-known}
 use Rattle.demand_3.proofs.Demand3.{demand-3}
 use Rattle.stage_checks.specs.declared.Stage.{Stage}
 use Rattle.stage_checks.specs.Schedule.{stage-checks}

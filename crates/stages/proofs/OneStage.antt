@@ -31,17 +31,17 @@ use Rattle.phi_action.specs.Inner.{Allowed, operator-by, job-end}
 use Rattle.phi_action.specs.declared.TaylorAnswer.{TaylorAnswer}
 use Rattle.phi_action.specs.declared.TaylorAnswer.the-variants as taylor
 use Rattle.phi_action.proofs.Calls as taylor-calls
-use Rattle.phi_krylov.specs.KrylovCall.{dimension, option-checks, krylov-checks-by, krylov-checks, after-run, phi-combination-krylov}
+use Rattle.krylov_job.specs.KrylovCall.{dimension, option-checks, krylov-checks-by, krylov-checks, after-run, phi-combination-krylov}
 use Rattle.phi_krylov.specs.Combine.{combine}
 use Rattle.phi_krylov.specs.declared.PhiAnswer.{PhiAnswer}
 use Rattle.phi_krylov.specs.declared.PhiAnswer.the-variants as phi
-use Rattle.phi_krylov.specs.Inner.{scaling-by, scaling-of, run-job-by, Admitted, Allowed as Runnable, run-of}
-use Rattle.phi_krylov.specs.declared.KrylovAnswer.{KrylovAnswer}
-use Rattle.phi_krylov.specs.declared.KrylovAnswer.the-variants as krylov
-use Rattle.phi_krylov.specs.declared.KrylovPhiOptions.{KrylovPhiOptions}
-use Rattle.phi_krylov.specs.declared.RunJob.{RunJob}
-use Rattle.phi_krylov.specs.declared.Eta.the-variants.{Own}
-use Rattle.phi_krylov.proofs.Calls as krylov-calls
+use Rattle.krylov_job.specs.Inner.{scaling-by, scaling-of, run-job-by, Admitted, Allowed as Runnable, run-of}
+use Rattle.krylov_job.specs.declared.KrylovAnswer.{KrylovAnswer}
+use Rattle.krylov_job.specs.declared.KrylovAnswer.the-variants as krylov
+use Rattle.krylov_job.specs.declared.KrylovPhiOptions.{KrylovPhiOptions}
+use Rattle.krylov_job.specs.declared.RunJob.{RunJob}
+use Rattle.krylov_job.specs.declared.Eta.the-variants.{Own}
+use Rattle.krylov_job.proofs.Calls as krylov-calls
 use Rattle.stage_checks.specs.declared.Stage.{Stage}
 use Rattle.stage_checks.specs.Schedule.{stage-checks}
 use Rattle.stages.specs.Inner.{Whole, stage-end}

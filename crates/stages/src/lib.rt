@@ -2,10 +2,10 @@
 use checks::Checked;
 use generator_action::MatrixAnswer;
 use generator_action::Shape;
+use krylov_job::Eta;
+use krylov_job::KrylovAnswer;
+use krylov_job::KrylovPhiOptions;
 use phi_action::TaylorAnswer;
-use phi_krylov::Eta;
-use phi_krylov::KrylovAnswer;
-use phi_krylov::KrylovPhiOptions;
 use phi_krylov::PhiAnswer;
 use phi_krylov::PhiSolver;
 use stage_checks::SoFar;
@@ -29,7 +29,7 @@ ghost use Rattle.combination.specs.Checks.{time-checks, plan-checks};
 ghost use Rattle.combination.specs.Call.{ends};
 ghost use Rattle.admission.specs.Inner.{after-checks};
 ghost use Rattle.phi_action.specs.Calls.{phi-combination};
-ghost use Rattle.phi_krylov.specs.KrylovCall.{phi-combination-krylov};
+ghost use Rattle.krylov_job.specs.KrylovCall.{phi-combination-krylov};
 ghost use Rattle.phi_krylov.specs.Combine.{combine};
 ghost use Rattle.stage_checks.specs.Schedule.{schedule-checks, time-checks-of};
 ghost use Rattle.stages.specs.Stages.{stage-step, begun, concluded, staged};
@@ -91,13 +91,13 @@ fn krylov_stage(
     ensures { λ r. ⌜ ((gs : List Check) → Sound ≡ first gs → ends r (now (out .exit)) (now (work .exit)) ≡ phi-combination-krylov (after-checks gs (csr (g .n) (now (starts .entry)) (now (cols .entry)) (now (vals .entry))) (given (g .«with_mass») (now (mass .entry))) g) tau count (field-of initial (now (start .entry)) (now (out .entry)) ++ now (vectors .entry)) o (now (out .entry)) (now (work .entry))) ⌝ }
 {
     let d = count - 1;
-    let m = phi_krylov::clamp_m(o.m, g.n + d);
+    let m = krylov_job::clamp_m(o.m, g.n + d);
     let finite = stage_checks::check_field(initial, start, out, vectors);
-    let early = combination::and_then(finite, phi_krylov::check_options(o, m));
+    let early = combination::and_then(finite, krylov_job::check_options(o, m));
     let Checked::Sound = early else {
         return KrylovAnswer::Refusal(checks::number(early), checks::reported(early));
     };
-    let j = phi_krylov::admit_run(g, tau, d, vectors, Eta::Own, o, m, work.len());
+    let j = krylov_job::admit_run(g, tau, d, vectors, Eta::Own, o, m, work.len());
     let checked = j.checked;
     let Checked::Sound = checked else {
         return KrylovAnswer::Refusal(checks::number(checked), checks::reported(checked));

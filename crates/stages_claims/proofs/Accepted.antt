@@ -15,10 +15,10 @@ use Rattle.admission.proofs.Admitted.{Vectors, vectors-known}
 use Rattle.phi_action.specs.Calls.{combination-checks, phi-combination}
 use Rattle.phi_action.specs.declared.TaylorAnswer.{TaylorAnswer}
 use Rattle.phi_action.specs.declared.TaylorAnswer.the-variants as taylor
-use Rattle.phi_krylov.specs.KrylovCall.{krylov-checks, krylov-checks-by, phi-combination-krylov}
+use Rattle.krylov_job.specs.KrylovCall.{krylov-checks, krylov-checks-by, phi-combination-krylov}
 use Rattle.phi_krylov.specs.Combine.{of-taylor, of-krylov, answering, combine}
-use Rattle.phi_krylov.specs.declared.KrylovAnswer.{KrylovAnswer}
-use Rattle.phi_krylov.specs.declared.KrylovAnswer.the-variants as krylov
+use Rattle.krylov_job.specs.declared.KrylovAnswer.{KrylovAnswer}
+use Rattle.krylov_job.specs.declared.KrylovAnswer.the-variants as krylov
 use Rattle.phi_krylov.specs.declared.PhiSolver.{PhiSolver}
 use Rattle.phi_krylov.specs.declared.PhiSolver.the-variants as solver
 use Rattle.stage_checks.specs.Schedule.{time-checks-of}

@@ -22,10 +22,10 @@ use Rattle.phi_action.specs.Calls.{Fields, after-plan, combination-run, phi-com
 use Rattle.phi_action.specs.declared.TaylorAnswer.{TaylorAnswer}
 use Rattle.phi_action.specs.declared.TaylorAnswer.the-variants as taylor
 use Rattle.phi_krylov_arnoldi.specs.Run.{End, finished, refused}
-use Rattle.phi_krylov.specs.KrylovCall.{after-run, combination-run-krylov, phi-combination-krylov}
+use Rattle.krylov_job.specs.KrylovCall.{after-run, combination-run-krylov, phi-combination-krylov}
 use Rattle.phi_krylov.specs.Combine.{of-taylor, of-krylov, answering, combine}
-use Rattle.phi_krylov.specs.declared.KrylovAnswer.{KrylovAnswer}
-use Rattle.phi_krylov.specs.declared.KrylovAnswer.the-variants as krylov
+use Rattle.krylov_job.specs.declared.KrylovAnswer.{KrylovAnswer}
+use Rattle.krylov_job.specs.declared.KrylovAnswer.the-variants as krylov
 use Rattle.phi_krylov.specs.declared.PhiSolver.{PhiSolver}
 use Rattle.phi_krylov.specs.declared.PhiSolver.the-variants as solver
 use Rattle.phi_krylov.specs.declared.PhiAnswer.{PhiAnswer}

@@ -22,9 +22,9 @@ use Rattle.combination.specs.Checks.{count-checks, time-checks, degree-checks, 
 use Rattle.combination.proofs.Ends.{refused-by}
 use Rattle.phi_action.specs.Calls.{combination-checks, phi-combination}
 use Rattle.phi_action.specs.declared.TaylorAnswer.the-variants as taylor
-use Rattle.phi_krylov.specs.KrylovCall.{krylov-checks, krylov-checks-by, phi-combination-krylov}
+use Rattle.krylov_job.specs.KrylovCall.{krylov-checks, krylov-checks-by, phi-combination-krylov}
 use Rattle.phi_krylov.specs.Combine.{of-taylor, of-krylov, answering, combine}
-use Rattle.phi_krylov.specs.declared.KrylovAnswer.the-variants as krylov
+use Rattle.krylov_job.specs.declared.KrylovAnswer.the-variants as krylov
 use Rattle.phi_krylov.specs.declared.PhiSolver.{PhiSolver}
 use Rattle.phi_krylov.specs.declared.PhiSolver.the-variants as solver
 use Rattle.phi_krylov.specs.declared.PhiAnswer.{PhiAnswer}

@@ -18,10 +18,10 @@ use Rattle.csr_shift.specs.Shift.{negated-csr-shift}
 use Rattle.csr_shift.specs.declared.Shift.{Shift}
 use Rattle.csr_shift.specs.declared.Shift.the-variants.{Unshifted, By}
 use Rattle.phi_shift.specs.Plan.{argument, shifted-bound, open-Plan}
-use Rattle.phi_krylov.specs.KrylovCall.{phi-combination-krylov, open-KrylovCall}
-use Rattle.phi_krylov.specs.declared.KrylovPhiOptions.{KrylovPhiOptions}
-use Rattle.phi_krylov.specs.declared.KrylovAnswer.{KrylovAnswer}
-use Rattle.phi_krylov.specs.declared.KrylovAnswer.the-variants.{Refusal, Soaked}
+use Rattle.krylov_job.specs.KrylovCall.{phi-combination-krylov, open-KrylovCall}
+use Rattle.krylov_job.specs.declared.KrylovPhiOptions.{KrylovPhiOptions}
+use Rattle.krylov_job.specs.declared.KrylovAnswer.{KrylovAnswer}
+use Rattle.krylov_job.specs.declared.KrylovAnswer.the-variants.{Refusal, Soaked}
 
 -- a / b as a double
 unfoldable ratio : ℕ → ℕ → Float

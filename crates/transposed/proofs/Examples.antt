@@ -10,7 +10,7 @@ use Rattle.generator_action.specs.Mass.{Mass}
 use Rattle.transpose.specs.Transpose.{Buffers, buffers}
 use Rattle.combination.specs.Call.{ends}
 use Rattle.phi_action.specs.declared.TaylorAnswer.the-variants.{Refusal, Soaked}
-use Rattle.phi_krylov.specs.declared.KrylovAnswer.the-variants.{Refusal as KrylovRefusal, Soaked as KrylovSoaked}
+use Rattle.krylov_job.specs.declared.KrylovAnswer.the-variants.{Refusal as KrylovRefusal, Soaked as KrylovSoaked}
 use Rattle.transposed.specs.Transposed.{lends, phi-combination-transposed, phi-action-transposed, phi-action-batched-transposed, phi-combination-krylov-transposed, open-Transposed}
 
 -- row 0 holds 1 in column 1, with mass 2: the transposed quotients hold 1/2 in row 1, column 0

@@ -8,9 +8,9 @@ use Rattle.transpose.specs.Transpose.{Buffers, lengths, buffers-after, transpos
 use Rattle.combination.specs.Call.{Call}
 use Rattle.phi_action.specs.declared.TaylorAnswer.{TaylorAnswer}
 use Rattle.phi_action.specs.Calls.{phi-combination, phi-action, phi-action-batched, open-Calls}
-use Rattle.phi_krylov.specs.declared.KrylovPhiOptions.{KrylovPhiOptions}
-use Rattle.phi_krylov.specs.declared.KrylovAnswer.{KrylovAnswer}
-use Rattle.phi_krylov.specs.KrylovCall.{phi-combination-krylov, open-KrylovCall}
+use Rattle.krylov_job.specs.declared.KrylovPhiOptions.{KrylovPhiOptions}
+use Rattle.krylov_job.specs.declared.KrylovAnswer.{KrylovAnswer}
+use Rattle.krylov_job.specs.KrylovCall.{phi-combination-krylov, open-KrylovCall}
 
 -- what a call leaves, and what the lent buffers hold at the end
 pub record Lending (A : Type 0) : Type 0 where

@@ -3,8 +3,8 @@ use borrow.Author.Needs.{needs}
 use native.Mathlib.Omega.{arith}
 use mathlib.Core.Path.{ap}
 use mathlib.Core.List.{[]}
-use Rattle.phi_krylov.specs.declared.RunJob.{RunJob}
-use Rattle.phi_krylov.proofs.Calls.{known}
+use Rattle.krylov_job.specs.declared.RunJob.{RunJob}
+use Rattle.krylov_job.proofs.Calls.{known}
 use Rattle.checks.proofs.First.{passed-up, ends-sound}
 use Rattle.paused_run.proofs.Starts.{refused-job, refused-field, begins, out-long, started-is}
 use Rattle.paused_run.proofs.started.Statement.{statement}

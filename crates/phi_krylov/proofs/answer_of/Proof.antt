@@ -1,7 +1,7 @@
 -- `phi_krylov::answer_of` meets its contract. Assumes nothing.
 use borrow.Author.Needs.{needs}
 use mathlib.Core.Path.{refl}
-use Rattle.phi_krylov.specs.Inner.{answer-of}
+use Rattle.krylov_job.specs.Inner.{answer-of}
 use Rattle.phi_krylov.proofs.answer_of.Statement.{statement}
 use Rattle.phi_krylov.proofs.answer_of.Tie as tie
 

@@ -6,7 +6,7 @@ use lib.ListN.{length}
 use Rattle.lists.proofs.Window.{length-splice}
 use Rattle.checks.proofs.First.{passed-up, ends-sound}
 use Rattle.combination.proofs.Further.{part-further}
-use Rattle.phi_krylov.proofs.Calls.{refused-run, start-fits, runs-job, combined-is}
+use Rattle.krylov_job.proofs.Calls.{refused-run, start-fits, runs-job, combined-is}
 use Rattle.phi_krylov.proofs.combined.Statement.{statement}
 use Rattle.phi_krylov.proofs.combined.Tie as tie
 

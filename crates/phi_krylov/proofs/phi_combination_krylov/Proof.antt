@@ -4,7 +4,7 @@ use mathlib.Core.Path.{refl}
 use Rattle.general_operator.specs.Csr.{csr}
 use Rattle.generator_action.specs.Mass.{given}
 use Rattle.generator_action.proofs.Answered.{passed-up, refusal-told, norm-told, passed}
-use Rattle.phi_krylov.proofs.Calls.{refused-generator}
+use Rattle.krylov_job.proofs.Calls.{refused-generator}
 use Rattle.phi_krylov.proofs.phi_combination_krylov.Statement.{statement}
 use Rattle.phi_krylov.proofs.phi_combination_krylov.Tie as tie
 

@@ -1,6 +1,6 @@
 -- `phi_krylov::run_expv` meets its contract. Assumes nothing.
 use borrow.Author.Needs.{needs}
-use Rattle.phi_krylov.proofs.Runs.{store-fits, room, run-is, spared}
+use Rattle.krylov_job.proofs.Runs.{store-fits, room, run-is, spared}
 use Rattle.phi_krylov.proofs.run_expv.Statement.{statement}
 use Rattle.phi_krylov.proofs.run_expv.Tie as tie
 

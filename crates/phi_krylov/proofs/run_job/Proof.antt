@@ -1,8 +1,8 @@
 -- `phi_krylov::run_job` meets its contract. Assumes nothing.
 use borrow.Author.Needs.{needs}
 use native.Mathlib.Omega.{arith}
-use Rattle.phi_krylov.proofs.Calls.{field-needed}
-use Rattle.phi_krylov.proofs.Runs.{done}
+use Rattle.krylov_job.proofs.Calls.{field-needed}
+use Rattle.krylov_job.proofs.Runs.{done}
 use Rattle.phi_krylov.proofs.run_job.Statement.{statement}
 use Rattle.phi_krylov.proofs.run_job.Tie as tie
 

@@ -9,7 +9,7 @@ use Rattle.lists.proofs.Window.{length-splice}
 use Rattle.checks.specs.First.{first}
 use Rattle.checks.proofs.First.{passed-up}
 use Rattle.combination.specs.Checks.{finite-checks}
-use Rattle.phi_krylov.specs.KrylovCall.{dimension, option-checks}
+use Rattle.krylov_job.specs.KrylovCall.{dimension, option-checks}
 use Rattle.stage_checks.specs.Inner.{field-of}
 use Rattle.stages.proofs.OneStage.{dimension-small, krylov-fits, krylov-runs, krylov-refused, krylov-not-admitted, krylov-is}
 use Rattle.stages.proofs.krylov_stage.Statement.{statement}

@@ -3,8 +3,8 @@ use borrow.Author.Needs.{needs}
 use mathlib.Core.Path.{sym}
 use native.Mathlib.Omega.{arith}
 use lib.Seq.{length-take-le}
-use Rattle.phi_krylov.specs.KrylovCall.{phi-combination-krylov}
-use Rattle.phi_krylov.proofs.Calls.{refused-generator}
+use Rattle.krylov_job.specs.KrylovCall.{phi-combination-krylov}
+use Rattle.krylov_job.proofs.Calls.{refused-generator}
 use Rattle.general_operator.specs.Csr.{Csr, csr}
 use Rattle.generator_action.specs.Mass.{Mass, given}
 use Rattle.generator_action.specs.Generator.{Generator}
