@@ -198,7 +198,7 @@ fn field_end(numbers: &[f64], counts: &[usize], field: usize) -> usize
     0
 }
 
-// `paused_run::start`, told by `tell_start`.
+// `paused_start::start`, told by `tell_start`.
 #[no_mangle]
 pub extern "C" fn hazhendu_krylov_start(
     n: usize,
@@ -224,7 +224,7 @@ pub extern "C" fn hazhendu_krylov_start(
 {
     let o = answers::options(tol, m, max_substeps);
     let to = field_end(numbers, counts, field.len());
-    let answer = paused_run::start(
+    let answer = paused_start::start(
         n,
         starts,
         cols,
@@ -251,7 +251,7 @@ fn tolerance(with_tol: bool, tol: f64) -> Tolerance
     Tolerance::Same
 }
 
-// `paused_run::step`, told by `tell_step`.
+// `paused_step::step`, told by `tell_step`.
 #[no_mangle]
 pub extern "C" fn hazhendu_krylov_step(
     n: usize,
@@ -276,7 +276,7 @@ pub extern "C" fn hazhendu_krylov_step(
 {
     let run = read_run(numbers, counts);
     let t = tolerance(with_tol, tol);
-    let answer = paused_run::step(
+    let answer = paused_step::step(
         run,
         t,
         n,

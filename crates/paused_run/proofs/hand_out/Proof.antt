@@ -1,6 +1,6 @@
 -- `paused_run::hand_out` meets its contract. Assumes nothing.
 use borrow.Author.Needs.{needs}
-use Rattle.paused_run.proofs.Starts.{handed}
+use Rattle.paused_run.proofs.Handed.{handed}
 use Rattle.paused_run.proofs.hand_out.Statement.{statement}
 use Rattle.paused_run.proofs.hand_out.Tie as tie
 

@@ -1,5 +1,4 @@
 -- `paused_run::over` meets its contract. Assumes nothing.
-use borrow.Author.Needs.{needs}
 use borrow.Author.Tests.{lt-ltb, le-ltb, le-leb, lt-leb}
 use Rattle.paused_run.specs.Paused.{over}
 use Rattle.paused_run.proofs.over.Statement.{statement}

@@ -1,4 +1,4 @@
--- `paused_run::first_run` meets its contract. Assumes nothing.
+-- `paused_start::first_run` meets its contract. Assumes nothing.
 use borrow.Author.Needs.{needs}
 use mathlib.Core.Path.{ap, _∙_}
 use lib.ListN.{length}
@@ -6,9 +6,9 @@ use lib.Ieee.{Float}
 use mathlib.Core.List.{List}
 use Rattle.lists.specs.Window.{window}
 use Rattle.vectors.specs.Vectors.{scale}
-use Rattle.paused_run.proofs.Starts.{first-is}
-use Rattle.paused_run.proofs.first_run.Statement.{statement}
-use Rattle.paused_run.proofs.first_run.Tie as tie
+use Rattle.paused_start.proofs.Starts.{first-is}
+use Rattle.paused_start.proofs.first_run.Statement.{statement}
+use Rattle.paused_start.proofs.first_run.Tie as tie
 
 returns : tie.Need-returns
 returns c =

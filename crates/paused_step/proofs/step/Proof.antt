@@ -1,12 +1,12 @@
--- `paused_run::step` meets its contract. Assumes nothing.
+-- `paused_step::step` meets its contract. Assumes nothing.
 use borrow.Author.Needs.{needs}
 use mathlib.Core.Path.{refl, sym, _∙_}
 use Rattle.general_operator.specs.Csr.{csr}
 use Rattle.generator_action.specs.Mass.{given}
 use Rattle.generator_action.proofs.Answered.{passed-up, refusal-told, norm-told, passed}
-use Rattle.paused_run.proofs.Steps.{refused-over, refused-generator}
-use Rattle.paused_run.proofs.step.Statement.{statement}
-use Rattle.paused_run.proofs.step.Tie as tie
+use Rattle.paused_step.proofs.Steps.{refused-over, refused-generator}
+use Rattle.paused_step.proofs.step.Statement.{statement}
+use Rattle.paused_step.proofs.step.Tie as tie
 
 returns : tie.Need-returns
 returns c =

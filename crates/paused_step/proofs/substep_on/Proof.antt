@@ -1,9 +1,9 @@
--- `paused_run::substep_on` meets its contract. Assumes nothing.
+-- `paused_step::substep_on` meets its contract. Assumes nothing.
 use borrow.Author.Needs.{needs}
 use native.Mathlib.Omega.{arith}
-use Rattle.paused_run.proofs.Steps.{field-fits, fits, room₂, long₃, cleared₃, substep-is}
-use Rattle.paused_run.proofs.substep_on.Statement.{statement}
-use Rattle.paused_run.proofs.substep_on.Tie as tie
+use Rattle.paused_step.proofs.Steps.{field-fits, fits, room₂, long₃, cleared₃, substep-is}
+use Rattle.paused_step.proofs.substep_on.Statement.{statement}
+use Rattle.paused_step.proofs.substep_on.Tie as tie
 
 copy-from-requires : tie.Need-copy-from-requires
 copy-from-requires c κs =

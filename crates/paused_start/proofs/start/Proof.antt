@@ -1,12 +1,12 @@
--- `paused_run::start` meets its contract. Assumes nothing.
+-- `paused_start::start` meets its contract. Assumes nothing.
 use borrow.Author.Needs.{needs}
 use mathlib.Core.Path.{refl}
 use Rattle.general_operator.specs.Csr.{csr}
 use Rattle.generator_action.specs.Mass.{given}
 use Rattle.generator_action.proofs.Answered.{passed-up, refusal-told, norm-told, passed}
-use Rattle.paused_run.proofs.Starts.{refused-generator}
-use Rattle.paused_run.proofs.start.Statement.{statement}
-use Rattle.paused_run.proofs.start.Tie as tie
+use Rattle.paused_start.proofs.Starts.{refused-generator}
+use Rattle.paused_start.proofs.start.Statement.{statement}
+use Rattle.paused_start.proofs.start.Tie as tie
 
 returns : tie.Need-returns
 returns c =

@@ -1,10 +1,10 @@
 -- A step over a job that passed its checks, and by all of them. Assumes nothing.
 use mathlib.Core.Path.{_≡_, refl, sym, ap, _∙_}
-use mathlib.Core.Bool.{true, false, not, _||_}
-use mathlib.Core.List.{List, [], _∷_, _++_}
+use mathlib.Core.Bool.{true, false}
+use mathlib.Core.List.{List, [], _++_}
 use Prim.Native.Nat.{ℕ, _+_, _-_, _*_, _≤_}
 use native.Mathlib.Omega.{arith}
-use lib.Dec.{eqb, ltb, leb}
+use lib.Dec.{ltb, leb}
 use lib.ListN.{length, replicate}
 use lib.Ieee.{Float, nan}
 use borrow.Author.Tests.{ltb-false, leb-false}
@@ -12,11 +12,10 @@ use Rattle.lists.specs.Window.{window, splice}
 use Rattle.lists.specs.Walk.{Turn, on, out}
 use Rattle.lists.specs.Frame.{Kept}
 use Rattle.lists.proofs.Window.{length-window, length-splice, splice-whole, window-splice-same, window-whole}
-use Rattle.doubles.specs.F64.{_⊗_, +0}
+use Rattle.doubles.specs.F64.{+0}
 use Rattle.vectors.specs.Vectors.{scale}
 use Rattle.checks.specs.First.{Check, first}
 use Rattle.checks.proofs.First.{refused-up, sound-on, stops, passes, ends-sound, not-eq, not-ne}
-use Rattle.checks.specs.declared.Checked.{Checked}
 use Rattle.checks.specs.declared.Checked.the-variants.{Sound, Refused}
 use Rattle.general_operator.specs.Csr.{csr}
 use Rattle.general_operator.proofs.Sound.{or-false}
@@ -35,25 +34,25 @@ use Rattle.admission.proofs.Stored.{quotients-rows, clear-over}
 use Rattle.arnoldi.specs.Basis.{norm2}
 use Rattle.arnoldi.specs.Memory.{setting-at, Room}
 use Rattle.arnoldi.specs.declared.Krylov.{Krylov}
-use Rattle.phi_krylov_arnoldi.specs.Run.{State, End, finished, refused, substep}
+use Rattle.phi_krylov_arnoldi.specs.Run.{State, End, refused, substep}
 use Rattle.phi_krylov_arnoldi.specs.Memory.{state-at, progress-at}
 use Rattle.phi_krylov_arnoldi.specs.declared.Progress.{Progress}
 use Rattle.phi_krylov_arnoldi.specs.declared.Progress.the-variants as progress
 use Rattle.phi_krylov_arnoldi.proofs.Whole.{absolute, room-absolute}
-use Rattle.krylov_job.specs.KrylovCall.{dimension, krylov-checks-by}
+use Rattle.krylov_job.specs.KrylovCall.{krylov-checks-by}
 use Rattle.krylov_job.specs.Memory.{layout}
-use Rattle.krylov_job.specs.Inner.{scaling-by, scaling-of, run-job-by, Admitted, Allowed}
+use Rattle.krylov_job.specs.Inner.{scaling-by, scaling-of, Admitted, Allowed}
 use Rattle.krylov_job.proofs.Calls.{Known, known, allowed, all-checks, field-needed}
 use Rattle.krylov_job.proofs.Runs.{store-fits, room, operator-is, field-is, spared}
 use Rattle.krylov_job.specs.declared.KrylovPhiOptions.{KrylovPhiOptions}
 use Rattle.krylov_job.specs.declared.RunJob.{RunJob}
 use Rattle.krylov_job.specs.declared.Eta.the-variants.{Began}
-use Rattle.paused_run.specs.Paused.{Job, Input, PausedCall, leaves, rows, degree, field-checks, setting-of, need-of, tol-in, options-in, over, other-checks, step-checks, resumed, verdict, field-after, substep-of, after-substep, step-unless, step}
+use Rattle.paused_run.specs.Paused.{Job, Input, PausedCall, leaves, rows, field-checks, setting-of, tol-in, options-in, over, other-checks, step-checks, resumed, verdict, field-after, substep-of, after-substep, step-unless, step}
 use Rattle.paused_run.specs.Inner.{job-over, other-checks-by, setting-for, turned, after-of}
 use Rattle.paused_run.specs.declared.PausedRun.{PausedRun}
 use Rattle.paused_run.specs.declared.Tolerance.{Tolerance}
 use Rattle.paused_run.specs.declared.StepAnswer.{StepAnswer}
 use Rattle.paused_run.specs.declared.StepAnswer.the-variants.{Refusal}
 
 -- ---- one substep on the lent field
 seen : (l : Layout) (k : Krylov) (o : Progress) (w : List Float) → progress-at l k o w ≡ turned o (window (k .y) (l .n + l .d) w)

@@ -1,4 +1,4 @@
--- `paused_run::begin` meets its contract. Assumes nothing.
+-- `paused_start::begin` meets its contract. Assumes nothing.
 use borrow.Author.Needs.{needs}
 use native.Mathlib.Omega.{arith}
 use mathlib.Core.Path.{sym, ap, _∙_}
@@ -6,9 +6,9 @@ use lib.ListN.{length}
 use Rattle.vectors.proofs.Laws.{length-scale}
 use Rattle.combination.specs.Combination.{combination-start}
 use Rattle.admission.proofs.Admitted.{length-start}
-use Rattle.paused_run.proofs.Starts.{long, begun-idle, begun-first}
-use Rattle.paused_run.proofs.begin.Statement.{statement}
-use Rattle.paused_run.proofs.begin.Tie as tie
+use Rattle.paused_start.proofs.Starts.{long, begun-idle, begun-first}
+use Rattle.paused_start.proofs.begin.Statement.{statement}
+use Rattle.paused_start.proofs.begin.Tie as tie
 
 same-length-3 : tie.Need-same-length-3
 same-length-3 c =

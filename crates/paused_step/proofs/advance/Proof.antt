@@ -1,8 +1,8 @@
--- `paused_run::advance` meets its contract. Assumes nothing.
+-- `paused_step::advance` meets its contract. Assumes nothing.
 use borrow.Author.Needs.{needs}
-use Rattle.paused_run.proofs.Steps.{advanced}
-use Rattle.paused_run.proofs.advance.Statement.{statement}
-use Rattle.paused_run.proofs.advance.Tie as tie
+use Rattle.paused_step.proofs.Steps.{advanced}
+use Rattle.paused_step.proofs.advance.Statement.{statement}
+use Rattle.paused_step.proofs.advance.Tie as tie
 
 returns : tie.Need-returns
 returns c =

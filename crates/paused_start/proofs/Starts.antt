@@ -1,11 +1,10 @@
 -- A start over a job that passed its checks, and by all of them. Assumes nothing.
 use mathlib.Core.Path.{_≡_, refl, sym, ap, _∙_}
-use mathlib.Core.Bool.{true, false, not}
-use mathlib.Core.List.{List, [], _∷_, _++_, map}
-use Prim.Native.Nat.{ℕ, zero, suc, _+_, _-_, _*_, _≤_}
+use mathlib.Core.Bool.{true, false}
+use mathlib.Core.List.{List, [], _++_}
+use Prim.Native.Nat.{ℕ, _+_, _-_, _*_, _≤_}
 use native.Mathlib.Omega.{arith}
-use lib.Dec.{eqb}
-use lib.ListN.{length, take, replicate}
+use lib.ListN.{length, replicate}
 use lib.Ieee.{Float, nan}
 use Rattle.lists.specs.Window.{window, splice}
 use Rattle.lists.proofs.Window.{length-window, splice-whole}
@@ -18,17 +17,14 @@ use Rattle.pow2.specs.declared.Prescale.{Prescale}
 use Rattle.pow2.specs.declared.Prescale.the-variants.{By, None}
 use Rattle.checks.specs.First.{Check, first}
 use Rattle.checks.proofs.First.{refused-up, sound-on, stops, passes, ends-sound, not-eq, not-ne}
-use Rattle.checks.specs.declared.Checked.{Checked}
 use Rattle.checks.specs.declared.Checked.the-variants.{Sound, Refused}
 use Rattle.general_operator.specs.Csr.{csr}
 use Rattle.generator_action.specs.Mass.{given}
-use Rattle.generator_action.specs.Generator.{Generator}
 use Rattle.generator_action.specs.Known.{Passed}
 use Rattle.generator_action.specs.declared.Shape.{Shape}
 use Rattle.combination.specs.Combination.{further, eta-of, combination-start}
 use Rattle.combination.specs.Call.{cleared}
 use Rattle.combination.specs.Checks.{length-checks}
-use Rattle.admission.specs.Inner.{after-checks}
 use Rattle.admission.proofs.Admitted.{first-within}
 use Rattle.admission.proofs.Stored.{quotients-rows}
 use Rattle.arnoldi.specs.Basis.{norm2}
@@ -39,27 +35,11 @@ use Rattle.krylov_job.proofs.Calls.{Known, known, job-told}
 use Rattle.krylov_job.specs.declared.KrylovPhiOptions.{KrylovPhiOptions}
 use Rattle.krylov_job.specs.declared.RunJob.{RunJob}
 use Rattle.krylov_job.specs.declared.Eta.the-variants.{Own}
-use Rattle.paused_run.specs.Paused.{Job, PausedCall, leaves, rows, degree, field-checks, start-checks, first-field, need-of, begun, start-unless, start}
+use Rattle.paused_run.specs.Paused.{Job, PausedCall, leaves, rows, field-checks, start-checks, first-field, need-of, begun, start-unless, start}
 use Rattle.paused_run.specs.Inner.{job-over, fresh-of, first-of, begun-of}
 use Rattle.paused_run.specs.declared.PausedRun.{PausedRun}
 use Rattle.paused_run.specs.declared.StartAnswer.{StartAnswer}
 use Rattle.paused_run.specs.declared.StartAnswer.the-variants.{Refusal, Started}
-
--- ---- what is handed out
--- the front of a list is scaled as the list is
-front-scaled : (s : Float) (n : ℕ) (y : List Float) → scale s (window 0 n y) ≡ window 0 n (scale s y)
-unfolding scale window
-front-scaled s n y = go n y
-  where
-    go : (n : ℕ) (y : List Float) → map (λ (e : Float). e ⊗ s) (take n y) ≡ take n (map (λ (e : Float). e ⊗ s) y)
-    go zero y = refl
-    go (suc n) [] = refl
-    go (suc n) (x ∷ y) = ap (λ (l : List Float). (x ⊗ s) ∷ l) (go n y)
-
-pub handed : (up : Float) (out field : List Float) {out₁ out₂ : List Float} → length out ≤ length field → out₁ ≡ splice 0 (window 0 (length out) field) out → out₂ ≡ scale up out₁
-    → out₂ ≡ window 0 (length out) (scale up field)
-handed up out field l e₁ e₂ =
-    e₂ ∙ ap (scale up) (e₁ ∙ splice-whole _ out (length-window 0 (length out) field (omega arith))) ∙ front-scaled up (length out) field
 
 -- ---- the run at time 0
 module _ (o : KrylovPhiOptions) (j : RunJob) where

@@ -1,4 +1,4 @@
--- `paused_run::started` meets its contract. Assumes nothing.
+-- `paused_start::started` meets its contract. Assumes nothing.
 use borrow.Author.Needs.{needs}
 use native.Mathlib.Omega.{arith}
 use mathlib.Core.Path.{ap}
@@ -6,9 +6,9 @@ use mathlib.Core.List.{[]}
 use Rattle.krylov_job.specs.declared.RunJob.{RunJob}
 use Rattle.krylov_job.proofs.Calls.{known}
 use Rattle.checks.proofs.First.{passed-up, ends-sound}
-use Rattle.paused_run.proofs.Starts.{refused-job, refused-field, begins, out-long, started-is}
-use Rattle.paused_run.proofs.started.Statement.{statement}
-use Rattle.paused_run.proofs.started.Tie as tie
+use Rattle.paused_start.proofs.Starts.{refused-job, refused-field, begins, out-long, started-is}
+use Rattle.paused_start.proofs.started.Statement.{statement}
+use Rattle.paused_start.proofs.started.Tie as tie
 
 returns : tie.Need-returns
 returns c gs starts cols vals mass sound ok =

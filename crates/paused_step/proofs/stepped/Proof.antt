@@ -1,13 +1,12 @@
--- `paused_run::stepped` meets its contract. Assumes nothing.
+-- `paused_step::stepped` meets its contract. Assumes nothing.
 use borrow.Author.Needs.{needs}
 use native.Mathlib.Omega.{arith}
-use mathlib.Core.Path.{_∙_}
 use mathlib.Core.List.{[]}
 use Rattle.checks.proofs.First.{passed-up, ends-sound}
 use Rattle.combination.proofs.Further.{part-further}
-use Rattle.paused_run.proofs.Steps.{refused-job, within, refused-field, own-options, advances, stepped-is}
-use Rattle.paused_run.proofs.stepped.Statement.{statement}
-use Rattle.paused_run.proofs.stepped.Tie as tie
+use Rattle.paused_step.proofs.Steps.{refused-job, within, refused-field, own-options, advances, stepped-is}
+use Rattle.paused_step.proofs.stepped.Statement.{statement}
+use Rattle.paused_step.proofs.stepped.Tie as tie
 
 returns : tie.Need-returns
 returns c gs sound =
