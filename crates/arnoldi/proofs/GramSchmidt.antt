@@ -12,7 +12,8 @@ use Rattle.lists.specs.Window.{window, splice}
 use Rattle.lists.proofs.Loop.{iter-none, iter-next}
 use Rattle.lists.proofs.Bounds.{column-within, cell-within}
 use Rattle.lists.proofs.Window.{length-window, length-splice, window-splice-after, window-splice-same, splice-splice, splice-window, set-splice-after, set-splice-in}
-use Rattle.vectors.specs.Vectors.{dot, axpy}
+use Rattle.vectors.specs.Vectors.{axpy}
+use Rattle.dot.specs.Dot.{dot}
 use Rattle.vectors.proofs.Laws.{length-axpy}
 use Rattle.arnoldi.specs.Basis.{Rest, lessen, orthogonal}
 use Rattle.arnoldi.specs.Memory.{column, rest-at}

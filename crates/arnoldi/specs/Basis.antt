@@ -9,7 +9,8 @@ use Rattle.lists.specs.Loop.{iter}
 use Rattle.lists.specs.Walk.{Turn, on, out, walk}
 use Rattle.doubles.specs.F64.{_⊗_, _⊘_, _⩽_, bits, +0, 1f, maxNum}
 use Rattle.sqrt.specs.Sqrt.{sqrt, open-Sqrt}
-use Rattle.vectors.specs.Vectors.{dot, axpy, scale, open-Vectors}
+use Rattle.vectors.specs.Vectors.{axpy, scale, open-Vectors}
+use Rattle.dot.specs.Dot.{dot, open-Dot}
 use Rattle.phi_action_helpers.specs.Augmented.{Augmented, aug-matvec, open-Augmented}
 
 -- `norm2`
@@ -104,5 +105,5 @@ arnoldi p y beta = close p (walk (arnoldi-step p beta) (p .m) 0 (on (first-colum
 
 -- to compute: a line `unfolding open-Basis` opens every definition of this file and of those below it
 unfoldable pub open-Basis : Unit {0}
-unfolding norm2 apply lessen orthogonal rest broken extend arnoldi-step close first-column arnoldi walk open-Sqrt open-Vectors open-Augmented
+unfolding norm2 apply lessen orthogonal rest broken extend arnoldi-step close first-column arnoldi walk open-Sqrt open-Vectors open-Dot open-Augmented
 open-Basis = tt

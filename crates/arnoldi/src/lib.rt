@@ -46,7 +46,7 @@ pub enum BasisAnswer {
 pub fn norm2(x: &[f64]) -> f64
     ensures { λ r. ⌜ r ≡ norm2 (now (x .entry)) ⌝ }
 {
-    sqrt::sqrt(vectors::dot(x, x))
+    sqrt::sqrt(dot::dot(x, x))
 }
 
 // The product of column j: `Augmented::apply` of the Rust.
@@ -87,12 +87,12 @@ fn orthogonal(work: &mut [f64], z_at: usize, h_at: usize, dim: usize, len: usize
 {
     let z_end = z_at + len;
     let s = &work[..];
-    let mut c = vectors::dot(&s[z_at..z_end], &s[0..len]);
+    let mut c = dot::dot(&s[z_at..z_end], &s[0..len]);
     for i in 0..j {
         let at = i * len;
         let e = i * dim + j;
         work[h_at + e] = c;
-        c = vectors::axpy_dot_in(work, z_at, at, at + len, len, -c);
+        c = dot::axpy_dot_in(work, z_at, at, at + len, len, -c);
     }
     let e = j * dim + j;
     work[h_at + e] = c;

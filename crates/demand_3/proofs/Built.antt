@@ -12,7 +12,8 @@ use Rattle.lists.specs.Loop.{iter}
 use Rattle.lists.specs.Walk.{Turn, on, out, walk}
 use Rattle.lists.proofs.Walk.{Kept, walk-keeps}
 use Rattle.doubles.specs.F64.{_⊘_, 1f}
-use Rattle.vectors.specs.Vectors.{dot, axpy, scale}
+use Rattle.vectors.specs.Vectors.{axpy, scale}
+use Rattle.dot.specs.Dot.{dot}
 use Rattle.arnoldi.specs.Basis.{Setting, dim, Columns, Rest, Breakdown, Basis, breakdown, full, norm2, apply, lessen, orthogonal, rest, extend, arnoldi-step, close, first-column, arnoldi}
 use Rattle.arnoldi.proofs.GramSchmidt.{orthogonal-ext}
 use Rattle.phi_krylov_arnoldi.specs.Run.{columns-of}

@@ -14,7 +14,8 @@ use Rattle.checks.specs.First.{Check, first}
 use Rattle.checks.specs.declared.Checked.the-variants.{Sound}
 use Rattle.combination.specs.Call.{Call}
 use Rattle.sqrt.specs.Sqrt.{sqrt}
-use Rattle.vectors.specs.Vectors.{dot, scale}
+use Rattle.vectors.specs.Vectors.{scale}
+use Rattle.dot.specs.Dot.{dot}
 use Rattle.arnoldi.specs.Basis.{Setting, dim, Basis, breakdown, full, apply, orthogonal}
 use Rattle.phi_krylov_arnoldi.specs.Run.{columns-of}
 use Rattle.phi_krylov_arnoldi.specs.declared.KrylovPhiReport.{KrylovPhiReport}

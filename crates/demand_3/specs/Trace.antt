@@ -7,7 +7,8 @@ use lib.Ieee.{Float}
 use Rattle.lists.specs.Walk.{Turn, on, out}
 use Rattle.doubles.specs.F64.{_⊕_, _⊖_, _⊗_, _⊘_, +0, 1f, minNum, maxNum}
 use Rattle.sqrt.specs.Sqrt.{sqrt}
-use Rattle.vectors.specs.Vectors.{dot, scale}
+use Rattle.vectors.specs.Vectors.{scale}
+use Rattle.dot.specs.Dot.{dot}
 use Rattle.pow2.specs.Pow2.{pow2-scale}
 use Rattle.pow2.specs.declared.Prescale.{Prescale}
 use Rattle.pow2.specs.declared.Prescale.the-variants.{By, None}

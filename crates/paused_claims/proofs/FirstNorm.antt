@@ -36,7 +36,8 @@ use Rattle.pow2.specs.declared.Scale.{Scale}
 use Rattle.pow2.specs.declared.Prescale.the-variants.{By, None}
 use Rattle.pow2.proofs.Leading.{exponent-mag}
 use Rattle.pow2.proofs.Rounded.{pow2-product, pow2-exact}
-use Rattle.vectors.specs.Vectors.{lane, lanes, tail, dot, scale}
+use Rattle.vectors.specs.Vectors.{scale}
+use Rattle.dot.specs.Dot.{lane, lanes, tail, dot}
 use Rattle.vectors.proofs.Laws.{length-scale}
 use Rattle.arnoldi.specs.Basis.{norm2}
 use Rattle.demand_3.proofs.Krylov.{Finite}

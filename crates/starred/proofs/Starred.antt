@@ -10,7 +10,7 @@ use Rattle.doubles.specs.F64.{_⊗_, nat, 1f, 2f, +0}
 use Rattle.pow2.specs.Pow2.{eta-scaling, open-Pow2}
 use Rattle.power.specs.Power.{root, open-Power}
 use Rattle.round2.specs.Rounded.{round2, open-Rounded}
-use Rattle.vectors.specs.Vectors.{dot, open-Vectors}
+use Rattle.dot.specs.Dot.{dot, open-Dot}
 use Rattle.general_operator.specs.Csr.{Csr, csr, row-sum-norm, apply-generator}
 use Rattle.generator_action.specs.Mass.{Mass, quotients, open-Mass}
 use Rattle.generator_action.specs.Generator.{forward}
@@ -115,5 +115,5 @@ table =
     ∷ []
 
 starred : map (λ (c : Case). answer (c .job)) table ≡ map (λ (c : Case). c .is) table
-unfolding table answer ratio open-Pow2 open-Power open-Rounded open-Vectors open-Mass open-Plan open-KrylovCall
+unfolding table answer ratio open-Pow2 open-Power open-Rounded open-Dot open-Mass open-Plan open-KrylovCall
 starred = refl

@@ -1,4 +1,3 @@
 -- Laws of the definitions, and worked examples.
 pub mod Laws
 pub mod Examples
-pub mod Blocks

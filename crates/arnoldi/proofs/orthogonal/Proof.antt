@@ -9,7 +9,7 @@ use lib.Ieee.{Float}
 use Rattle.lists.specs.Window.{window}
 use Rattle.lists.proofs.Bounds.{column-within, cell-within}
 use Rattle.lists.proofs.Window.{part-window}
-use Rattle.vectors.specs.Vectors.{dot}
+use Rattle.dot.specs.Dot.{dot}
 use Rattle.arnoldi.specs.Basis.{orthogonal}
 use Rattle.arnoldi.specs.Memory.{column, behind, rest-at}
 use Rattle.arnoldi.proofs.GramSchmidt.{began, turn, next-size}

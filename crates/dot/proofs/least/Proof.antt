@@ -1,7 +1,7 @@
--- `vectors::least` meets its contract. Assumes nothing.
+-- `dot::least` meets its contract. Assumes nothing.
 use native.Mathlib.Omega.{arith}
-use Rattle.vectors.proofs.least.Statement.{statement}
-use Rattle.vectors.proofs.least.Tie as tie
+use Rattle.dot.proofs.least.Statement.{statement}
+use Rattle.dot.proofs.least.Tie as tie
 
 returns : tie.Need-returns
 returns c = (omega arith, omega arith)

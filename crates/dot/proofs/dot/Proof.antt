@@ -1,11 +1,11 @@
--- `vectors::dot` meets its contract. Assumes nothing.
+-- `dot::dot` meets its contract. Assumes nothing.
 use borrow.Author.Needs.{needs}
 use native.Mathlib.Omega.{arith}
 use mathlib.Core.Path.{_∙_}
 use native.Mathlib.Nat.{zero-add}
-use Rattle.vectors.proofs.Blocks.{lanes-none}
-use Rattle.vectors.proofs.dot.Statement.{statement}
-use Rattle.vectors.proofs.dot.Tie as tie
+use Rattle.dot.proofs.Blocks.{lanes-none}
+use Rattle.dot.proofs.dot.Statement.{statement}
+use Rattle.dot.proofs.dot.Tie as tie
 
 add-blocks-requires : tie.Need-add-blocks-requires
 add-blocks-requires = λ c κs. ((omega arith, omega arith), c .no-lanes .ensures ∙ lanes-none _ _)

@@ -1,11 +1,11 @@
--- `vectors::tail` meets its contract. Assumes nothing.
+-- `dot::tail` meets its contract. Assumes nothing.
 use native.Mathlib.Omega.{arith}
 use mathlib.Core.Path.{_≡_, sym}
 use Prim.Native.Nat.{_-_, _≤_}
 use Rattle.doubles.proofs.Sum.{sum-none, sum-turn}
-use Rattle.vectors.specs.Vectors.{tail}
-use Rattle.vectors.proofs.tail.Statement.{statement}
-use Rattle.vectors.proofs.tail.Tie as tie
+use Rattle.dot.specs.Dot.{tail}
+use Rattle.dot.proofs.tail.Statement.{statement}
+use Rattle.dot.proofs.tail.Tie as tie
 
 abbrev Inv-loop : tie.InvT-loop
 Inv-loop x y b n s₀ j₀ s j = (j ≤ n) × (s ≡ tail b x y j)

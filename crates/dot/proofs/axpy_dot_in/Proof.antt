@@ -1,4 +1,4 @@
--- `vectors::axpy_dot_in` meets its contract. Assumes nothing.
+-- `dot::axpy_dot_in` meets its contract. Assumes nothing.
 use borrow.Author.Needs.{needs}
 use native.Mathlib.Omega.{arith}
 use mathlib.Core.Path.{_≡_, sym, ap, _∙_}
@@ -8,10 +8,10 @@ use Rattle.lists.proofs.Bounds.{within-apart}
 use Rattle.lists.proofs.Window.{part-window, length-window}
 use Rattle.lists.specs.Window.{window}
 use Rattle.lists.proofs.Loop.{Filled, started}
-use Rattle.vectors.specs.Vectors.{lanes}
-use Rattle.vectors.proofs.Blocks.{sum-at, lanes-none, block, carried, ended, inner}
-use Rattle.vectors.proofs.axpy_dot_in.Statement.{statement}
-use Rattle.vectors.proofs.axpy_dot_in.Tie as tie
+use Rattle.dot.specs.Dot.{lanes}
+use Rattle.dot.proofs.Blocks.{sum-at, lanes-none, block, carried, ended, inner}
+use Rattle.dot.proofs.axpy_dot_in.Statement.{statement}
+use Rattle.dot.proofs.axpy_dot_in.Tie as tie
 
 abbrev Inv-loop : tie.InvT-loop
 Inv-loop work₀ y-at x-at v-at len a y-end v-end m acc₀ b₀ work acc b = (b ≤ m) × Filled y-at (4 * b) (sum-at work₀ y-at x-at v-at len a) work₀ work × (acc ≡ lanes (window y-at len work) (window v-at len work) b)

@@ -1,8 +1,8 @@
--- `vectors::joined` meets its contract. Assumes nothing.
+-- `dot::joined` meets its contract. Assumes nothing.
 use native.Mathlib.Omega.{arith}
-use Rattle.vectors.specs.Vectors.{dot}
-use Rattle.vectors.proofs.joined.Statement.{statement}
-use Rattle.vectors.proofs.joined.Tie as tie
+use Rattle.dot.specs.Dot.{dot}
+use Rattle.dot.proofs.joined.Statement.{statement}
+use Rattle.dot.proofs.joined.Tie as tie
 
 mul-tail : tie.Need-mul-tail
 unfolding dot

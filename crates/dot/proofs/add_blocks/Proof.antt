@@ -1,4 +1,4 @@
--- `vectors::add_blocks` meets its contract. Assumes nothing.
+-- `dot::add_blocks` meets its contract. Assumes nothing.
 use native.Mathlib.Omega.{arith}
 use native.Mathlib.Nat.{add-zero}
 use mathlib.Core.Path.{_≡_, ap, _∙_}
@@ -9,9 +9,9 @@ use lib.Ieee.{Float}
 use Rattle.doubles.specs.F64.{_⊕_, _⊗_, at}
 use Rattle.doubles.specs.Sum.{sum}
 use Rattle.doubles.proofs.Sum.{sum-turn}
-use Rattle.vectors.specs.Vectors.{lane, lanes}
-use Rattle.vectors.proofs.add_blocks.Statement.{statement}
-use Rattle.vectors.proofs.add_blocks.Tie as tie
+use Rattle.dot.specs.Dot.{lane, lanes}
+use Rattle.dot.proofs.add_blocks.Statement.{statement}
+use Rattle.dot.proofs.add_blocks.Tie as tie
 
 -- one product more
 next : (l : ℕ) (x y : List Float) (from j : ℕ) (s : Float) {v : Float} → s ≡ lane l x y (from + j) → v ≡ at x (4 * (from + j) + l) ⊗ at y (4 * (from + j) + l) → s ⊕ v ≡ lane l x y (from + (j + 1))

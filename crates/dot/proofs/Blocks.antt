@@ -13,8 +13,9 @@ use Rattle.lists.proofs.Loop.{Filled, filled-more, finished, read-after, read-a
 use Rattle.lists.proofs.Window.{part-window, getD-window, window-splice-same}
 use Rattle.doubles.specs.F64.{_⊕_, _⊗_, at}
 use Rattle.doubles.proofs.Sum.{sum-ext}
-use Rattle.vectors.specs.declared.Lanes.{Lanes}
-use Rattle.vectors.specs.Vectors.{lane, lanes, dot, axpy}
+use Rattle.dot.specs.declared.Lanes.{Lanes}
+use Rattle.vectors.specs.Vectors.{axpy}
+use Rattle.dot.specs.Dot.{lane, lanes, dot}
 
 -- m blocks read the places below 4 m only
 lanes-ext : (x y x₁ y₁ : List Float) (m : ℕ) → ((k : ℕ) → k < 4 * m → at x k ≡ at x₁ k) → ((k : ℕ) → k < 4 * m → at y k ≡ at y₁ k) → lanes x y m ≡ lanes x₁ y₁ m

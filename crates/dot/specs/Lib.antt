@@ -1,0 +1,2 @@
+-- The inner product.
+pub mod Dot
