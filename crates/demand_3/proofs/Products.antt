@@ -16,7 +16,7 @@ use Rattle.phi_action_helpers.specs.Sweeps.{shifted, rescale, Horner, horner-st
 use Rattle.phi_action_helpers.specs.declared.SweepPlan.{SweepPlan}
 use Rattle.combination.specs.Combination.{init-aug-vector}
 use Rattle.phi_action.specs.Calls.{Fields, soaked, batch-step, batched}
-use Rattle.phi_action.proofs.Batch.{soak-counted, batch-counted}
+use Rattle.phi_batch.proofs.Batch.{soak-counted, batch-counted}
 use Rattle.demand_3.specs.Products.{term, swept, field-at, products}
 
 length-stack : {A : Type 0} (n c : ℕ) (r : ℕ → List A) → ((i : ℕ) → length (r i) ≡ c) → length (stack n r) ≡ n * c

@@ -142,7 +142,7 @@ pub extern "C" fn hazhendu_phi_action(
     answers::tell_taylor(answer, value, s, m, applications)
 }
 
-// `phi_action::phi_action_batched`, told by `tell_taylor`.
+// `phi_batch::phi_action_batched`, told by `tell_taylor`.
 #[no_mangle]
 pub extern "C" fn hazhendu_phi_action_batched(
     n: usize,
@@ -164,7 +164,7 @@ pub extern "C" fn hazhendu_phi_action_batched(
 ) -> u32
     ensures { λ r. ⌜ ends (numbers r (now (value .exit)) (now (s .exit)) (now (m .exit)) (now (applications .exit))) (now (out .exit)) (now (work .exit)) ≡ answering taylor-numbers (phi-action-batched (forward (csr n (now (starts .entry)) (now (cols .entry)) (now (vals .entry))) (given «with_mass» (now (mass .entry)))) tau degree p (now (v .entry)) (now (out .entry)) (now (work .entry))) ⌝ }
 {
-    let answer = phi_action::phi_action_batched(
+    let answer = phi_batch::phi_action_batched(
         n,
         starts,
         cols,

@@ -210,7 +210,7 @@ fn solve(
             out,
             work,
         )),
-        PhiCall::Batch(degree) => of_taylor(phi_action::phi_action_batched(
+        PhiCall::Batch(degree) => of_taylor(phi_batch::phi_action_batched(
             n,
             starts,
             cols,
@@ -504,7 +504,7 @@ pub extern "C" fn hazhendu_phi_action_bytes(
     tell_taylor(t, value, s, m, applications)
 }
 
-// `phi_action::phi_action_batched`.
+// `phi_batch::phi_action_batched`.
 #[no_mangle]
 pub extern "C" fn hazhendu_phi_action_batched_bytes(
     n: usize,

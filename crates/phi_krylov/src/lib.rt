@@ -88,7 +88,7 @@ fn run_expv(
 {
     let l = krylov_job::layout(j.g.n, j.d, j.k.m, j.g.with_mass);
     generator_action::store_quotients(j.g.n, starts, cols, vals, j.g.with_mass, mass, work, l.q);
-    phi_krylov_arnoldi::expv(starts, cols, vals, vectors, work, l, j.b, j.k, j.limit)
+    expv::expv(starts, cols, vals, vectors, work, l, j.b, j.k, j.limit)
 }
 
 // A run whose first field stands at k.y, and what it hands out.

@@ -146,7 +146,7 @@ pub fn phi_action_batched_transposed(
             let q_cols = &t_cols[..vals.len()];
             let q_vals = &t_vals[..vals.len()];
             let none = &mass[..0];
-            phi_action::acted_batched(q_rows, q_cols, q_vals, none, g, tau, cap, p, v, out, work)
+            phi_batch::acted_batched(q_rows, q_cols, q_vals, none, g, tau, cap, p, v, out, work)
         }
     }
 }

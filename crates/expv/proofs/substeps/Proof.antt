@@ -1,14 +1,14 @@
--- `phi_krylov_arnoldi::substeps` meets its contract. Assumes nothing.
+-- `expv::substeps` meets its contract. Assumes nothing.
 use borrow.Author.Needs.{needs}
 use native.Mathlib.Omega.{arith}
 use mathlib.Core.Path.{refl, ap, _∙_}
 use Rattle.lists.proofs.Window.{part-window}
 use Rattle.phi_action_helpers.specs.Laid.{matrix-at}
 use Rattle.arnoldi.specs.Basis.{norm2}
 use Rattle.phi_krylov_arnoldi.specs.Run.{spent}
 use Rattle.phi_krylov_arnoldi.proofs.Whole.{begins}
-use Rattle.phi_krylov_arnoldi.proofs.substeps.Statement.{statement}
-use Rattle.phi_krylov_arnoldi.proofs.substeps.Tie as tie
+use Rattle.expv.proofs.substeps.Statement.{statement}
+use Rattle.expv.proofs.substeps.Tie as tie
 
 add-end : tie.Need-add-end
 add-end c = omega (arith, c .before .before .before .before .before .before .pre .0 .then-av, c .before .before .before .before .before .before .pre .0 .laid .av-in)

@@ -1,4 +1,4 @@
--- `phi_krylov_arnoldi::expv` meets its contract. Assumes nothing.
+-- `expv::expv` meets its contract. Assumes nothing.
 use borrow.Author.Needs.{needs}
 use native.Mathlib.Omega.{arith}
 use mathlib.Core.Path.{refl, sym, ap, _∙_}
@@ -6,10 +6,10 @@ use Prim.Native.Nat.{_+_}
 use Rattle.lists.proofs.Frame.{kept-all}
 use Rattle.lists.proofs.Window.{part-window}
 use Rattle.pow2.specs.Pow2.{pow2-scale}
 use Rattle.phi_krylov_arnoldi.specs.Run.{expv, expv-by, idle}
 use Rattle.phi_krylov_arnoldi.specs.Memory.{end-at}
-use Rattle.phi_krylov_arnoldi.proofs.expv.Statement.{statement}
-use Rattle.phi_krylov_arnoldi.proofs.expv.Tie as tie
+use Rattle.expv.proofs.expv.Statement.{statement}
+use Rattle.expv.proofs.expv.Tie as tie
 
 add-end : tie.Need-add-end
 add-end c = omega (arith, c .before .before .before .before .before .before .pre .0 .then-av, c .before .before .before .before .before .before .pre .0 .laid .av-in)

@@ -1,4 +1,4 @@
--- `phi_krylov_arnoldi::run_substeps` meets its contract. Assumes nothing.
+-- `expv::run_substeps` meets its contract. Assumes nothing.
 use borrow.Author.Needs.{needs}
 use native.Mathlib.Omega.{arith}
 use mathlib.Core.Path.{_≡_, refl, subst}
@@ -19,14 +19,14 @@ use Rattle.phi_action_helpers.proofs.Sweeps.{values-kept}
 use Rattle.arnoldi.specs.declared.Krylov.{Krylov}
 use Rattle.arnoldi.specs.Memory.{setting-at}
 use Rattle.arnoldi.proofs.Turns.{room-kept}
 use Rattle.phi_krylov_arnoldi.specs.Run.{State, End, substep}
 use Rattle.phi_krylov_arnoldi.specs.Memory.{progress-at, Moderate}
 use Rattle.phi_krylov_arnoldi.specs.declared.Progress.{Progress}
 use Rattle.phi_krylov_arnoldi.specs.declared.Progress.the-variants.{On, Finished, Refused}
 use Rattle.phi_krylov_arnoldi.proofs.Progress as progress
 use Rattle.phi_krylov_arnoldi.proofs.Turns.{seen-on, moderate-turn}
-use Rattle.phi_krylov_arnoldi.proofs.run_substeps.Statement.{statement}
-use Rattle.phi_krylov_arnoldi.proofs.run_substeps.Tie as tie
+use Rattle.expv.proofs.run_substeps.Statement.{statement}
+use Rattle.expv.proofs.run_substeps.Tie as tie
 
 abbrev Inv-loop : tie.InvT-loop
 Inv-loop starts cols vals vectors work₀ l b k limit o₀ i₀ work o i = (i ≤ limit) × Moderate i o × Kept 0 (l .q) +0 work₀ work × Left (λ _. substep (setting-at l b k (matrix-at l starts cols vals work₀) vectors)) limit i (progress-at l k o₀ work₀) (progress-at l k o work)

@@ -1,13 +1,13 @@
--- `phi_action::phi_action_batched` meets its contract. Assumes nothing.
+-- `phi_batch::phi_action_batched` meets its contract. Assumes nothing.
 use borrow.Author.Needs.{needs}
 use mathlib.Core.Path.{refl}
 use Rattle.general_operator.specs.Csr.{csr}
 use Rattle.generator_action.specs.Mass.{given, generator-checks}
 use Rattle.generator_action.specs.Generator.{forward}
 use Rattle.generator_action.proofs.Answered.{passed-up, refusal-told, norm-told, passed}
 use Rattle.phi_action.proofs.Calls.{batch-refused}
-use Rattle.phi_action.proofs.phi_action_batched.Statement.{statement}
-use Rattle.phi_action.proofs.phi_action_batched.Tie as tie
+use Rattle.phi_batch.proofs.phi_action_batched.Statement.{statement}
+use Rattle.phi_batch.proofs.phi_action_batched.Tie as tie
 
 acted-batched-requires : tie.Need-acted-batched-requires
 acted-batched-requires c κs =

@@ -1,4 +1,4 @@
--- `phi_action::sweep_batch` meets its contract. Assumes nothing.
+-- `phi_batch::sweep_batch` meets its contract. Assumes nothing.
 use borrow.Author.Needs.{needs}
 use native.Mathlib.Omega.{arith}
 use Prim.Native.Nat.{_-_, _≤_}
@@ -8,9 +8,9 @@ use Rattle.lists.proofs.Bounds.{product-within, column-within}
 use Rattle.lists.proofs.Window.{length-splice}
 use Rattle.lists.proofs.Frame.{kept-on}
 use Rattle.phi_action_helpers.proofs.Sweeps.{ready-kept}
-use Rattle.phi_action.proofs.Batch.{Batch, batch-began, batch-turn, batch-made, batch-counted, batch-fits, soak-counted, init-kept, field-within}
-use Rattle.phi_action.proofs.sweep_batch.Statement.{statement}
-use Rattle.phi_action.proofs.sweep_batch.Tie as tie
+use Rattle.phi_batch.proofs.Batch.{Batch, batch-began, batch-turn, batch-made, batch-counted, batch-fits, soak-counted, init-kept, field-within}
+use Rattle.phi_batch.proofs.sweep_batch.Statement.{statement}
+use Rattle.phi_batch.proofs.sweep_batch.Tie as tie
 
 abbrev Inv-loop : tie.InvT-loop
 Inv-loop starts cols vals v out₀ work₀ x inv count n applied₀ k₀ out work applied k = (k ≤ count) × Batch (x .l) (x .b) starts cols vals v (x .tau) inv (x .p) k applied work₀ work out₀ out

@@ -1,4 +1,4 @@
--- `phi_action::acted_batched` meets its contract. Assumes nothing.
+-- `phi_batch::acted_batched` meets its contract. Assumes nothing.
 use borrow.Author.Needs.{needs}
 use native.Mathlib.Omega.{arith}
 use native.Mathlib.Numerals.{add-one}
@@ -7,9 +7,9 @@ use mathlib.Core.Path.{refl}
 use Rattle.lists.proofs.Bounds.{product-within}
 use Rattle.checks.proofs.First.{passed-up}
 use Rattle.admission.proofs.Admitted.{index-known}
 use Rattle.phi_action.proofs.Calls.{known-action, runs-batch, refused-index, refused-batch, batch-is}
-use Rattle.phi_action.proofs.acted_batched.Statement.{statement}
-use Rattle.phi_action.proofs.acted_batched.Tie as tie
+use Rattle.phi_batch.proofs.acted_batched.Statement.{statement}
+use Rattle.phi_batch.proofs.acted_batched.Tie as tie
 
 returns : tie.Need-returns
 returns c gs sound =

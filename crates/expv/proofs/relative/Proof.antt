@@ -1,10 +1,10 @@
--- `phi_krylov_arnoldi::relative` meets its contract. Assumes nothing.
+-- `expv::relative` meets its contract. Assumes nothing.
 use borrow.Author.Needs.{needs}
 use mathlib.Core.Path.{refl}
 use Rattle.phi_krylov_arnoldi.specs.Run.{scaled-back, back}
 use Rattle.phi_krylov_arnoldi.specs.Memory.{end-at}
-use Rattle.phi_krylov_arnoldi.proofs.relative.Statement.{statement}
-use Rattle.phi_krylov_arnoldi.proofs.relative.Tie as tie
+use Rattle.expv.proofs.relative.Statement.{statement}
+use Rattle.expv.proofs.relative.Tie as tie
 
 returns : tie.Need-returns
 unfolding scaled-back back end-at

@@ -1,10 +1,10 @@
--- `phi_krylov_arnoldi::spent` meets its contract. Assumes nothing.
+-- `expv::spent` meets its contract. Assumes nothing.
 use borrow.Author.Needs.{needs}
 use mathlib.Core.Path.{refl}
 use Rattle.phi_krylov_arnoldi.specs.Run.{spent}
 use Rattle.phi_krylov_arnoldi.specs.Memory.{progress-at, end-at}
-use Rattle.phi_krylov_arnoldi.proofs.spent.Statement.{statement}
-use Rattle.phi_krylov_arnoldi.proofs.spent.Tie as tie
+use Rattle.expv.proofs.spent.Statement.{statement}
+use Rattle.expv.proofs.spent.Tie as tie
 
 returns : tie.Need-returns
 unfolding spent progress-at end-at

@@ -1,9 +1,9 @@
--- `phi_action::run_batch` meets its contract. Assumes nothing.
+-- `phi_batch::run_batch` meets its contract. Assumes nothing.
 use borrow.Author.Needs.{needs}
 use Rattle.phi_action.specs.Calls.{batched}
 use Rattle.phi_action.proofs.Jobs.{ready, lined, bounded, still-enough, finished}
-use Rattle.phi_action.proofs.run_batch.Statement.{statement}
-use Rattle.phi_action.proofs.run_batch.Tie as tie
+use Rattle.phi_batch.proofs.run_batch.Statement.{statement}
+use Rattle.phi_batch.proofs.run_batch.Tie as tie
 
 sweep-batch-requires : tie.Need-sweep-batch-requires
 sweep-batch-requires c κs =

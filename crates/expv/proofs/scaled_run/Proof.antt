@@ -1,4 +1,4 @@
--- `phi_krylov_arnoldi::scaled_run` meets its contract. Assumes nothing.
+-- `expv::scaled_run` meets its contract. Assumes nothing.
 use borrow.Author.Needs.{needs}
 use native.Mathlib.Omega.{arith}
 use mathlib.Core.Path.{ap, _∙_}
@@ -9,9 +9,9 @@ use Rattle.lists.proofs.Window.{part-window, part-back, length-splice}
 use Rattle.vectors.specs.Vectors.{scale}
 use Rattle.arnoldi.specs.Basis.{norm2}
 use Rattle.arnoldi.proofs.Turns.{room-kept}
 use Rattle.phi_krylov_arnoldi.proofs.Whole.{room-absolute, scaled-field, scaled-kept, scaled-is}
-use Rattle.phi_krylov_arnoldi.proofs.scaled_run.Statement.{statement}
-use Rattle.phi_krylov_arnoldi.proofs.scaled_run.Tie as tie
+use Rattle.expv.proofs.scaled_run.Statement.{statement}
+use Rattle.expv.proofs.scaled_run.Tie as tie
 
 add-end : tie.Need-add-end
 add-end c = omega (arith, c .before .before .before .before .before .before .pre .0 .then-av, c .before .before .before .before .before .before .pre .0 .laid .av-in)
