@@ -1,23 +1,20 @@
 -- `hess_exp_e1` (phi_krylov_arnoldi.rs): e ^ (t H) e_1 for the leading mx rows and columns of h, which is stored in rows of dim, row r with
 -- entries from column r - 1 on; by Taylor sweeps on the vector. Definitions only.
 use mathlib.Core.List.{List, map}
-use Prim.Native.Nat.{ℕ, _+_, _-_, _*_}
+use Prim.Native.Nat.{ℕ, _+_, _*_}
 use lib.ListN.{replicate, set}
 use lib.Ieee.{Float}
-use Rattle.lists.specs.Loop.{iter, tabulate, zipWith}
-use Rattle.doubles.specs.F64.{_⊕_, _⊗_, _⊘_, nat, +0, 1f, at, abs, maxNum}
+use Rattle.lists.specs.Loop.{iter, zipWith}
+use Rattle.doubles.specs.F64.{_⊗_, _⊘_, nat, +0, 1f, at, abs, maxNum}
 use Rattle.doubles.specs.Sum.{sum, open-Sum}
 use Rattle.expmv.specs.Select.{select-s-m, M-MAX, open-Select}
 use Rattle.expmv.specs.declared.Selected.{Selected}
 use Rattle.expmv.specs.declared.Selected.the-variants.{NoRow, Row}
+use Rattle.hess_product.specs.HessProduct.{hess-product, open-HessProduct}
 
 -- the largest column sum of sizes; a NaN sum is dropped
 unfoldable pub column-sum-norm : List Float → ℕ → ℕ → Float
 column-sum-norm h dim mx = iter (λ c m. maxNum m (sum mx (λ r. abs (at h (r * dim + c))))) mx +0
-
--- H w
-unfoldable pub hess-product : List Float → ℕ → ℕ → List Float → List Float
-hess-product h dim mx w = tabulate mx (λ r. sum (mx - (r - 1)) (λ i. at h (r * dim + (r - 1 + i)) ⊗ at w (r - 1 + i)))
 
 -- the sum so far and the last term
 pub record Terms : Type 0 where
@@ -52,5 +49,5 @@ hess-exp-e1 h dim mx t = let arg = t ⊗ column-sum-norm h dim mx in swept h dim
 
 -- to compute: a line `unfolding open-HessExp` opens every definition of this file and of those below it
 unfoldable pub open-HessExp : Unit {0}
-unfolding column-sum-norm hess-product term-step hess-sweep e1 swept hess-exp-e1 open-Sum open-Select
+unfolding column-sum-norm term-step hess-sweep e1 swept hess-exp-e1 open-Sum open-Select open-HessProduct
 open-HessExp = tt

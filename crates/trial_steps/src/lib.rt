@@ -7,7 +7,7 @@ ghost use lib.Ieee.{Float};
 ghost use Rattle.lists.specs.Walk.{on, walk};
 ghost use Rattle.lists.specs.Window.{window};
 ghost use Rattle.hess_exp.specs.HessExp.{hess-exp-e1};
-ghost use Rattle.hess_exp.specs.Parts.{Leading};
+ghost use Rattle.hess_product.specs.Parts.{Leading};
 ghost use Rattle.general_operator.specs.Csr.{Csr};
 ghost use Rattle.phi_action_helpers.specs.declared.Coupling.{Coupling};
 ghost use Rattle.phi_action_helpers.specs.declared.Layout.{Layout};

@@ -1,9 +1,9 @@
--- `hess_exp::left_product` meets its contract. Assumes nothing.
+-- `hess_product::left_product` meets its contract. Assumes nothing.
 use native.Mathlib.Omega.{arith}
 use borrow.Author.Tests.{eq-eqb, ne-eqb}
-use Rattle.hess_exp.specs.Parts.{left-product}
-use Rattle.hess_exp.proofs.left_product.Statement.{statement}
-use Rattle.hess_exp.proofs.left_product.Tie as tie
+use Rattle.hess_product.specs.Parts.{left-product}
+use Rattle.hess_product.proofs.left_product.Statement.{statement}
+use Rattle.hess_product.proofs.left_product.Tie as tie
 
 returns : tie.Need-returns
 unfolding left-product

@@ -12,8 +12,8 @@ use Rattle.lists.proofs.Loop.{iter-none, iter-next}
 use Rattle.lists.proofs.Bounds.{column-within}
 use Rattle.doubles.specs.F64.{_⊕_, _⊗_, +0, at}
 use Rattle.doubles.specs.Sum.{sum}
-use Rattle.hess_exp.specs.Parts.{hess-row, left-product, row-part, four-parts}
-use Rattle.hess_exp.specs.declared.Four.{Four}
+use Rattle.hess_product.specs.Parts.{hess-row, left-product, row-part, four-parts}
+use Rattle.hess_product.specs.declared.Four.{Four}
 
 module _ (h : List Float) (dim : ℕ) (x : Float) (w : List Float) (r : ℕ) where
   abbrev step : ℕ → Float → Float

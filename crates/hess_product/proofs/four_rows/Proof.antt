@@ -1,11 +1,11 @@
--- `hess_exp::four_rows` meets its contract. Assumes nothing.
+-- `hess_product::four_rows` meets its contract. Assumes nothing.
 use native.Mathlib.Omega.{arith}
 use Prim.Native.Nat.{_+_, _-_, _*_, _≤_}
 use mathlib.Core.Path.{_≡_}
-use Rattle.hess_exp.specs.Parts.{four-parts}
-use Rattle.hess_exp.proofs.Rows.{four-within, four-turn}
-use Rattle.hess_exp.proofs.four_rows.Statement.{statement}
-use Rattle.hess_exp.proofs.four_rows.Tie as tie
+use Rattle.hess_product.specs.Parts.{four-parts}
+use Rattle.hess_product.proofs.Rows.{four-within, four-turn}
+use Rattle.hess_product.proofs.four_rows.Statement.{statement}
+use Rattle.hess_product.proofs.four_rows.Tie as tie
 
 abbrev Inv-loop : tie.InvT-loop
 Inv-loop h dim mx w r x a b c d from s₀ j₀ s j = (r + 3 ≤ j) × (j ≤ mx) × (s ≡ four-parts h dim x w r j)

@@ -8,10 +8,10 @@ use lib.Ieee.{Float, nan}
 use Rattle.lists.specs.Loop.{tabulate}
 use Rattle.lists.proofs.Loop.{Filled, started, turned₀, read-after, finished-all, map-tabulate, tabulate-ext, length-tabulate, getD-tabulate}
 use Rattle.doubles.specs.F64.{_⊗_, at}
-use Rattle.hess_exp.specs.HessExp.{hess-product}
-use Rattle.hess_exp.specs.Parts.{hess-row, row-part, four-parts}
-use Rattle.hess_exp.specs.declared.Four.{Four}
-use Rattle.hess_exp.proofs.Rows.{row-is}
+use Rattle.hess_product.specs.HessProduct.{hess-product}
+use Rattle.hess_product.specs.Parts.{hess-row, row-part, four-parts}
+use Rattle.hess_product.specs.declared.Four.{Four}
+use Rattle.hess_product.proofs.Rows.{row-is}
 
 module _ (h : List Float) (dim mx : ℕ) (f : Float) (w₀ : List Float) where
   -- row k of f H w₀

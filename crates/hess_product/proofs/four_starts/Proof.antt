@@ -1,8 +1,8 @@
--- `hess_exp::four_starts` meets its contract. Assumes nothing.
+-- `hess_product::four_starts` meets its contract. Assumes nothing.
 use native.Mathlib.Omega.{arith}
-use Rattle.hess_exp.proofs.Rows.{row-on}
-use Rattle.hess_exp.proofs.four_starts.Statement.{statement}
-use Rattle.hess_exp.proofs.four_starts.Tie as tie
+use Rattle.hess_product.proofs.Rows.{row-on}
+use Rattle.hess_product.proofs.four_starts.Statement.{statement}
+use Rattle.hess_product.proofs.four_starts.Tie as tie
 
 row-part-requires-2 : tie.Need-row-part-requires-2
 row-part-requires-2 c κs = let a = c .before .before .before .before .args in (omega arith, omega arith, omega (arith, row-on (a .r) 1 (a .dim)))

@@ -1,11 +1,11 @@
--- `hess_exp::hess_product_in` meets its contract. Assumes nothing.
+-- `hess_product::hess_product_in` meets its contract. Assumes nothing.
 use native.Mathlib.Omega.{arith}
 use Prim.Native.Nat.{_-_}
 use lib.ListN.{length-set}
 use Rattle.lists.proofs.Bounds.{column-within}
-use Rattle.hess_exp.proofs.InPlace.{Placed, placed-start, row-turn, rows-turn, placed-end}
-use Rattle.hess_exp.proofs.hess_product_in.Statement.{statement}
-use Rattle.hess_exp.proofs.hess_product_in.Tie as tie
+use Rattle.hess_product.proofs.InPlace.{Placed, placed-start, row-turn, rows-turn, placed-end}
+use Rattle.hess_product.proofs.hess_product_in.Statement.{statement}
+use Rattle.hess_product.proofs.hess_product_in.Tie as tie
 
 abbrev Inv-loop : tie.InvT-loop
 Inv-loop h dim mx f w₀ r₀ x₀ w r x = Placed h dim mx f w₀ r x w

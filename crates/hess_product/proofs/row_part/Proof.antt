@@ -1,11 +1,11 @@
--- `hess_exp::row_part` meets its contract. Assumes nothing.
+-- `hess_product::row_part` meets its contract. Assumes nothing.
 use native.Mathlib.Omega.{arith}
 use Prim.Native.Nat.{_-_, _≤_}
 use mathlib.Core.Path.{_≡_, sym, _∙_}
-use Rattle.hess_exp.specs.Parts.{row-part}
-use Rattle.hess_exp.proofs.Rows.{part-none, part-turn}
-use Rattle.hess_exp.proofs.row_part.Statement.{statement}
-use Rattle.hess_exp.proofs.row_part.Tie as tie
+use Rattle.hess_product.specs.Parts.{row-part}
+use Rattle.hess_product.proofs.Rows.{part-none, part-turn}
+use Rattle.hess_product.proofs.row_part.Statement.{statement}
+use Rattle.hess_product.proofs.row_part.Tie as tie
 
 abbrev Inv-loop : tie.InvT-loop
 Inv-loop h dim w r x to base s₀ j₀ s j = (r ≤ j) × (j ≤ to) × (s ≡ row-part h dim x w r j)

@@ -1,0 +1,3 @@
+-- The product with a small Hessenberg matrix.
+pub mod HessProduct
+pub mod Parts
