@@ -6,7 +6,7 @@ use lib.ListN.{length, replicate, length-map, length-replicate, length-set}
 use lib.Ieee.{Float}
 use Rattle.lists.specs.Loop.{iter}
 use Rattle.lists.proofs.Loop.{length-tabulate, length-zipWith}
-use Rattle.doubles.specs.F64.{_⊗_, _⊘_, nat, +0, 1f}
+use Rattle.doubles.specs.F64.{_⊕_, _⊗_, _⊘_, nat, +0, 1f}
 use Rattle.expmv.specs.declared.Selected.{Selected}
 use Rattle.expmv.specs.declared.Selected.the-variants.{NoRow, Row}
 use Rattle.hess_exp.specs.HessExp.{Terms, term-step, hess-sweep, e1, Small, unplanned, column, swept, hess-exp-e1}

@@ -5,7 +5,7 @@ use Prim.Native.Nat.{ℕ, _+_, _*_}
 use lib.ListN.{replicate, set}
 use lib.Ieee.{Float}
 use Rattle.lists.specs.Loop.{iter, zipWith}
-use Rattle.doubles.specs.F64.{_⊗_, _⊘_, nat, +0, 1f, at, abs, maxNum}
+use Rattle.doubles.specs.F64.{_⊕_, _⊗_, _⊘_, nat, +0, 1f, at, abs, maxNum}
 use Rattle.doubles.specs.Sum.{sum, open-Sum}
 use Rattle.expmv.specs.Select.{select-s-m, M-MAX, open-Select}
 use Rattle.expmv.specs.declared.Selected.{Selected}

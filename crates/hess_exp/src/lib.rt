@@ -4,6 +4,7 @@ ghost use Prim.Native.Nat.{_+_, _*_, _<_, _≤_};
 ghost use lib.ListN.{length};
 ghost use Rattle.lists.specs.Loop.{iter, zipWith};
 ghost use Rattle.lists.specs.Window.{window};
+ghost use Rattle.doubles.specs.F64.{_⊕_};
 ghost use Rattle.hess_exp.specs.HessExp.{column-sum-norm, term-step, hess-sweep, hess-exp-e1};
 ghost use Rattle.hess_exp.specs.Parts.{column-sum, terms, small-of};
 ghost use Rattle.hess_product.specs.Parts.{Leading};

@@ -5,7 +5,7 @@ use mathlib.Core.Path.{_≡_}
 use mathlib.Core.List.{List, map}
 use lib.Ieee.{Float}
 use Rattle.lists.specs.Loop.{zipWith}
-use Rattle.doubles.specs.F64.{_⊗_, _⊘_, nat}
+use Rattle.doubles.specs.F64.{_⊕_, _⊗_, _⊘_, nat}
 use Rattle.hess_exp.specs.HessExp.{term-step}
 use Rattle.hess_product.specs.HessProduct.{hess-product}
 use Rattle.hess_exp.specs.Parts.{terms}
