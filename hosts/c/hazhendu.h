@@ -769,10 +769,10 @@ static inline size_t hazhendu_soak_stages_work(const struct hazhendu_matrix *a, 
 static inline uint32_t hazhendu_soak_stages(const struct hazhendu_matrix *a, const struct hazhendu_stage *stages, size_t length, const double *start,
     const double *further, double *out, double *work, size_t work_len, struct hazhendu_staged *told)
 {
-    enum { MOST = HAZHENDU_MAX_STAGES + 1 };
-    double taus[MOST], tols[MOST];
-    size_t counts[MOST], ms[MOST], limits[MOST], further_len = 0, used = length < MOST ? length : MOST;
-    uint32_t solvers[MOST], degrees[MOST], saved, number;
+    double taus[HAZHENDU_MAX_STAGES + 1], tols[HAZHENDU_MAX_STAGES + 1];
+    size_t counts[HAZHENDU_MAX_STAGES + 1], ms[HAZHENDU_MAX_STAGES + 1], limits[HAZHENDU_MAX_STAGES + 1];
+    uint32_t solvers[HAZHENDU_MAX_STAGES + 1], degrees[HAZHENDU_MAX_STAGES + 1], saved, number;
+    size_t most = HAZHENDU_MAX_STAGES + 1, used = length < most ? length : most, further_len = 0; /* one too many is enough to be refused */
     bool counted = true; /* up to the first stage that 12 refuses */
     for (size_t i = 0; i < used; i++) {
         const struct hazhendu_options *o = &stages[i].options;
