@@ -23,6 +23,19 @@ impl Schedule {
         [taus.len(), counts.len(), solvers.len(), degrees.len(), tols.len(), ms.len(), limits.len()]
     }
 
+    /// Every list becomes a heap block of just its length.
+    pub fn shrink(&mut self) {
+        self.taus.shrink_to_fit();
+        self.counts.shrink_to_fit();
+        self.solvers.shrink_to_fit();
+        self.degrees.shrink_to_fit();
+        self.tols.shrink_to_fit();
+        self.ms.shrink_to_fit();
+        self.limits.shrink_to_fit();
+        self.start.shrink_to_fit();
+        self.further.shrink_to_fit();
+    }
+
     /// Over the matrix, mass, output and working memory of a job.
     pub fn print(&self, job: &Job) -> String {
         format!(

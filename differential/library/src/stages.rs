@@ -1,9 +1,12 @@
 //! A soak in stages (document 02, N11), on slices.
 
+use std::ops::Deref;
+
 use jobs::stages::{Left, Schedule};
 use jobs::Job;
 
 use crate::slices::lent;
+use crate::Slices;
 
 extern "C" {
     fn hazhendu_stages(
@@ -47,23 +50,32 @@ extern "C" {
     ) -> u32;
 }
 
-/// A slice as the call takes it.
+/// The call with each slice as a pointer and a length.
 macro_rules! call {
     ($name:ident, [$($before:expr),*], [$($slice:expr),*], [$($written:expr),*], [$($told:expr),*]) => {
         $name($($before,)* $($slice.as_ptr(), $slice.len(),)* $($written.as_mut_ptr(), $written.len(),)* $($told,)*)
     };
 }
 
-/// The schedule over the matrix and mass of a job, with its lengths of output and working memory, which are marked beforehand. Every slice
-/// is a heap block of just its length.
-pub fn answer(job: &Job, schedule: &Schedule) -> Left {
-    let mut out = job.marked_out().into_boxed_slice();
-    let mut work = job.marked_work().into_boxed_slice();
-    let s = lent::<Box<[u32]>, Box<[f64]>>(job);
-    let Schedule { taus, counts, solvers, degrees, tols, ms, limits, start, further } = schedule.clone();
-    let [taus, tols, start, further] = [taus, tols, start, further].map(Vec::into_boxed_slice);
-    let [counts, ms, limits] = [counts, ms, limits].map(Vec::into_boxed_slice);
-    let [solvers, degrees] = [solvers, degrees].map(Vec::into_boxed_slice);
+/// What the call tells: 0 or the refusal's number, the double, the stage, applications, substeps and rejections.
+pub struct Told {
+    pub number: u32,
+    pub value: f64,
+    pub stage: u32,
+    pub counts: [u64; 3],
+}
+
+/// The call alone, over the matrix and mass of a job.
+pub fn call(job: &Job, schedule: &Schedule, out: &mut [f64], work: &mut [f64]) -> Told {
+    put(job, &lent::<&[u32], &[f64]>(job), schedule, out, work)
+}
+
+fn put<N, D>(job: &Job, s: &Slices<N, D>, schedule: &Schedule, out: &mut [f64], work: &mut [f64]) -> Told
+where
+    N: Deref<Target = [u32]>,
+    D: Deref<Target = [f64]>,
+{
+    let Schedule { taus, counts, solvers, degrees, tols, ms, limits, start, further } = schedule;
     let (mut value, mut stage, mut told) = (jobs::mark(0), !0, [!0; 3]);
     let [applications, substeps, rejected] = &mut told;
     // SAFETY: as of `called!`.
@@ -76,5 +88,16 @@ pub fn answer(job: &Job, schedule: &Schedule) -> Left {
             [&mut value, &mut stage, applications, substeps, rejected]
         )
     };
-    Left { number, value, stage, counts: told, out: out.into_vec(), work: work.into_vec() }
+    Told { number, value, stage, counts: told }
+}
+
+/// What the call leaves, with the job's lengths of output and working memory, which are marked beforehand. Every slice is a heap block of
+/// just its length.
+pub fn answer(job: &Job, schedule: &Schedule) -> Left {
+    let mut out = job.marked_out().into_boxed_slice();
+    let mut work = job.marked_work().into_boxed_slice();
+    let mut cut = schedule.clone();
+    cut.shrink();
+    let Told { number, value, stage, counts } = put(job, &lent::<Box<[u32]>, Box<[f64]>>(job), &cut, &mut out, &mut work);
+    Left { number, value, stage, counts, out: out.into_vec(), work: work.into_vec() }
 }
