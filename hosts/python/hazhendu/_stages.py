@@ -9,7 +9,7 @@ from . import _memory as memory
 from ._calls import LEAVE_STATE
 from ._heating import warn_if_not_finite, warn_of_heating
 from ._library import Refused, call
-from ._memory import Matrix, Slice, size
+from ._memory import Matrix, Slice
 
 SOLVERS = ("taylor", "krylov")
 

@@ -56,9 +56,9 @@ struct Refused {
     left: Option<(Vec<f64>, String)>,
 }
 
-impl From<Failure> for Refused {
+impl From<Failure> for Box<Refused> {
     fn from(failure: Failure) -> Self {
-        Refused { failure, left: None }
+        Box::new(Refused { failure, left: None })
     }
 }
 
@@ -84,7 +84,7 @@ pub fn run(request: &Request) -> Result<(), Failure> {
     let counted = (1..=MAX_STAGES).contains(&job.stages.len());
     let soaked = if one_by_one && counted { job.one_by_one(folder.as_ref()) } else { job.in_one_call() };
     tell_terminal(&format!("soak: {:.3} s", begun.elapsed().as_secs_f64()));
-    let soaked = soaked.or_else(|refused| job.leave(&output, refused))?;
+    let soaked = soaked.or_else(|refused| job.leave(&output, *refused))?;
     let Soaked { between, field, report } = &soaked;
     output.fill(|to| vectors::write(to, field))?;
     let (summary, unit) = (Summary::of(field, job.model.mass()), drawing.unit.as_deref().unwrap_or("K"));
@@ -125,7 +125,7 @@ struct Job<'a> {
 
 impl Job<'_> {
     /// The library's own call.
-    fn in_one_call(&self) -> Result<Soaked, Refused> {
+    fn in_one_call(&self) -> Result<Soaked, Box<Refused>> {
         let further: Vec<Vec<&[f64]>> = self.stages.iter().map(Stage::further).collect();
         let of = |(stage, further): (&Stage, _)| hazhendu::Stage { tau: stage.tau, further, solver: stage.solver };
         let schedule: Vec<hazhendu::Stage> = self.stages.iter().zip(further.iter().map(Vec::as_slice)).map(of).collect();
@@ -137,7 +137,7 @@ impl Job<'_> {
     }
 
     /// Each stage as a call of its own, to the same bits and counts, with a line about it and its field written where that is asked for.
-    fn one_by_one(&self, folder: Option<&Folder>) -> Result<Soaked, Refused> {
+    fn one_by_one(&self, folder: Option<&Folder>) -> Result<Soaked, Box<Refused>> {
         let mut soaked = Soaked { between: vec![], field: self.start.numbers.clone(), report: StagedReport::default() };
         for (i, stage) in self.stages.iter().enumerate() {
             let mut line = Line::new();
@@ -171,7 +171,7 @@ impl Job<'_> {
         start.into_iter().chain(&self.stages[i].vectors).find(|vector| vector.numbers.len() != self.model.matrix().n)
     }
 
-    fn refused_single(&self, error: Error, i: usize, before: &Soaked) -> Refused {
+    fn refused_single(&self, error: Error, i: usize, before: &Soaked) -> Box<Refused> {
         match error {
             Error::OutOfMemory { doubles } => Failure::OutOfMemory { doubles }.into(),
             // The matrix itself is refused before any stage.
@@ -181,7 +181,7 @@ impl Job<'_> {
     }
 
     /// `stage` from 1, 0 before any.
-    fn refused(&self, refusal: Refusal, stage: usize, left: Option<Vec<f64>>) -> Refused {
+    fn refused(&self, refusal: Refusal, stage: usize, left: Option<Vec<f64>>) -> Box<Refused> {
         let what = match refusal.leaves_state() {
             true => format!("the state after the last accepted substep of stage {stage}, refused by {}", refusal.number),
             false => format!("the field after stage {}; stage {stage} is refused by {}", stage.saturating_sub(1), refusal.number),
@@ -191,7 +191,7 @@ impl Job<'_> {
         let misfit = stage.checked_sub(1).filter(|_| refusal.number == 16).and_then(|i| self.misfit(i));
         let refusal = misfit.map_or(refusal, |misfit| Refusal { value: misfit.numbers.len() as f64, ..refusal });
         let failure = Failure::RefusedStage { refusal, place, stage };
-        Refused { failure, left: left.map(|field| (field, what)) }
+        Box::new(Refused { failure, left: left.map(|field| (field, what)) })
     }
 
     /// The field that is left goes where the field would go; a comment says what it is, and as a vector it reads back.
