@@ -136,8 +136,7 @@ static uint32_t paused(double tau, size_t m, bool tightened, double *out, double
         N + COUNT - 1, numbers, HAZHENDU_RUN_NUMBERS_LEN, counts, HAZHENDU_RUN_COUNTS_LEN, &value);
 }
 
-/* Ten seconds with the heater on full, a minute by Krylov on half of it, then half a minute without: three calls in one. The last stage has the time
-   cooling. */
+/* Ten seconds with the heater on full, a minute by Krylov on half of it, then a time without it: three calls in one. */
 static uint32_t schedule(double cooling, double *out, double *work, size_t work_len)
 {
     enum { STAGES = 3 };

@@ -1,9 +1,9 @@
 //! A soak in stages on memory that the caller lends.
 //!
 //! An accepted schedule leaves the field of its last stage in `out`, and the largest of the stages' needs of `work` holds +0. A refusal before
-//! stage 1, or from 1 to 26 or by 33 at stage 1, changes nothing; at a later stage `out` is the field of the stage before it, and `work` as the stages before
-//! left it: the largest of their needs holds +0, the rest is unchanged. 27 to 29 leave what the stage's single call leaves: `out` is the
-//! state after its last accepted substep.
+//! stage 1 (1 to 11 and 37), or from 12 to 26 or by 33 at stage 1, changes nothing; at a later stage `out` is the field of the stage before it,
+//! and `work` as the stages before left it: the largest of their needs holds +0, the rest is unchanged. 27 to 29 leave what the stage's single
+//! call leaves: `out` is the state after its last accepted substep.
 
 use super::call;
 use crate::sizes::MAX_STAGES;
