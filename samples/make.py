@@ -4,7 +4,8 @@
     samples/make.py FOLDER      a folder for each barrel, with conductance.mtx, capacity.txt, start.txt, heating.txt, ramp.txt where
                                 there is one, spacer.json, cells.txt and parts.txt for the pictures, and arguments, the words that
                                 soak wants; where there is a mount also mount.mtx, and the words name joined.mtx, which soak join
-                                is to make of the two; prints the folders
+                                is to make of the two; where there are phases also stages.csv, a schedule, with the vectors that it
+                                names; prints the folders
 
 A barrel is a body of revolution, tiled by parts that are rings or discs; a part is divided into cells. Lengths are whole micrometres
 here, so that cells which touch are found by equal numbers, and metres in every formula. All else is in SI units.
@@ -66,12 +67,23 @@ class Mount:
 
 
 @dataclass(frozen=True)
+class Phase:
+    """A stage of a schedule: every part's power times a share."""
+
+    name: str
+    tau: float
+    share: float
+    solver: str
+
+
+@dataclass(frozen=True)
 class Barrel:
     name: str
     parts: tuple
     tau: float
     start: float  # K above the room, everywhere
     mount: Mount = None
+    phases: tuple = ()
 
 
 @dataclass(frozen=True)
@@ -227,6 +239,20 @@ def write_vector(path, comment, numbers):
         file.writelines(f"{x!r}\n" for x in numbers)
 
 
+def write_schedule(place, barrel, cells):
+    """A line for each phase, and the power of each that has one."""
+    if not barrel.phases:
+        return
+    with open(place("stages.csv"), "w") as file:
+        file.write("name,tau,solver,vectors\n")
+        for phase in barrel.phases:
+            vectors = f"{phase.name}.txt" if phase.share else ""
+            file.write(f"{phase.name},{phase.tau:g},{phase.solver},{vectors}\n")
+            if vectors:
+                numbers = [phase.share * cell.part.power * cell.share() / cell.capacity() for cell in cells]
+                write_vector(place(vectors), f"power of {phase.name} divided by heat capacity in K/s", numbers)
+
+
 def write_spacer(path, barrel, cells):
     """The spacer's cells, counted from 1, with their shares of its volume."""
     (part,) = [part for part in barrel.parts if part.name == "spacer"]
@@ -267,6 +293,7 @@ def write_barrel(folder, barrel):
         if any(numbers):
             write_vector(place(name), comment, numbers)
             vectors.append(name)
+    write_schedule(place, barrel, cells)
     write_spacer(place("spacer.json"), barrel, cells)
     write_boxes(place("cells.txt"), [(cell, []) for cell in cells])
     write_boxes(place("parts.txt"), [(part, [part.name]) for part in barrel.parts])
@@ -314,10 +341,12 @@ COLLIMATOR = Barrel(
     ),
     tau=1800.0,
     start=0.0,
+    # The lamp at twice its power, at its power, and off.
+    phases=(Phase("warm-up", 600.0, 2.0, "krylov"), Phase("hold", 1800.0, 1.0, "krylov"), Phase("cool-down", 900.0, 0.0, "taylor")),
 )
 
 # The same on a bench: a clamp of 25 mm around the wall, pressed as a joint between metals is.
-COLLIMATOR_ON_MOUNT = replace(COLLIMATOR, name="collimator-mount", mount=Mount(mm(15, 40), contact=2e-4, foot=0.5))
+COLLIMATOR_ON_MOUNT = replace(COLLIMATOR, name="collimator-mount", mount=Mount(mm(15, 40), contact=2e-4, foot=0.5), phases=())
 
 ZOOM = Barrel(
     "zoom-two-groups",

@@ -3,8 +3,8 @@
 
     samples/table.py FOLDER
 
-For each barrel it reads spacer.json (samples/make.py), and for each solver the report, SOLVER.json. Status 1 if the solvers differ by more
-than ALLOWED.
+For each barrel it reads spacer.json (samples/make.py), and for each solver the report, SOLVER.json; for a soak in stages the field after each
+and what soak told of it, stages.log. Status 1 if the solvers differ by more than ALLOWED.
 """
 
 import json
@@ -41,11 +41,37 @@ def rows_of(folder, barrel):
     return max(abs(a - b) for a, b in zip(*(report["field"] for report in reports)))
 
 
+def numbers_of(*places):
+    with open(os.path.join(*places)) as file:
+        return [float(line) for line in file if not line.startswith("#")]
+
+
+def stages_of(folder, barrel):
+    """A line for each stage: its time, the power, what it cost, and the field after it."""
+    folder = os.path.join(folder, barrel.name)
+    capacity = numbers_of(folder, "capacity.txt")
+    with open(os.path.join(folder, "stages.log")) as file:
+        told = [line.split(": ", 1)[1].strip() for line in file if line.startswith("stage ")]
+    power = sum(part.power for part in barrel.parts)
+    for i, (phase, line) in enumerate(zip(barrel.phases, told)):
+        field = numbers_of(folder, "stages", f"stage-{i + 1:02}.txt")
+        change = spacer_change(os.path.join(folder, "spacer.json"), field)
+        mean = sum(c * t for c, t in zip(capacity, field)) / sum(capacity)
+        applications = next(part for part in line.split(", ") if part.endswith(" applications"))
+        work = f"{phase.name} at {power * phase.share:g} W, {applications}"
+        head = ("in stages", "", "") if i == 0 else ("", "", "")
+        print(COLUMNS.format(*head, f"{phase.tau:g}", phase.solver, work, f"{max(field):.4f}", f"{mean:.4f}", f"{change * 1e6:+.4f}"))
+
+
 def main():
     if len(sys.argv) != 2:
         sys.exit(__doc__)
     print(COLUMNS.format("barrel", "rows", "entries", "tau s", "solver", "plan or report", "hottest K", "mean K", "spacer um"))
-    worst = max([rows_of(sys.argv[1], barrel) for barrel in BARRELS])
+    worst = 0.0
+    for barrel in BARRELS:
+        worst = max(worst, rows_of(sys.argv[1], barrel))
+        if barrel.phases:
+            stages_of(sys.argv[1], barrel)
     agree = worst <= ALLOWED
     print(f"taylor and krylov {'agree' if agree else 'DIFFER'}: at most {worst:.1e} K apart, {ALLOWED:g} K allowed")
     sys.exit(0 if agree else 1)

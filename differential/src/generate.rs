@@ -158,7 +158,7 @@ fn for_transpose(kind: Kind, r: &mut Random) -> Job {
 }
 
 /// Mostly one from 3 to 30: up to 3 a plan has 10^5 sweeps and more, up to 2 10^8, and up to 1 none fits.
-fn degree(r: &mut Random) -> u32 {
+pub fn degree(r: &mut Random) -> u32 {
     match r.below(20) {
         0 => r.pick(&[0, 31, u32::MAX]),
         1 => r.pick(&[1, 2]),
@@ -166,7 +166,7 @@ fn degree(r: &mut Random) -> u32 {
     }
 }
 
-fn call_of(kind: Kind, r: &mut Random) -> Call {
+pub fn call_of(kind: Kind, r: &mut Random) -> Call {
     match kind {
         Kind::Combination => Call::Combination,
         Kind::Action => Call::Action,
@@ -241,7 +241,7 @@ pub fn matrix(n: usize, r: &mut Random) -> (Vec<u32>, Vec<u32>, Vec<f64>) {
     (starts, cols, vals)
 }
 
-fn norm(job: &Job) -> f64 {
+pub fn norm(job: &Job) -> f64 {
     let mass = |i: usize| job.mass.as_ref().map_or(1.0, |m| m[i]);
     (0..job.n)
         .map(|i| job.vals[job.starts[i] as usize..job.starts[i + 1] as usize].iter().map(|v| (v / mass(i)).abs()).sum())

@@ -136,6 +136,28 @@ static uint32_t paused(double tau, size_t m, bool tightened, double *out, double
         N + COUNT - 1, numbers, HAZHENDU_RUN_NUMBERS_LEN, counts, HAZHENDU_RUN_COUNTS_LEN, &value);
 }
 
+/* Ten seconds with the heater on full, a minute by Krylov on half of it, then a time without it: three calls in one. */
+static uint32_t schedule(double cooling, double *out, double *work, size_t work_len)
+{
+    enum { STAGES = 3 };
+    static const size_t counts[STAGES] = {2, 2, 1}, ms[STAGES] = {0, KRYLOV_M, 0}, limits[STAGES] = {0, 100000, 0};
+    static const uint32_t solvers[STAGES] = {0, 1, 0}, degrees[STAGES] = {HAZHENDU_MAX_DEGREE, 0, HAZHENDU_MAX_DEGREE};
+    static const double tols[STAGES] = {0, 1e-10, 0}, further[2 * N] = {0.25, 0, 0, 0, 0.125, 0, 0, 0};
+    const double taus[STAGES] = {10, 60, cooling};
+    double value;
+    uint32_t stage;
+    uint64_t applications, substeps, rejected;
+    uint32_t number = hazhendu_stages(
+        N, starts, N + 1, cols, ENTRIES, vals, ENTRIES, true, mass, N, taus, STAGES, counts, STAGES, solvers, STAGES, degrees, STAGES, tols, STAGES, ms,
+        STAGES, limits, STAGES, w, N, further, 2 * N, out, N, work, work_len, &value, &stage, &applications, &substeps, &rejected);
+    if (number == HAZHENDU_ACCEPTED)
+        printf("stages: %llu applications, %llu substeps, %llu rejected\n", (unsigned long long)applications, (unsigned long long)substeps,
+            (unsigned long long)rejected);
+    else
+        printf("stages: refused, number %u, double %g, stage %u\n", number, value, stage);
+    return number;
+}
+
 /* The same job by either solver must give what that solver's own call gave. */
 static bool same_by_choice(bool krylov, const double *field, double *work, size_t work_len)
 {
@@ -186,6 +208,17 @@ int main(void)
     if (paused(60, 4, false, krylov, work, krylov_work) != HAZHENDU_RUN_ENDED || memcmp(krylov, whole, sizeof whole) != 0)
         return 1;
     if (paused(60, 4, true, krylov, work, krylov_work) != HAZHENDU_RUN_ENDED)
+        return 1;
+    print_field(krylov);
+
+    printf("warm-up, hold and cool-down in one call; and with a time that is negative in the last stage: what is left is the field of the second\n");
+    static const size_t counts[3] = {2, 2, 1}, ms[3] = {0, KRYLOV_M, 0};
+    static const uint32_t solvers[3] = {0, 1, 0};
+    size_t stages_work = hazhendu_stages_work(N, ENTRIES, true, 3, counts, solvers, ms);
+    if (stages_work > WORK || schedule(30, krylov, work, stages_work) != HAZHENDU_ACCEPTED)
+        return 1;
+    print_field(krylov);
+    if (schedule(-1, krylov, work, stages_work) != HAZHENDU_TAU_RANGE)
         return 1;
     print_field(krylov);
 

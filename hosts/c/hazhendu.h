@@ -2,7 +2,8 @@
  * Hazhendu: heat soak by phi-functions. The exported calls of the proved library for C and C++ on x86-64 Linux.
  *
  * `hosts/library` writes target/staticlib/libhazhendu.a, libhazhendu.so and hazhendu.pc for pkg-config; hosts/c/run shows how to link. Most
- * programs want the calls on structs at the end of this file: hazhendu_check, hazhendu_soak, hazhendu_run_start, hazhendu_act and their likes.
+ * programs want the calls on structs at the end of this file: hazhendu_check, hazhendu_soak, hazhendu_soak_stages, hazhendu_run_start,
+ * hazhendu_act and their likes.
  *
  *
  * WHAT IS COMPUTED
@@ -21,6 +22,8 @@
  *   hazhendu_join:                                               two matrices over the same rows, a barrel's and its mount's, as one
  *   hazhendu_krylov_start, hazhendu_krylov_step:                 hazhendu_phi_combination_krylov one substep at a time, with the field to be looked
  *                                                                at in between, and a new tol where one is wanted
+ *   hazhendu_stages:                                             1 to 64 combinations in a row over one matrix, the field of one being w_0 of the
+ *                                                                next: warm-up, hold and cool-down
  *
  * phi_0 is the exponential, and phi_k(z) = (phi_{k-1}(z) - 1/(k-1)!) / z. For heat, C dT/dt = -A T + q with T = T_0 at time 0, A in W/K,
  * the heat capacities C in J/K and the power q in W: the mass is C, w_0 = T_0, w_1 = q / C, and the sum is T at time tau. A power that
@@ -84,6 +87,25 @@
  * which the start scaled vectors and field stay. A run has ended when its time is 1, when the norm of its field is 0, when its start was
  * all zeros, or when it met 27, 28 or 29; 27 comes with the limit's last substep itself.
  *
+ * of a soak in stages. Each of the seven lists has a number for every stage; how many stages there are is the length of taus:
+ *
+ *   taus, taus_len        the time of each stage, as tau
+ *   counts, counts_len    how many vectors it has, w_0 being one: 1 to 4, 1 for a stage that brings no further vectors
+ *   solvers, solvers_len  0: by Taylor; any other number: by Krylov
+ *   degrees, degrees_len  Taylor: as degree; of a Krylov stage not looked at
+ *   tols, tols_len,       Krylov: as tol, m and max_substeps; of a Taylor stage not looked at
+ *   ms, ms_len,
+ *   limits, limits_len
+ *   start, start_len      w_0 of stage 1, n numbers
+ *   further, further_len  the vectors from w_1 on of all stages, one after the other in the order of the stages: (counts[i] - 1) * n numbers of
+ *                         stage i + 1
+ *   out, out_len          n numbers: the field after the last stage is written here
+ *   work, work_len        at least as long as the largest need of a stage: hazhendu_stages_work
+ *
+ * The stages run in order, each as hazhendu_combine would run it with the field of the stage before for w_0, and each is checked when it is
+ * reached: 12, 14, of Taylor 33, 15 and 16, then the rest of the single call's. 16 is told for a start that is not n long, at stage 1, with
+ * its length; and, with the length of further, at the first stage that further is too short for, or at the last one if it is too long.
+ *
  * of a join:
  *
  *   n_a, starts_a, ..     the barrel, as n, starts, cols and vals above; in each row the columns rise strictly
@@ -99,11 +121,13 @@
  *                         tol (the sum over the substeps, each with at least its round-off, (tau norm + 2) * 2^-52 of the state's norm: it
  *                         may exceed tol, and is mostly far above the actual error), or the norm of a matrix that is checked, or 0 of a join;
  *                         of a paused run its estimated error, which is of the scaled start until a substep ends the run with a result (the reader
- *                         hazhendu_run_estimate sees to it), 0 of its start; refused: the refusal's double
+ *                         hazhendu_run_estimate sees to it), 0 of its start; 0 of a soak in stages; refused: the refusal's double
+ *   stage                 a soak in stages: which one is refused, from 1; 0 where none was reached (1 to 11 and 37) or all are accepted
  *   row                   the first row whose sum is the norm, from 0; 0 if the matrix is refused
  *   entries               how many entries the result of a join has; 0 if it is refused
  *   s, plan_m             Taylor's plan: sweeps, and the degree to which each goes
- *   applications          Taylor: products with G that were made, over all functions of a batch
+ *   applications          Taylor: products with G that were made, over all functions of a batch; of a soak in stages those of all stages, by
+ *                         either solver, and substeps and rejected the sums over its Krylov stages
  *   substeps, matvecs,    Krylov: substeps accepted, products with G, and lengths rejected. The counts of a refused job are 0.
  *   rejected
  *   shortest, last        Krylov: the shortest and the last substep accepted, as parts of tau (1 is the whole soak); both 0 where none was
@@ -127,7 +151,8 @@
  *
  * Nothing else is asked: every input gets a result or a refusal, and no call allocates, stops the program or keeps anything. Calls in
  * several threads do not disturb each other. A call tells nothing before its end, and may take long (the process can be stopped at any time): Taylor makes s * m products with G,
- * Krylov at most (M + 1) * max_substeps, a step of a paused run at most M + 1. A join goes over both matrices a few times.
+ * Krylov at most (M + 1) * max_substeps, a step of a paused run at most M + 1, a soak in stages the sum over its stages. A join goes over both
+ * matrices a few times.
  *
  *
  * WHAT A CALL CHANGES
@@ -143,6 +168,10 @@
  *                      (of a start w_0, scaled and back), and the needed length of work holds +0. field, numbers and counts are written by
  *                      these alone, after 28 and 29 as the last accepted substep left them but for the mark that the run has ended;
  *                      1 to 26 and 31 leave all of it unchanged
+ *   stages             accepted: out is the field after the last stage, the largest need of a stage of work holds +0. Refused before any
+ *                      stage, or at stage 1 by 12 to 26 or 33: nothing is changed. Refused so at a later stage: out is the field of the stage
+ *                      before it, the largest need of the stages before it of work holds +0, the rest of work is unchanged. Refused by
+ *                      27 to 29: as that stage's single call leaves it
  *   join, accepted     the fronts of starts, cols and vals are the result, places beyond it are unchanged
  *   join, refused      nothing is changed
  */
@@ -167,15 +196,16 @@ enum {
     HAZHENDU_MAX_INDEX = 3,
     HAZHENDU_MAX_DIMENSION = 128,
     HAZHENDU_MAX_SUBSTEPS = 1000000,
-    HAZHENDU_MAX_DEGREE = 30
+    HAZHENDU_MAX_DEGREE = 30,
+    HAZHENDU_MAX_STAGES = 64
 };
 
 /* Why a job or a join is refused, and the double reported with it. The checks of a job run in number order, but for 33 directly after 14;
    those of a transposed call are 1 to 6, with a mass 7 to 10, without one 9 and 11, then 30, then 11 for a column (of the transposed
    matrix a row), then those of the job. A start has those of Krylov's whole call, then 26 for field, numbers or counts of another length.
    A step has 31 first, then those of Krylov's whole call with the tol in force, the run's m and limit, a second 16 behind the first and the
-   start's scaling in 22, then 26 for field. Those of a join are 1 to 6 and 11 of the barrel, then of the mount, 34, 35 and 36, then 3 and 6
-   of the result. The first that holds is told. */
+   start's scaling in 22, then 26 for field. A soak in stages has 1 to 11, then 37, then those of each stage when it is reached. Those
+   of a join are 1 to 6 and 11 of the barrel, then of the mount, 34, 35 and 36, then 3 and 6 of the result. The first that holds is told. */
 enum hazhendu_refusal {
     HAZHENDU_ACCEPTED = 0,
 
@@ -200,7 +230,8 @@ enum hazhendu_refusal {
     HAZHENDU_TAU_RANGE = 14,           /* tau negative, infinite or NaN                         tau */
     HAZHENDU_OUTPUT_LENGTH = 15,       /* out is not n or (p + 1) * n long                      length of out */
     HAZHENDU_VECTOR_LENGTH = 16,       /* w is not count * n long, or v not n; a step: n or
-                                          count is another than the start's                     length of w or v */
+                                          count is another than the start's; stages: start is
+                                          not n long, further short or too long                 length of w, v, start or further */
     HAZHENDU_VECTOR_NOT_FINITE = 17,   /* a number in w or v is infinite or NaN                 the number */
     HAZHENDU_TOL_RANGE = 18,           /* tol not strictly between 0 and 1                      tol */
     HAZHENDU_NO_SUBSTEPS = 19,         /* max_substeps is 0                                     0 */
@@ -235,7 +266,10 @@ enum hazhendu_refusal {
     /* a join: met behind 1 to 6 and 11 of both matrices, and before 3 and 6 of the result, whose double is the first sum not finite */
     HAZHENDU_JOIN_ROWS = 34,           /* n_a and n_b differ                                    NaN */
     HAZHENDU_JOIN_COLUMN_ORDER = 35,   /* columns in a row of either do not rise strictly       NaN */
-    HAZHENDU_JOIN_LENGTH = 36          /* starts, cols or vals is shorter than the result       NaN */
+    HAZHENDU_JOIN_LENGTH = 36,         /* starts, cols or vals is shorter than the result       NaN */
+
+    /* a soak in stages: met directly behind 1 to 11 */
+    HAZHENDU_STAGE_COUNT = 37          /* not 1 to 64 stages, or the lists differ in length     NaN */
 };
 
 /* ---- working memory, in doubles. 0 for jobs that are refused before the memory is looked at (n, entries, count or m too high). */
@@ -275,6 +309,21 @@ static inline size_t hazhendu_krylov_work(size_t n, size_t entries, bool with_ma
     if (!hazhendu_sizes_allowed(n, entries, count) || M > HAZHENDU_MAX_DIMENSION)
         return 0;
     return n + (M + 3) * (n + count - 1) + (M + 2) * (M + 2) + (with_mass ? entries : 0);
+}
+
+/* For hazhendu_stages, with a number for every stage in counts, solvers and ms: the largest of the stages' needs. */
+static inline size_t hazhendu_stages_work(
+    size_t n, size_t entries, bool with_mass, size_t stages, const size_t *counts, const uint32_t *solvers, const size_t *ms)
+{
+    size_t largest = 0;
+    if (stages > HAZHENDU_MAX_STAGES)
+        return 0;
+    for (size_t i = 0; i < stages; i++) {
+        size_t need = solvers[i] == 0 ? hazhendu_taylor_work(n, entries, with_mass, counts[i])
+                                      : hazhendu_krylov_work(n, entries, with_mass, counts[i], ms[i]);
+        largest = need > largest ? need : largest;
+    }
+    return largest;
 }
 
 /* The scaled field of a paused run. */
@@ -440,6 +489,26 @@ uint32_t hazhendu_krylov_step(
     double *numbers, size_t numbers_len,
     size_t *counts, size_t counts_len,
     double *value);
+
+/* ---- a soak in stages: up to 64 combinations in a row. A schedule of one stage is hazhendu_combine. */
+uint32_t hazhendu_stages(
+    size_t n,
+    const uint32_t *starts, size_t starts_len,
+    const uint32_t *cols, size_t cols_len,
+    const double *vals, size_t vals_len,
+    bool with_mass, const double *mass, size_t mass_len,
+    const double *taus, size_t taus_len,
+    const size_t *counts, size_t counts_len,
+    const uint32_t *solvers, size_t solvers_len,
+    const uint32_t *degrees, size_t degrees_len,
+    const double *tols, size_t tols_len,
+    const size_t *ms, size_t ms_len,
+    const size_t *limits, size_t limits_len,
+    const double *start, size_t start_len,
+    const double *further, size_t further_len,
+    double *out, size_t out_len,
+    double *work, size_t work_len,
+    double *value, uint32_t *stage, uint64_t *applications, uint64_t *substeps, uint64_t *rejected);
 
 /* ---- the transposed matrix, over lent buffers. Working memory is needed as for the call on the matrix itself. */
 
@@ -666,6 +735,61 @@ static inline uint32_t hazhendu_soak_transposed(const struct hazhendu_matrix *a,
         number = hazhendu_phi_combination_transposed(HAZHENDU_MATRIX(a), HAZHENDU_BUFFERS(a, t), tau, o->degree, count, w, count * a->n, out, a->n,
             work, work_len, &report->value, &report->s, &report->plan_m, &report->applications);
     }
+    hazhendu_leave(saved);
+    return number;
+}
+
+/* One stage of a schedule: its time, how many vectors it has with w_0, and its solver. */
+struct hazhendu_stage {
+    double tau;
+    size_t count;
+    struct hazhendu_options options;
+};
+
+/* What a schedule told: the refusal's double and stage, or the sums over its stages. */
+struct hazhendu_staged {
+    double value;
+    uint32_t stage;
+    uint64_t applications, substeps, rejected;
+};
+
+/* Working memory, in doubles, of a schedule. */
+static inline size_t hazhendu_soak_stages_work(const struct hazhendu_matrix *a, const struct hazhendu_stage *stages, size_t length)
+{
+    size_t largest = 0;
+    for (size_t i = 0; i < length && length <= HAZHENDU_MAX_STAGES; i++) {
+        size_t need = hazhendu_work(a, stages[i].count, &stages[i].options);
+        largest = need > largest ? need : largest;
+    }
+    return largest;
+}
+
+/* The stages in order from start, which is n long; further holds the vectors from w_1 on of all stages, (count - 1) * n of each, and may be
+   null if there are none. */
+static inline uint32_t hazhendu_soak_stages(const struct hazhendu_matrix *a, const struct hazhendu_stage *stages, size_t length, const double *start,
+    const double *further, double *out, double *work, size_t work_len, struct hazhendu_staged *told)
+{
+    double taus[HAZHENDU_MAX_STAGES + 1], tols[HAZHENDU_MAX_STAGES + 1];
+    size_t counts[HAZHENDU_MAX_STAGES + 1], ms[HAZHENDU_MAX_STAGES + 1], limits[HAZHENDU_MAX_STAGES + 1];
+    uint32_t solvers[HAZHENDU_MAX_STAGES + 1], degrees[HAZHENDU_MAX_STAGES + 1], saved, number;
+    size_t most = HAZHENDU_MAX_STAGES + 1, used = length < most ? length : most, further_len = 0; /* one too many is enough to be refused */
+    bool counted = true; /* up to the first stage that 12 refuses */
+    for (size_t i = 0; i < used; i++) {
+        const struct hazhendu_options *o = &stages[i].options;
+        taus[i] = stages[i].tau;
+        counts[i] = stages[i].count;
+        solvers[i] = o->krylov;
+        degrees[i] = o->degree;
+        tols[i] = o->tol;
+        ms[i] = o->m;
+        limits[i] = o->max_substeps;
+        counted = counted && counts[i] >= 1 && counts[i] <= HAZHENDU_MAX_VECTORS;
+        further_len += counted ? (counts[i] - 1) * a->n : 0;
+    }
+    saved = hazhendu_enter();
+    number = hazhendu_stages(HAZHENDU_MATRIX(a), taus, used, counts, used, solvers, used, degrees, used, tols, used, ms, used, limits, used, start,
+        a->n, hazhendu_doubles(further), further_len, out, a->n, work, work_len, &told->value, &told->stage, &told->applications, &told->substeps,
+        &told->rejected);
     hazhendu_leave(saved);
     return number;
 }

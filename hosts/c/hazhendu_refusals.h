@@ -78,6 +78,8 @@ static inline const char *hazhendu_refusal_text(uint32_t number)
         return "columns in a row do not rise strictly";
     case 36:
         return "a slice for the result of a join is too short";
+    case 37:
+        return "the schedule does not have 1 to 64 stages, or its lists differ in length";
     default:
         return "a number that the library does not have";
     }
@@ -157,6 +159,8 @@ static inline const char *hazhendu_refusal_value(uint32_t number)
         return "";
     case 36:
         return "";
+    case 37:
+        return "";
     default:
         return "";
     }
@@ -199,7 +203,7 @@ static inline const char *hazhendu_refusal_change(uint32_t number)
     case 15:
         return "lend n numbers, for a batch (p + 1) * n";
     case 16:
-        return "give n numbers in each vector for a matrix of n rows, and to a paused run as many rows and vectors as at its start";
+        return "give n numbers in each vector for a matrix of n rows; to a paused run rows and vectors as at its start, to stages just those they count";
     case 17:
         return "give finite vectors";
     case 18:
@@ -236,6 +240,8 @@ static inline const char *hazhendu_refusal_change(uint32_t number)
         return "order the entries of each row by column, in barrel and mount, and add up those that repeat";
     case 36:
         return "lend n + 1 row starts, and columns and entries for every place that barrel or mount holds";
+    case 37:
+        return "give 1 to 64 stages, and a number for each stage in every list; a longer schedule goes on from the field of the one before";
     default:
         return "check that header and library belong together";
     }

@@ -80,6 +80,42 @@ static void runs(void)
     expect(hazhendu_run_estimate(&run) == value / run.numbers[HAZHENDU_RUN_NORM], "its estimate");
 }
 
+/* Three stages, one by Krylov, as three soaks in a row; and what a refused stage leaves. */
+static void staged(void)
+{
+    static const double further[2 * N] = {0.25, 0, 0.1, 0.125, 0, 0.05};
+    struct hazhendu_stage stages[HAZHENDU_MAX_STAGES + 1] = {
+        {30, 2, hazhendu_by_taylor()}, {60, 2, hazhendu_by_krylov()}, {10, 1, hazhendu_by_taylor()}};
+    struct hazhendu_report report;
+    struct hazhendu_staged told;
+    uint64_t applications = 0, substeps = 0;
+    double vectors[COUNT * N];
+    memcpy(again, w, N * sizeof *w);
+    for (size_t i = 0; i < 3; i++) {
+        memcpy(vectors, again, N * sizeof *again);
+        if (i < 2)
+            memcpy(vectors + N, further + i * N, N * sizeof *further);
+        expect(hazhendu_soak(&a, stages[i].tau, stages[i].count, vectors, &stages[i].options, again, work, WORK, &report) == 0, "a soak of its own");
+        applications += report.applications;
+        substeps += report.substeps;
+    }
+    size_t need = hazhendu_soak_stages_work(&a, stages, 3);
+    expect(need == hazhendu_work(&a, 2, &stages[1].options), "hazhendu_soak_stages_work");
+    expect(hazhendu_soak_stages(&a, stages, 3, w, further, out, work, need, &told) == 0, "hazhendu_soak_stages");
+    expect(memcmp(out, again, N * sizeof *out) == 0 && told.value == 0 && told.stage == 0, "it is three soaks in a row");
+    expect(told.applications == applications && told.substeps == substeps && told.rejected == 0, "its counts");
+
+    expect(hazhendu_soak_stages(&a, stages, 2, w, further, again, work, WORK, &told) == 0, "two stages");
+    stages[2].tau = -1;
+    expect(hazhendu_soak_stages(&a, stages, 3, w, further, out, work, WORK, &told) == HAZHENDU_TAU_RANGE, "a refusal at stage 3");
+    expect(told.value == -1 && told.stage == 3 && told.applications == 0, "what it tells");
+    expect(memcmp(out, again, N * sizeof *out) == 0, "the field of stage 2 is left");
+    stages[1].count = 5;
+    expect(hazhendu_soak_stages(&a, stages, 3, w, further, out, work, WORK, &told) == HAZHENDU_VECTOR_COUNT && told.stage == 2, "five vectors");
+    expect(hazhendu_soak_stages(&a, stages, 0, w, NULL, out, work, WORK, &told) == HAZHENDU_STAGE_COUNT && told.stage == 0, "no stage");
+    expect(hazhendu_soak_stages(&a, stages, HAZHENDU_MAX_STAGES + 1, w, NULL, out, work, WORK, &told) == HAZHENDU_STAGE_COUNT, "65 stages");
+}
+
 static void others(void)
 {
     struct hazhendu_report report;
@@ -109,6 +145,7 @@ static void in_environment(uint32_t state, const char *what)
     expect(hazhendu_soak(&a, 60, COUNT, w, &options, again, work, WORK, &report) == 0 && memcmp(again, usual, sizeof usual) == 0, what);
     others();
     runs();
+    staged();
     expect((_mm_getcsr() & ~(unsigned)HAZHENDU_EXCEPTION_FLAGS) == state, "the environment is put back");
     _mm_setcsr(before);
 }
@@ -117,6 +154,7 @@ int main(void)
 {
     soaks();
     runs();
+    staged();
     others();
     in_environment(0x5f80, "rounding up");
     in_environment(0x9fc0, "flush to zero");

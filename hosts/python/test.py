@@ -185,6 +185,86 @@ class PausedRuns(unittest.TestCase):
         self.assertTrue(never.sum() < run.moment.field.sum() < on.sum())
 
 
+class Stages(unittest.TestCase):
+    def setUp(self):
+        self.a, self.mass = plate(6)
+        self.start, self.heat, self.rise = np.cos(np.arange(36.0)), np.sin(np.arange(36.0)), 0.01 * np.ones(36)
+        self.schedule = [
+            hazhendu.Stage(3.0, [self.heat, self.rise]),
+            hazhendu.Stage(20.0, [0.5 * self.heat], "krylov", tol=1e-8, m=6, degree=99),
+            hazhendu.Stage(1.0, degree=12, tol=7.0, limit=0),
+        ]
+
+    def in_a_row(self, schedule):
+        """The fields after each stage as soaks of their own, and their reports."""
+        field, done = self.start, []
+        for stage in schedule:
+            options = {"degree": stage.degree} if stage.solver == "taylor" else {"tol": stage.tol, "m": stage.m, "limit": stage.limit}
+            soaked = hazhendu.soak(self.a, stage.tau, [field, *stage.further], self.mass, solver=stage.solver, **options)
+            field = soaked.field
+            done.append(soaked)
+        return done
+
+    def refused(self, schedule, start=None, a=None):
+        with self.assertRaises(hazhendu.Refused) as caught:
+            hazhendu.stages(self.a if a is None else a, schedule, self.start if start is None else start, None if a is not None else self.mass)
+        return caught.exception
+
+    def test_stages_are_soaks_in_a_row(self):
+        single = self.in_a_row(self.schedule)
+        for length in (1, 2, 3):
+            staged = hazhendu.stages(self.a, self.schedule[:length], self.start, self.mass)
+            np.testing.assert_array_equal(staged.field, single[length - 1].field)
+            reports = [soaked.report for soaked in single[:length]]
+            self.assertEqual(staged.applications, sum(report.applications for report in reports))
+            self.assertEqual(staged.substeps, sum(getattr(report, "substeps", 0) for report in reports))
+            self.assertEqual(staged.rejected, sum(getattr(report, "rejected", 0) for report in reports))
+        self.assertGreater(staged.substeps, 5)
+
+    def test_refusals_name_the_stage_and_leave_a_field(self):
+        first = self.in_a_row(self.schedule[:1])[0].field
+        wrong = (
+            (hazhendu.Stage(-1.0), 14, -1.0),
+            (hazhendu.Stage(1.0, [self.heat] * 4), 12, 5.0),
+            (hazhendu.Stage(1.0, [np.full(36, np.inf)]), 17, np.inf),
+            (hazhendu.Stage(1.0, [self.heat[:35], np.ones(37)]), 16, 72.0),
+            (hazhendu.Stage(1.0, degree=31), 33, None),
+            (hazhendu.Stage(1.0, (), "krylov", tol=1.0), 18, 1.0),
+        )
+        for stage, number, value in wrong:
+            refused = self.refused([self.schedule[0], stage, self.schedule[2]])
+            self.assertEqual((refused.number, refused.stage), (number, 2))
+            self.assertTrue(value is None or refused.value == value)
+            np.testing.assert_array_equal(refused.state, first)
+            self.assertIn(f"refused ({number}) at stage 2: ", str(refused))
+            refused = self.refused([stage])
+            self.assertEqual((refused.number, refused.stage, refused.state), (number, 1, None))
+        again = pickle.loads(pickle.dumps(refused))
+        self.assertEqual((again.stage, str(again)), (1, str(refused)))
+
+    def test_the_limit_in_a_stage_leaves_its_state(self):
+        first = self.in_a_row(self.schedule[:1])[0].field
+        refused = self.refused([self.schedule[0], hazhendu.Stage(300.0, [self.heat], "krylov", m=2, limit=3)])
+        self.assertEqual((refused.number, refused.stage), (27, 2))
+        with self.assertRaises(hazhendu.Refused) as caught:
+            hazhendu.soak(self.a, 300.0, [first, self.heat], self.mass, solver="krylov", m=2, limit=3)
+        np.testing.assert_array_equal(refused.state, caught.exception.state)
+        self.assertEqual(refused.value, caught.exception.value)
+
+    def test_how_many_stages_and_which_start(self):
+        one = hazhendu.Stage(0.1)
+        for length in (0, 65, 70):
+            refused = self.refused([one] * length)
+            self.assertEqual((refused.number, refused.stage, refused.state), (37, 0, None))
+        self.assertEqual(hazhendu.stages(self.a, [one] * 64, self.start).field.shape, (36,))
+        refused = self.refused(self.schedule, self.start[:35])
+        self.assertEqual((refused.number, refused.value, refused.stage), (16, 35.0, 1))
+        self.assertEqual(self.refused([], a=np.zeros((0, 0))).number, 1)
+        for stage, error in ((hazhendu.Stage(1.0, (), "auto"), ValueError), (hazhendu.Stage(1.0, self.heat), TypeError)):
+            with self.assertRaises(error):
+                hazhendu.stages(self.a, [stage], self.start)
+
+
 class Refusals(unittest.TestCase):
     A = np.array([[0.5, -0.5], [-0.5, 0.6]])
 

@@ -1,10 +1,10 @@
-//! Links the proved code, target/staticlib/libexports.a, libexports_transposed.a and libexports_paused.a; hosts/library writes what is
-//! missing or older than its sources.
+//! Links the proved code, target/staticlib/libexports.a, libexports_transposed.a, libexports_paused.a and libexports_stages.a;
+//! hosts/library writes what is missing or older than its sources.
 
 use std::path::Path;
 use std::process::{exit, Command};
 
-const PROVED: [&str; 3] = ["exports", "exports_transposed", "exports_paused"];
+const PROVED: [&str; 4] = ["exports", "exports_transposed", "exports_paused", "exports_stages"];
 
 fn main() {
     let root = Path::new(env!("CARGO_MANIFEST_DIR")).join("../..");

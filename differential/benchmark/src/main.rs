@@ -6,6 +6,7 @@ mod join;
 mod memory;
 mod plate;
 mod scipy;
+mod stages;
 mod steps;
 mod transpose;
 
@@ -40,8 +41,9 @@ fn main() {
         Some("scipy") => scipy::table(),
         Some("join") => join::table(),
         Some("steps") => steps::table(),
+        Some("stages") => stages::table(),
         Some("transpose") => transpose::table(),
-        _ => eprintln!("usage: benchmark [rust [CALL [ROWS]]|scipy|join|steps|transpose]"),
+        _ => eprintln!("usage: benchmark [rust [CALL [ROWS]]|scipy|join|steps|stages|transpose]"),
     }
 }
 

@@ -40,7 +40,7 @@ fn by_steps(job: &Job, memory: &mut Memory) -> usize {
 }
 
 /// Seconds of one call.
-fn timed(call: impl FnOnce()) -> f64 {
+pub fn timed(call: impl FnOnce()) -> f64 {
     let begin = Instant::now();
     call();
     begin.elapsed().as_secs_f64()

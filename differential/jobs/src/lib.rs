@@ -23,6 +23,7 @@
 //! holds its mark, and `*k` after one for k equal ones. The buffers stand at the end of a transposed job's answer.
 
 pub mod paused;
+pub mod stages;
 
 use std::num::ParseIntError;
 use std::str::FromStr;

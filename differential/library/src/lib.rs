@@ -1,10 +1,11 @@
-//! The proved library (crates/exports, crates/exports_transposed, crates/exports_paused, crates/exports_bytes): its exported
-//! functions, and a job put to them.
+//! The proved library (crates/exports, crates/exports_transposed, crates/exports_paused, crates/exports_stages, crates/exports_bytes):
+//! its exported functions, and a job put to them.
 
 #[cfg(feature = "bytes")]
 mod bytes;
 pub mod paused;
 mod slices;
+pub mod stages;
 mod transposed;
 
 #[cfg(feature = "bytes")]

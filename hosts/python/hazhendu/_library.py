@@ -39,21 +39,25 @@ class Refused(Exception):
     value     the double reported with it, value_is says what it is (None where it tells nothing)
     wrong     what is wrong
     change    what to change
-    state     after 27 to 29 the field after the last accepted substep, which is not the field at tau; else None
+    state     after 27 to 29 the field after the last accepted substep, which is not the field at tau; of stages also the field of the stage
+              before the one refused; else None
+    stage     of stages which one, from 1, 0 where none was reached; else None
     """
 
-    def __init__(self, number, value, state=None):
+    def __init__(self, number, value, state=None, stage=None):
         self.number = number
         self.value = value
         self.value_is = _text("value", number) or None
         self.wrong = _text("text", number)
         self.change = _text("change", number)
         self.state = state
+        self.stage = stage
         told = f" ({self.value_is}: {value!r})" if self.value_is else ""
-        super().__init__(f"refused ({number}): {self.wrong}{told}; {self.change}")
+        place = f" at stage {stage}" if stage else ""
+        super().__init__(f"refused ({number}){place}: {self.wrong}{told}; {self.change}")
 
     def __reduce__(self):
-        return Refused, (self.number, self.value, self.state)
+        return Refused, (self.number, self.value, self.state, self.stage)
 
 
 @contextmanager

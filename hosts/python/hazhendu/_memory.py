@@ -6,7 +6,7 @@ import operator
 import numpy as np
 from scipy import sparse
 
-MAX_ROWS, MAX_ENTRIES, MAX_VECTORS, MAX_INDEX, MAX_DIMENSION, MAX_DEGREE = 1_000_000, 16_777_216, 4, 3, 128, 30
+MAX_ROWS, MAX_ENTRIES, MAX_VECTORS, MAX_INDEX, MAX_DIMENSION, MAX_DEGREE, MAX_STAGES = 1_000_000, 16_777_216, 4, 3, 128, 30, 64
 
 size = ctypes.c_size_t
 

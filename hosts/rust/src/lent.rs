@@ -3,11 +3,12 @@
 //! A refusal from 1 to 26, by 30 or by 33 leaves `out` and `work` unchanged. After 27 to 29 `out` holds the state after the last accepted
 //! substep. After an accepted job, and after 27 to 29, the needed length of `work` holds +0. [`crate::sizes`] says how long
 //! `work` has to be. A refused join changes nothing. [`transposed`] says what the buffers for a transposed matrix hold, [`paused`] what
-//! becomes of a run in steps.
+//! becomes of a run in steps, [`stages`] what a soak in stages leaves.
 
 use crate::{environment, sys, Cost, KrylovOptions, Largest, Matrix, Plan, Refusal, Report, Solver, TaylorOptions};
 
 pub mod paused;
+pub mod stages;
 pub mod transposed;
 
 /// 0 is no refusal.

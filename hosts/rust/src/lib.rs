@@ -19,7 +19,8 @@
 //! Every input gets a result or a numbered [`Refusal`]; whether a matrix or a job is valid is the library's to say, and
 //! nothing here panics. The functions here allocate output and working memory; those of [`lent`] work on memory that the
 //! caller lends. A call runs to its end, and its thread hears of nothing in between; the process can be stopped at any time. [`Paused`] is a
-//! Krylov run that is looked at between its substeps. [`matrix_market`] and [`vectors`] read and write files.
+//! Krylov run that is looked at between its substeps, [`stages`](stages()) a schedule of soaks over one matrix. [`matrix_market`] and
+//! [`vectors`] read and write files.
 
 #![deny(unsafe_op_in_unsafe_fn)]
 
@@ -30,6 +31,7 @@ pub mod matrix_market;
 mod paused;
 mod refusal;
 pub mod sizes;
+mod stages;
 pub mod sys;
 pub mod transposed;
 mod triplets;
@@ -38,6 +40,7 @@ pub mod vectors;
 pub use lines::ReadError;
 pub use paused::Paused;
 pub use refusal::{Error, Refusal};
+pub use stages::{stages, Stage, StageError, Staged, StagedReport};
 pub use triplets::Triplets;
 
 /// A sparse matrix by rows, as it is handed to the library, and a mass if there is one.
@@ -208,12 +211,8 @@ pub fn phi_combination_krylov(a: &Matrix, tau: f64, count: usize, w: &[f64], opt
 
 /// The sum over k of tau^k phi_k(tau G) w_k, by either solver.
 pub fn combine(solver: Solver, a: &Matrix, tau: f64, count: usize, w: &[f64]) -> Result<Soaked<Cost>, Error> {
-    let (n, entries, with_mass) = (a.n, a.entries.len(), a.mass.is_some());
-    let work = match solver {
-        Solver::Taylor(_) => sizes::taylor_work(n, entries, with_mass, count),
-        Solver::Krylov(options) => sizes::krylov_work(n, entries, with_mass, count, options.m),
-    };
-    with_memory(sizes::output(n, 0), work, |out, work| lent::combine(solver, a, tau, count, w, out, work))
+    let work = sizes::work(a.n, a.entries.len(), a.mass.is_some(), count, solver);
+    with_memory(sizes::output(a.n, 0), work, |out, work| lent::combine(solver, a, tau, count, w, out, work))
 }
 
 /// The checks of the matrix alone, 1 to 11; then its norm and the first row that has it.

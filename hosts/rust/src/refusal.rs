@@ -23,7 +23,7 @@ const fn meaning(number: u32, wrong: &'static str, value: &'static str, change: 
 }
 
 /// In the order of their numbers; 23 is not used.
-const MEANINGS: [Meaning; 34] = [
+const MEANINGS: [Meaning; 35] = [
     meaning(
         1,
         "the matrix has no rows, or there are not n + 1 row starts",
@@ -73,7 +73,7 @@ const MEANINGS: [Meaning; 34] = [
         16,
         "the vectors have the wrong length",
         "their length",
-        "give n numbers in each vector for a matrix of n rows, and to a paused run as many rows and vectors as at its start",
+        "give n numbers in each vector for a matrix of n rows; to a paused run rows and vectors as at its start, to stages just those they count",
     ),
     meaning(17, "a number in a vector is infinite or not a number", "the number", "give finite vectors"),
     meaning(18, "tol is not strictly between 0 and 1", "tol", "take 1e-10, say"),
@@ -157,6 +157,12 @@ const MEANINGS: [Meaning; 34] = [
         "a slice for the result of a join is too short",
         "",
         "lend n + 1 row starts, and columns and entries for every place that barrel or mount holds",
+    ),
+    meaning(
+        37,
+        "the schedule does not have 1 to 64 stages, or its lists differ in length",
+        "",
+        "give 1 to 64 stages, and a number for each stage in every list; a longer schedule goes on from the field of the one before",
     ),
 ];
 

@@ -4,6 +4,9 @@
 //! A job beyond a limit of rows, entries, vectors, index or dimension is refused (3, 12, 13 or 20) before the memory is looked
 //! at, so that it needs none: these functions give 0 for it, and no sum here overflows.
 
+use crate::lent::stages::Stage;
+use crate::Solver;
+
 pub const MAX_ROWS: usize = 1_000_000;
 pub const MAX_ENTRIES: usize = 16_777_216;
 pub const MAX_VECTORS: usize = 4;
@@ -11,6 +14,7 @@ pub const MAX_INDEX: usize = 3;
 pub const MAX_DIMENSION: usize = 128;
 pub const MAX_SUBSTEPS: usize = 1_000_000;
 pub const MAX_DEGREE: u32 = 30;
+pub const MAX_STAGES: usize = 64;
 
 fn allowed(n: usize, entries: usize, count: usize) -> bool {
     n <= MAX_ROWS && entries <= MAX_ENTRIES && (1..=MAX_VECTORS).contains(&count)
@@ -41,6 +45,22 @@ pub fn krylov_work(n: usize, entries: usize, with_mass: bool, count: usize, m: u
         return 0;
     }
     n + (columns + 3) * (n + count - 1) + (columns + 2) * (columns + 2) + quotients(entries, with_mass)
+}
+
+/// Working memory of one combination by this solver.
+pub fn work(n: usize, entries: usize, with_mass: bool, count: usize, solver: Solver) -> usize {
+    match solver {
+        Solver::Taylor(_) => taylor_work(n, entries, with_mass, count),
+        Solver::Krylov(options) => krylov_work(n, entries, with_mass, count, options.m),
+    }
+}
+
+/// Working memory of a schedule: the largest of its stages' needs. Beyond 64 stages none is needed.
+pub fn stages_work(n: usize, entries: usize, with_mass: bool, schedule: &[Stage]) -> usize {
+    if schedule.len() > MAX_STAGES {
+        return 0;
+    }
+    schedule.iter().map(|stage| work(n, entries, with_mass, stage.count, stage.solver)).max().unwrap_or(0)
 }
 
 /// The scaled field of a paused run.

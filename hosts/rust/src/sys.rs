@@ -46,6 +46,11 @@ exported!(hazhendu_krylov_step, tau: f64, count: usize, w: *const f64, w_len: us
     out_len: usize, work: *mut f64, work_len: usize, field: *mut f64, field_len: usize, numbers: *mut f64, numbers_len: usize,
     counts: *mut usize, counts_len: usize, value: *mut f64);
 
+exported!(hazhendu_stages, taus: *const f64, taus_len: usize, counts: *const usize, counts_len: usize, solvers: *const u32, solvers_len: usize,
+    degrees: *const u32, degrees_len: usize, tols: *const f64, tols_len: usize, ms: *const usize, ms_len: usize, limits: *const usize,
+    limits_len: usize, start: *const f64, start_len: usize, further: *const f64, further_len: usize, out: *mut f64, out_len: usize,
+    work: *mut f64, work_len: usize, value: *mut f64, stage: *mut u32, applications: *mut u64, substeps: *mut u64, rejected: *mut u64);
+
 macro_rules! exported_transposed {
     ($name:ident, $($parameter:ident: $type:ty),+) => {
         exported!($name, t_starts: *mut u32, t_starts_len: usize, t_cols: *mut u32, t_cols_len: usize, t_vals: *mut f64, t_vals_len: usize,

@@ -80,11 +80,7 @@ pub fn phi_combination_krylov(a: &Matrix, tau: f64, count: usize, w: &[f64], opt
 
 /// As [`crate::combine`].
 pub fn combine(solver: Solver, a: &Matrix, tau: f64, count: usize, w: &[f64]) -> Result<Soaked<Cost>, Error> {
-    let (n, entries, with_mass) = (a.n, a.entries.len(), a.mass.is_some());
-    let work = match solver {
-        Solver::Taylor(_) => sizes::taylor_work(n, entries, with_mass, count),
-        Solver::Krylov(options) => sizes::krylov_work(n, entries, with_mass, count, options.m),
-    };
+    let work = sizes::work(a.n, a.entries.len(), a.mass.is_some(), count, solver);
     let mut t = Owned::new(a)?;
-    with_memory(sizes::output(n, 0), work, |out, work| lent::combine(solver, a, t.lend(), tau, count, w, out, work))
+    with_memory(sizes::output(a.n, 0), work, |out, work| lent::combine(solver, a, t.lend(), tau, count, w, out, work))
 }

@@ -1,6 +1,7 @@
 //! No combination of lengths and sizes panics, and none allocates beyond the library's limits.
 
-use hazhendu::{check, combine, join, phi_action, phi_action_batched, sizes, Error, KrylovOptions, Matrix, Paused, Solver, TaylorOptions};
+use hazhendu::{check, combine, join, phi_action, phi_action_batched, sizes, stages};
+use hazhendu::{Error, KrylovOptions, Matrix, Paused, Solver, Stage, StageError, TaylorOptions};
 
 const ODD: [usize; 10] = [0, 1, 2, 3, 5, 129, 1_000_001, usize::MAX / 8, usize::MAX - 1, usize::MAX];
 
@@ -11,6 +12,13 @@ fn told<T>(answer: Result<T, Error>) {
             assert!((1..=29).contains(&refusal.number) && refusal.number != 23 || [34, 35].contains(&refusal.number))
         }
         Err(Error::OutOfMemory { doubles }) => panic!("{doubles} doubles asked for"),
+    }
+}
+
+fn plain(error: StageError) -> Error {
+    match error {
+        StageError::Refused { refusal, field, .. } => Error::Refused { refusal, state: field },
+        StageError::OutOfMemory { doubles } => Error::OutOfMemory { doubles },
     }
 }
 
@@ -32,6 +40,8 @@ fn every_odd_size_is_answered() {
                         told(phi_action_batched(&a, 1.0, count, &numbers[..len], TaylorOptions::default()));
                         let options = KrylovOptions { tol: 1e-6, m: count, max_substeps: n };
                         told(combine(Solver::Krylov(options), &a, 1.0, len, &numbers[..len]));
+                        let stage = Stage { tau: 1.0, further: &[&numbers[..len]], solver: Solver::Krylov(options) };
+                        told(stages(&a, &[stage; 2], &numbers[..len]).map_err(plain));
                         told(Paused::start(&a, 1.0, count, &numbers[..len], KrylovOptions { m: len, ..options }));
                     }
                 }

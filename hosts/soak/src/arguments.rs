@@ -8,6 +8,7 @@ use crate::join::Pair;
 use crate::model::Files;
 use crate::report;
 use crate::sink::is_standard_output;
+use crate::stages;
 use crate::steps::Tightening;
 use hazhendu::sizes::MAX_DEGREE;
 use hazhendu::{KrylovOptions, Solver, TaylorOptions};
@@ -23,6 +24,7 @@ pub enum Command {
     Version,
     Check(Files),
     Join(Pair),
+    Stages(Box<stages::Request>),
     Soak(Box<Request>),
 }
 
@@ -49,6 +51,19 @@ pub struct Drawing {
     pub title: Option<String>,
 }
 
+impl Drawing {
+    /// What is said of a picture must have a picture to be said of.
+    fn drawn(&self, pictures: bool, options: &str) -> Result<(), Failure> {
+        if self.outline.is_some() && self.points.is_none() {
+            return Err(Failure::Usage("--outline is for --points".into()));
+        }
+        if !pictures && *self != Drawing::default() {
+            return Err(Failure::Usage(format!("--points, --outline, --unit and --title are for {options}")));
+        }
+        Ok(())
+    }
+}
+
 impl Request {
     /// Where the state goes that a refused run leaves, never under the field's name; Taylor leaves none.
     pub fn state(&self) -> Option<PathBuf> {
@@ -59,14 +74,8 @@ impl Request {
         matches!(self.solver, Solver::Krylov(_)).then_some(name.into())
     }
 
-    /// What is said of a picture must have a picture to be said of.
     fn drawn(&self) -> Result<(), Failure> {
-        if self.drawing.outline.is_some() && self.drawing.points.is_none() {
-            return Err(Failure::Usage("--outline is for --points".into()));
-        }
-        if self.plot.is_none() && self.reports.is_empty() && self.drawing != Drawing::default() {
-            return Err(Failure::Usage("--points, --outline, --unit and --title are for --plot and --report".into()));
-        }
+        self.drawing.drawn(self.plot.is_some() || !self.reports.is_empty(), "--plot and --report")?;
         match self.reports.iter().find(|path| report::Kind::of(path).is_none()) {
             Some(path) => Err(Failure::Usage(format!("--report {}: a name that ends in .html, .json or .csv", path.display()))),
             None => Ok(()),
@@ -106,12 +115,16 @@ struct Given {
     tightenings: Vec<Tightening>,
     every: Option<usize>,
     frames: Option<PathBuf>,
+    start: Option<Source>,
+    schedule: Option<Source>,
+    every_stage: Option<PathBuf>,
 }
 
 pub fn parse(words: impl Iterator<Item = OsString>) -> Result<Command, Failure> {
     let mut words = words.skip(1).peekable();
     let check = words.next_if(|word| word == "check").is_some();
     let join = !check && words.next_if(|word| word == "join").is_some();
+    let stages = !check && !join && words.next_if(|word| word == "stages").is_some();
     let mut given = Given::default();
     while let Some(word) = words.next() {
         let text = word.to_str().unwrap_or_default();
@@ -140,6 +153,9 @@ pub fn parse(words: impl Iterator<Item = OsString>) -> Result<Command, Failure> 
     if join {
         return given.pair().map(Command::Join);
     }
+    if stages {
+        return given.stages().map(Box::new).map(Command::Stages);
+    }
     given.request().map(Box::new).map(Command::Soak)
 }
 
@@ -163,6 +179,9 @@ impl Given {
             "--tighten" => self.tightenings.push(tightening(name, value()?)?),
             "--every" => once(name, &mut self.every, read(name, value()?, "a whole number that fits")?)?,
             "--frames" => once(name, &mut self.frames, value()?.into())?,
+            "--start" => once(name, &mut self.start, Source(value()?.into()))?,
+            "--schedule" => once(name, &mut self.schedule, Source(value()?.into()))?,
+            "--every-stage" => once(name, &mut self.every_stage, value()?.into())?,
             "--solver" => once(name, &mut self.solver, read(name, value()?, "a solver")?)?,
             _ => return Err(Failure::Usage(format!("there is no option {name}"))),
         }
@@ -229,7 +248,33 @@ impl Given {
         }
     }
 
+    fn stages(mut self) -> Result<stages::Request, Failure> {
+        let transposed = self.transposed;
+        let files = self.files()?;
+        let missing = |name: &str| Failure::Usage(format!("{name} is missing"));
+        let request = stages::Request {
+            files,
+            start: self.start.take().ok_or_else(|| missing("--start"))?,
+            schedule: self.schedule.take().ok_or_else(|| missing("--schedule"))?,
+            output: self.output.take().unwrap_or_else(|| "-".into()),
+            plot: self.plot.take(),
+            drawing: std::mem::take(&mut self.drawing),
+            every_stage: self.every_stage.take(),
+        };
+        if transposed || self != Given::default() {
+            return Err(Failure::Usage(
+                "stages takes a matrix, --mass, --start, --schedule, --output, --every-stage, --plot, --points, --outline, --unit and --title".into(),
+            ));
+        }
+        request.drawing.drawn(request.plot.is_some(), "--plot")?;
+        request.guarded().check()?;
+        Ok(request)
+    }
+
     fn request(mut self) -> Result<Request, Failure> {
+        if self.start.is_some() || self.schedule.is_some() || self.every_stage.is_some() {
+            return Err(Failure::Usage("--start, --schedule and --every-stage are for soak stages".into()));
+        }
         let request = Request {
             solver: self.solver()?,
             files: self.files()?,

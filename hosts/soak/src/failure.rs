@@ -32,6 +32,12 @@ pub enum Failure {
         place: Option<String>,
         state: Option<Vec<f64>>,
     },
+    /// The same of a soak in stages; the stage from 1, 0 before any.
+    RefusedStage {
+        refusal: Refusal,
+        place: Option<String>,
+        stage: usize,
+    },
     /// The field, which is written, holds numbers that are not finite.
     NotFinite(String),
     /// Ctrl-C between two substeps; the field so far is written.
@@ -53,7 +59,7 @@ impl Failure {
             Failure::CannotWrite { .. } => 74,
             Failure::NotFinite(_) => 80,
             Failure::Stopped(_) => 81,
-            Failure::Refused { refusal, .. } => u8::try_from(refusal.number).unwrap_or(70),
+            Failure::Refused { refusal, .. } | Failure::RefusedStage { refusal, .. } => u8::try_from(refusal.number).unwrap_or(70),
         }
     }
 
@@ -73,18 +79,22 @@ impl fmt::Display for Failure {
             Failure::CannotRead { name, error } => write!(f, "soak: cannot read {name}: {error}"),
             Failure::OutOfMemory { doubles } => write!(f, "soak: no memory for {doubles} numbers"),
             Failure::CannotWrite { name, error } => write!(f, "soak: cannot write {name}: {error}"),
-            Failure::Refused { refusal, place, .. } => {
-                write!(f, "soak: refused ({}): {}", refusal.number, refusal.wrong())?;
-                if let Some(told) = refusal.told() {
-                    write!(f, "\n  {told}")?;
-                }
-                if let Some(place) = place {
-                    write!(f, "\n  where: {place}")?;
-                }
-                write!(f, "\n  what to change: {}", refusal.change())
-            }
+            Failure::Refused { refusal, place, .. } => refused(f, refusal, place, ""),
+            Failure::RefusedStage { refusal, place, stage: 0 } => refused(f, refusal, place, ""),
+            Failure::RefusedStage { refusal, place, stage } => refused(f, refusal, place, &format!(" at stage {stage}")),
         }
     }
+}
+
+fn refused(f: &mut fmt::Formatter, refusal: &Refusal, place: &Option<String>, stage: &str) -> fmt::Result {
+    write!(f, "soak: refused ({}){stage}: {}", refusal.number, refusal.wrong())?;
+    if let Some(told) = refusal.told() {
+        write!(f, "\n  {told}")?;
+    }
+    if let Some(place) = place {
+        write!(f, "\n  where: {place}")?;
+    }
+    write!(f, "\n  what to change: {}", refusal.change())
 }
 
 impl fmt::Display for Stopped {

@@ -16,8 +16,10 @@ mod plot;
 mod points;
 mod progress;
 mod report;
+mod schedule;
 mod sink;
 mod soak;
+mod stages;
 mod steps;
 mod summary;
 mod warnings;
@@ -51,6 +53,7 @@ fn run() -> Result<(), Failure> {
         Command::Version => sink::to_stdout(|to| writeln!(to, "soak {}", env!("CARGO_PKG_VERSION"))),
         Command::Check(files) => check(&files),
         Command::Join(pair) => join(&pair),
+        Command::Stages(request) => stages::run(&request),
         Command::Soak(request) => soak::run(&request),
     }
 }

@@ -3,6 +3,7 @@
 mod along;
 mod axis;
 mod colour;
+mod curves;
 pub mod geometry;
 mod map;
 mod profile;
@@ -69,6 +70,11 @@ impl Picture<'_> {
     }
 }
 
+/// Several fields over their rows in one picture, each with its name.
+pub fn curves(picture: &Picture, curves: &[(String, &[f64])]) -> String {
+    curves::draw(picture, curves)
+}
+
 /// An axis's name without its unit.
 fn bare(name: &str) -> &str {
     name.split(',').next().unwrap_or(name)
@@ -118,6 +124,21 @@ mod tests {
                 let geometry = Geometry::of_points((0..field.len()).map(place).collect());
                 pictures(field, Some(&geometry)).iter().for_each(|svg| drawable(svg));
             }
+        }
+    }
+
+    #[test]
+    fn several_fields_are_curves() {
+        let (field, infinite) = ([1.0, 2.0, 3.0], [f64::INFINITY, 1.0, f64::NAN]);
+        let summary = Summary::of(&field, None);
+        let picture =
+            Picture { title: "a < b & c".into(), quantity: "temperature", unit: "K", field: &field, summary: &summary, geometry: None };
+        for count in [0, 1, 2, 65] {
+            let curves: Vec<(String, &[f64])> =
+                (0..count).map(|i| (format!("stage {i}"), if i == 1 { &infinite[..] } else { &field })).collect();
+            let svg = super::curves(&picture, &curves);
+            drawable(&svg);
+            assert_eq!(svg.matches("stroke-linejoin").count(), count + count.min(16));
         }
     }
 

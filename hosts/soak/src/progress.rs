@@ -7,27 +7,41 @@ use std::time::{Duration, Instant};
 const BETWEEN: Duration = Duration::from_millis(100);
 
 pub struct Progress {
-    /// Whether there is a terminal to tell.
-    told: bool,
-    /// When the line was last written, and its length.
+    line: Line,
+    /// When it was last written.
     last: Option<Instant>,
-    length: usize,
 }
 
 impl Progress {
     pub fn new() -> Self {
-        Progress { told: io::stderr().is_terminal(), last: None, length: 0 }
+        Progress { line: Line::new(), last: None }
     }
 
     /// After a substep; not more often than can be read, but after the first one and the last one.
     pub fn tell(&mut self, time: f64, report: &Report, ended: bool) {
-        if self.told && (ended || self.last.map_or(true, |last| last.elapsed() >= BETWEEN)) {
-            self.write(&line(time, report));
+        if self.line.told && (ended || self.last.map_or(true, |last| last.elapsed() >= BETWEEN)) {
+            self.line.write(&line(time, report));
             self.last = Some(Instant::now());
         }
     }
+}
 
-    fn write(&mut self, line: &str) {
+/// A line on the terminal that is written over.
+pub struct Line {
+    /// Whether there is a terminal to tell.
+    told: bool,
+    length: usize,
+}
+
+impl Line {
+    pub fn new() -> Self {
+        Line { told: io::stderr().is_terminal(), length: 0 }
+    }
+
+    pub fn write(&mut self, line: &str) {
+        if !self.told {
+            return;
+        }
         let length = line.chars().count();
         let blanks = " ".repeat(self.length.saturating_sub(length));
         let back = if line.is_empty() { "\r" } else { "" };
@@ -38,7 +52,7 @@ impl Progress {
 }
 
 /// Room for what is told next.
-impl Drop for Progress {
+impl Drop for Line {
     fn drop(&mut self) {
         if self.length > 0 {
             self.write("");

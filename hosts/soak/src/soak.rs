@@ -58,7 +58,7 @@ impl Run<'_> {
         self.sinks.output.fill(|to| vectors::write(to, field))?;
         let summary = Summary::of(field, self.job.weights());
         let unit = unit(self.request);
-        let not_finite = self.not_finite(&summary, field.len());
+        let not_finite = not_finite(&summary, field.len(), self.heating.as_ref(), &self.request.files.matrix.to_string());
         let beyond = warnings::beyond(field, self.request.tau, &self.job.vectors(), unit)
             .filter(|_| not_finite.is_none() && !self.request.files.transposed);
         beyond.iter().for_each(|warning| tell(warning));
@@ -112,24 +112,6 @@ impl Run<'_> {
         frames.write(substeps, time, self.request.tau, field, picture)
     }
 
-    fn not_finite(&self, summary: &Summary, n: usize) -> Option<String> {
-        let first = summary.first_not_finite?;
-        let (place, change) = match &self.heating {
-            Some(heating) => (heating.told(&self.request.files.matrix.to_string()), heating.change()),
-            None => (
-                "no row of the matrix heats itself".into(),
-                "the units of matrix, mass, tau and vectors: the numbers grow too large on the way",
-            ),
-        };
-        Some(format!(
-            "soak: the field is not finite: {} of {n} numbers, the first in row {} ({}); it is written as the library gives it\n  where: {place}\n  \
-             what to change: {change}",
-            summary.not_finite,
-            first.row + 1,
-            shortest(first.value)
-        ))
-    }
-
     fn picture<'a>(&'a self, field: &'a [f64], summary: &'a Summary) -> Picture<'a> {
         let quantity = if self.request.files.transposed { "sensitivity" } else { "temperature" };
         Picture { title: title(self.request), quantity, unit: unit(self.request), field, summary, geometry: self.geometry.as_ref() }
@@ -147,6 +129,25 @@ impl Run<'_> {
         }
         Ok(())
     }
+}
+
+/// What is told of a field that is not finite.
+pub fn not_finite(summary: &Summary, n: usize, heating: Option<&Heating>, matrix: &str) -> Option<String> {
+    let first = summary.first_not_finite?;
+    let (place, change) = match heating {
+        Some(heating) => (heating.told(matrix), heating.change()),
+        None => (
+            "no row of the matrix heats itself".into(),
+            "the units of matrix, mass, tau and vectors: the numbers grow too large on the way",
+        ),
+    };
+    Some(format!(
+        "soak: the field is not finite: {} of {n} numbers, the first in row {} ({}); it is written as the library gives it\n  where: {place}\n  \
+         what to change: {change}",
+        summary.not_finite,
+        first.row + 1,
+        shortest(first.value)
+    ))
 }
 
 /// Where a soak writes, each tried before the run.

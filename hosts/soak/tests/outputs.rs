@@ -220,6 +220,39 @@ fn a_run_that_ctrl_c_stops_leaves_a_paused_state() {
 }
 
 #[test]
+fn every_stage_has_its_field_and_its_curve() {
+    let (fields, plot, one) = (folder("every-stage"), scratch("stages.svg"), scratch("one-call.txt"));
+    fs::remove_dir_all(&fields).unwrap();
+    let schedule = "stages rod.mtx --mass mass.txt --start start.txt --schedule stages.csv";
+    assert!(run(&format!("{schedule} --output {}", one.display())).status.success());
+    let words = format!("{schedule} --every-stage {} --plot {} --output -", fields.display(), plot.display());
+    let output = run(&words);
+    assert!(output.status.success());
+    let mut names = listed(&fields);
+    names.sort();
+    assert_eq!(names, ["stage-01.txt", "stage-02.txt", "stage-03.txt"]);
+    let field = |i: usize| fs::read_to_string(fields.join(format!("stage-0{i}.txt"))).unwrap();
+    // One call for each stage, to the bits of the one call for all.
+    let last = fs::read_to_string(&one).unwrap();
+    assert_eq!(field(3), format!("# the field after stage 3 (cool-down), tau 30\n{last}"));
+    assert_eq!(String::from_utf8_lossy(&output.stdout), last);
+    // The first stage is a soak of its own, and its field is w_0 of the second.
+    let soaked = run("rod.mtx --mass mass.txt --tau 60 --vector start.txt --vector heating.txt");
+    assert_eq!(field(1), format!("# the field after stage 1 (warm-up), tau 60\n{}", String::from_utf8_lossy(&soaked.stdout)));
+    let first = fields.join("stage-01.txt");
+    let next = format!("rod.mtx --mass mass.txt --tau 600 --vector {} --vector half.txt --vector zero.txt", first.display());
+    let soaked = run(&format!("{next} --solver krylov --m 4 --tol 1e-8"));
+    assert_eq!(field(2), format!("# the field after stage 2 (hold), tau 600\n{}", String::from_utf8_lossy(&soaked.stdout)));
+    let svg = fs::read_to_string(&plot).unwrap();
+    for name in ["start", "stage 1 (warm-up)", "stage 2 (hold)", "stage 3 (cool-down)"] {
+        assert!(svg.contains(&format!(">{name}</text>")), "{name}");
+    }
+    // The folder is not empty any more.
+    let again = run(&words);
+    assert!(again.status.code() == Some(74) && String::from_utf8_lossy(&again.stderr).contains("is not empty"));
+}
+
+#[test]
 fn a_plot_goes_to_the_standard_output() {
     let field = scratch("beside-plot.txt");
     let output = run(&format!("integer.mtx --tau 1 --vector two.txt --output {} --plot -", field.display()));

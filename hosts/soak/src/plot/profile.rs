@@ -5,7 +5,7 @@ use super::svg::{Anchor, Svg};
 use super::Picture;
 use std::fmt::Write;
 
-const FRAME: Frame = Frame { left: 90.0, right: 740.0, top: 64.0, bottom: 340.0 };
+pub const FRAME: Frame = Frame { left: 90.0, right: 740.0, top: 64.0, bottom: 340.0 };
 /// Points that the curve has at most, two for each column of the picture.
 const COLUMNS: usize = 640;
 
@@ -53,7 +53,7 @@ fn gaps(svg: &mut Svg, field: &[f64], rows: &Scale) {
 }
 
 /// Of many values those of a column of the picture are shown by the least and the highest. What is not finite leaves a gap.
-fn curve(field: &[f64], rows: &Scale, scale: &Scale) -> String {
+pub fn curve(field: &[f64], rows: &Scale, scale: &Scale) -> String {
     let mut path = String::new();
     let mut pen = 'M';
     for (row, values) in blocks(field) {
