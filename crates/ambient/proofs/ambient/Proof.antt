@@ -1,128 +1,134 @@
 -- `ambient::ambient` meets its contract. Assumes nothing.
 use borrow.Author.Needs.{needs}
+use native.Mathlib.Omega.{arith}
+use mathlib.Core.Path.{_≡_, refl, sym, ap, _∙_}
+use mathlib.Core.List.{_++_}
+use Prim.Native.Nat.{_≤_}
+use lib.ListN.{length}
+use Rattle.checks.specs.First.{first}
+use Rattle.checks.specs.declared.Checked.{Checked}
+use Rattle.checks.specs.declared.Checked.the-variants.{Sound}
+use Rattle.checks.proofs.First.{sound-append}
+use Rattle.checks.proofs.First as checks
+use Rattle.general_operator.specs.Csr.{Csr, csr}
+use Rattle.generator_action.specs.Mass.{Mass, given}
+use Rattle.generator_action.specs.Generator.{forward}
+use Rattle.generator_action.proofs.Answered.{passed-up, refusal-told, norm-told, passed}
+use Rattle.ambient_checks.specs.Log.{Log, Places, field-checks, log-checks}
+use Rattle.ambient_checks.specs.Inner.{log-of, places}
+use Rattle.ambient_checks.proofs.Checks.{Logged, log-known}
+use Rattle.ambient.specs.Ambient.{ambient-checks}
+use Rattle.ambient.proofs.Whole.{checks-told, matrix-refused, ambient-refused, ambient-is, logs-known}
 use Rattle.ambient.proofs.ambient.Statement.{statement}
 use Rattle.ambient.proofs.ambient.Tie as tie
 
--- src/rt:217:9
-check-generator-requires : tie.Need-check-generator-requires
-check-generator-requires c κs = search needs
+-- the matrix, the mass, the log and the slices' lengths at the function's entry
+abbrev matrix : tie.Start → Csr
+matrix s = csr (s .args .n) (s .args .starts .now) (s .args .cols .now) (s .args .vals .now)
 
--- src/rt:218:28
-enum-known-matrix : tie.Need-enum-known-matrix
-enum-known-matrix c = search needs
+abbrev masses : tie.Start → Mass
+masses s = given (s .args .with-mass) (s .args .mass .now)
 
--- src/rt:220:13
-enum-told : tie.Need-enum-told
-enum-told c = search needs
+abbrev logs : tie.Start → Log
+logs s = log-of (s .args .durations .now) (s .args .levels .now)
 
--- src/rt:220:13
-number-requires : tie.Need-number-requires
-number-requires c κs = search needs
+abbrev long : tie.Start → Places
+long s = places (length (s .args .temperatures .now)) (length (s .args .largest .now)) (length (s .args .smallest .now))
 
--- src/rt:221:13
-value-requires : tie.Need-value-requires
-value-requires c κs = search needs
-
--- src/rt:219:9
 returns : tie.Need-returns
-returns c = ?
+returns c =
+    let g = c .before .before .before .before in
+    let s = g .before .before .before .before .before .before .before .before .before .before .before .before .before .before in
+    let a = s .args in
+    let refusal = passed-up (c .before .before .enum-told .given .1) (c .before .number .ensures) (c .value .ensures) in
+    let told = refusal-told (matrix s) (masses s) (g .check-generator .ensures) refusal in
+    ambient-refused (forward (matrix s) (masses s)) (logs s) (a .field .now) (a .load .now) (a .window) (a .node) (a .out .now) (a .work .now) (a .temperatures .now) (a .largest .now) (a .smallest .now)
+    (matrix-refused (matrix s) (masses s) (logs s) (a .field .now) (a .load .now) (a .window) (a .node) (length (a .out .now)) (long s) told)
+    refl
 
--- src/rt:225:9
-check-fields-requires : tie.Need-check-fields-requires
-check-fields-requires c κs = search needs
+-- the checks behind those of the matrix
+module _ (z : tie.After-and-then) where
+  abbrev s : tie.Start
+  s = z .before .before .before .before .before .before .before .before .before .before .before .before .before .before .before .before .before .before .before .before
 
--- src/rt:226:9
-check-log-requires : tie.Need-check-log-requires
-check-log-requires c κs = search needs
+  told : z .and-then .result ≡ first (field-checks (s .args .n) (s .args .field .now) (s .args .load .now) (length (s .args .out .now)) ++ log-checks (s .args .n) (logs s) (s .args .window) (s .args .node) (long s))
+  told = z .and-then .ensures _ _ (z .before .before .check-fields .ensures) (z .before .check-log .ensures)
 
--- src/rt:236:9
-and-then-requires : tie.Need-and-then-requires
-and-then-requires c κs = search needs
+  whole : z .and-then .result ≡ first (ambient-checks (forward (matrix s) (masses s)) (logs s) (s .args .field .now) (s .args .load .now) (s .args .window) (s .args .node) (length (s .args .out .now)) (long s))
+  whole =
+      let norm = norm-told (matrix s) (masses s) (z .before .before .before .before .before .before .check-generator .ensures) (z .before .before .before .before .matrix .given .1) in
+      checks-told (matrix s) (masses s) (logs s) (s .args .field .now) (s .args .load .now) (s .args .window) (s .args .node) (length (s .args .out .now)) (long s) (norm .sound) told
 
-enum-told-2 : tie.Need-enum-told-2
-enum-told-2 c = search needs
+  -- where they pass
+  module _ (e : z .and-then .result ≡ Sound) where
+    parts : (Sound ≡ first (field-checks (s .args .n) (s .args .field .now) (s .args .load .now) (length (s .args .out .now)))) × (Sound ≡ first (log-checks (s .args .n) (logs s) (s .args .window) (s .args .node) (long s)))
+    parts = sound-append _ _ (sym e ∙ told)
 
--- src/rt:238:39
-enum-told-3 : tie.Need-enum-told-3
-enum-told-3 c = search needs
+    known : Logged (s .args .n) (logs s) (s .args .window) (s .args .node) (long s)
+    known = log-known (s .args .n) (logs s) (s .args .window) (s .args .node) (long s) (parts .1)
 
--- src/rt:238:39
-number-requires-2 : tie.Need-number-requires-2
-number-requires-2 c κs = search needs
-
--- src/rt:238:64
-reported-requires : tie.Need-reported-requires
-reported-requires c κs = search needs
-
--- src/rt:238:9
 returns-2 : tie.Need-returns-2
-returns-2 c = ?
+returns-2 c =
+    let z = c .before .before .before .before in
+    let a = z .before .before .before .before .before .before .before .before .before .before .before .before .before .before .before .before .before .before .before .before .args in
+    let refusal = checks.passed-up (c .before .before .enum-told3 .given .1) (c .before .number2 .ensures) (c .reported .ensures) in
+    ambient-refused (forward (matrix (s z)) (masses (s z))) (logs (s z)) (a .field .now) (a .load .now) (a .window) (a .node) (a .out .now) (a .work .now) (a .temperatures .now) (a .largest .now) (a .smallest .now) (whole z) refusal
 
--- src/rt:240:9
-generator-shape-requires : tie.Need-generator-shape-requires
-generator-shape-requires c κs = search needs
-
--- src/rt:241:9
 run-records-requires : tie.Need-run-records-requires
-run-records-requires c κs = ?
+run-records-requires c κs =
+    let h = c .before .before .before in
+    let z = c .before .before .before .before .before .before in
+    let a = s z .args in
+    let norm = norm-told (matrix (s z)) (masses (s z)) (z .before .before .before .before .before .before .check-generator .ensures) (z .before .before .before .before .matrix .given .1) in
+    let p = parts z (c .before .before .before .before .enum-told2 .given .1) in
+    rw (h .generator-shape .ensures (a .starts .now) (a .cols .now) (a .vals .now) (a .mass .now) refl)
+    (passed (matrix (s z)) (a .with-mass) (a .mass .now) norm, ((norm .sound, refl), logs-known (a .n) (logs (s z)) (a .field .now) (a .load .now) (a .window) (a .node) (length (a .out .now)) (length (a .temperatures .now)) (length (a .largest .now)) (length (a .smallest .now)) (p .0) (p .1)))
 
--- src/rt:256:9
-results-of-requires : tie.Need-results-of-requires
-results-of-requires c κs = search needs
-
--- src/rt:257:5
 show-extremes-requires : tie.Need-show-extremes-requires
-show-extremes-requires c κs = ?
+show-extremes-requires c κs =
+    let n = c .before .before .before .results-of .ensures in
+    let r = c .before .before .before .before .before .before .before .before .before .before .run-records in
+    let k = known (c .before .before .before .before .before .before .before .before .before .before .before .before .before .before .before .before .before) (c .before .before .before .before .before .before .before .before .before .before .before .before .before .before .before .enum-told2 .given .1) in
+    let few = r .ensures .1 .0 in
+    ((k .wide, omega (arith, n, few, k .most)), (omega (arith, n, few, k .temperatures, r .kept .1 .1 .1 .1 .1 .1 .1 .1 .1 .1 .1 .1 .0), omega (arith, n, few, k .largest), omega (arith, n, few, k .smallest)))
 
--- src/rt:196:1
-same-length : tie.Need-same-length
-same-length c = search needs
-
--- src/rt:196:1
-same-length-2 : tie.Need-same-length-2
-same-length-2 c = search needs
-
--- src/rt:196:1
-same-length-3 : tie.Need-same-length-3
-same-length-3 c = search needs
-
--- src/rt:196:1
-same-length-4 : tie.Need-same-length-4
-same-length-4 c = search needs
-
--- src/rt:196:1
-same-length-5 : tie.Need-same-length-5
-same-length-5 c = search needs
-
--- src/rt:196:1
 returns-3 : tie.Need-returns-3
-returns-3 c = ?
+returns-3 c =
+    let x = c .before .before .before .before .show-extremes .ensures in
+    let n = c .before .before .before .before .before .before .before .before .results-of .ensures in
+    let r = c .before .before .before .before .before .before .before .before .before .before .before .before .before .before .before .run-records in
+    let h = c .before .before .before .before .before .before .before .before .before .before .before .before .before .before .before .before .before .before .before in
+    let z = c .before .before .before .before .before .before .before .before .before .before .before .before .before .before .before .before .before .before .before .before .before .before in
+    let a = s z .args in
+    let k = known z (c .before .before .before .before .before .before .before .before .before .before .before .before .before .before .before .before .before .before .before .before .enum-told2 .given .1) in
+    let walked = rw (h .generator-shape .ensures (a .starts .now) (a .cols .now) (a .vals .now) (a .mass .now) refl) at (r .ensures .0) in
+    ambient-is (forward (matrix (s z)) (masses (s z))) (logs (s z)) (a .field .now) (a .load .now) (a .window) (a .node) (a .out .now) (a .work .now) (a .temperatures .now) (a .largest .now) (a .smallest .now) (whole z) _ (c .before .before .before .before .before .before .before .before .before .before .before .before .before .before .before .before .before .before .before .before .enum-told2 .given .1) (k .wide) (k .temperatures) walked (r .ensures .1 .0) (r .ensures .1 .1) n (x .0) (x .1)
 
 pub ambient-spec : {M : Type 1} → statement M
 ambient-spec =
     tie.close
     (tie.spec
-    check-generator-requires
-    enum-known-matrix
-    enum-told
-    number-requires
-    value-requires
+    (λ c κs. search needs)
+    (λ c. search needs)
+    (λ c. search needs)
+    (λ c κs. search needs)
+    (λ c κs. search needs)
     returns
-    check-fields-requires
-    check-log-requires
-    and-then-requires
-    enum-told-2
-    enum-told-3
-    number-requires-2
-    reported-requires
+    (λ c κs. search needs)
+    (λ c κs. search needs)
+    (λ c κs. search needs)
+    (λ c. search needs)
+    (λ c. search needs)
+    (λ c κs. search needs)
+    (λ c κs. search needs)
     returns-2
-    generator-shape-requires
+    (λ c κs. search needs)
     run-records-requires
-    results-of-requires
+    (λ c κs. search needs)
     show-extremes-requires
-    same-length
-    same-length-2
-    same-length-3
-    same-length-4
-    same-length-5
+    (λ c. search needs)
+    (λ c. search needs)
+    (λ c. search needs)
+    (λ c. search needs)
+    (λ c. search needs)
     returns-3)
