@@ -18,11 +18,7 @@ use Rattle.lists.specs.Window.{window, splice}
 use Rattle.lists.proofs.Walk.{Left, left-out, left-none}
 use Rattle.lists.proofs.Window.{length-window, splice-snoc}
 use Rattle.doubles.specs.F64.{at}
-use Rattle.general_operator.specs.Csr.{Csr}
-use Rattle.generator_action.specs.Mass.{Mass, quotient-need, generator-checks, quotients}
-use Rattle.generator_action.specs.Generator.{Generator, forward}
-use Rattle.generator_action.specs.declared.Shape.{Shape}
-use Rattle.combination.specs.Inner.{after-checks}
+use Rattle.generator_action.specs.Generator.{Generator}
 use Rattle.combination.specs.Call.{Call, ends}
 use Rattle.phi_action.specs.declared.TaylorAnswer.{TaylorAnswer}
 use Rattle.phi_action.specs.declared.TaylorAnswer.the-variants as taylor
@@ -34,10 +30,6 @@ use Rattle.ambient.specs.declared.AmbientAnswer.the-variants.{Refusal, N
 use Rattle.ambient.proofs.AmbientAnswer.{the-type}
 use Rattle.ambient.specs.Ambient.{Progress, Ended, ended, shown, settle, record-call, record-step, concluded}
 use Rattle.ambient.specs.Inner.{turn-at, results-of, shown-in}
-
--- a generator that passed 1 to 11, by its numbers
-pub forward-is : (a : Csr) (mass : Mass) (g : Shape) → g .stored ≡ quotient-need a mass → after-checks (generator-checks a mass) a mass g ≡ forward a mass
-forward-is a mass g e = λ i. record { checks = generator-checks a mass; matrix = quotients a mass; stored = e i }
 
 -- a refusal and a NaN temperature are no result
 pub not-logged : (r : AmbientAnswer) → OneOf (0 ∷ 1 ∷ []) (tagOf the-type r) → r ≡ Logged → ⊥

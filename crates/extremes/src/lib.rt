@@ -28,30 +28,30 @@ fn window_start(width: usize, i: usize) -> usize
     i + 1 - width
 }
 
-fn largest(width: usize, x: &[f64], i: usize) -> f64
-    requires { ⌜ (1 ≤ width) × (i < length (now x)) × (i < 1000000) ⌝ }
-    ensures { λ r. ⌜ r ≡ largest width (now (x .entry)) i ⌝ }
-{
-    let from = window_start(width, i);
-    let count = i - from;
-    let mut m = x[from];
-    for k in 0..count {
-        m = float::max(m, x[from + (k + 1)]);
-    }
-    unsigned_zero(m)
+// The largest and the smallest number of a window.
+struct Extremes {
+    largest: f64,
+    smallest: f64,
 }
 
-fn smallest(width: usize, x: &[f64], i: usize) -> f64
+// Of the window that ends with place i, in one pass.
+fn extremes_at(width: usize, x: &[f64], i: usize) -> Extremes
     requires { ⌜ (1 ≤ width) × (i < length (now x)) × (i < 1000000) ⌝ }
-    ensures { λ r. ⌜ r ≡ smallest width (now (x .entry)) i ⌝ }
+    ensures { λ r. ⌜ (r .largest ≡ largest width (now (x .entry)) i) × (r .smallest ≡ smallest width (now (x .entry)) i) ⌝ }
 {
     let from = window_start(width, i);
     let count = i - from;
-    let mut m = x[from];
+    let mut high = x[from];
+    let mut low = x[from];
     for k in 0..count {
-        m = float::min(m, x[from + (k + 1)]);
+        let t = x[from + (k + 1)];
+        high = float::max(high, t);
+        low = float::min(low, t);
     }
-    unsigned_zero(m)
+    Extremes {
+        largest: unsigned_zero(high),
+        smallest: unsigned_zero(low),
+    }
 }
 
 // The extremes of the window that ends with each of the first `count` numbers.
@@ -62,7 +62,8 @@ pub fn show_extremes(width: usize, x: &[f64], count: usize, high: &mut [f64], lo
     ensures { λ _. ⌜ now (low .exit) ≡ splice 0 (tabulate count (smallest width (now (x .entry)))) (now (low .entry)) ⌝ }
 {
     for i in 0..count {
-        high[i] = largest(width, x, i);
-        low[i] = smallest(width, x, i);
+        let e = extremes_at(width, x, i);
+        high[i] = e.largest;
+        low[i] = e.smallest;
     }
 }

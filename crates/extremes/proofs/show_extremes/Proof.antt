@@ -14,8 +14,9 @@ abbrev μ-loop : tie.MeasureT-loop
 
 loop-again : tie.Need-loop-again Inv-loop μ-loop
 loop-again c =
-    let l = c .before .before .before .loop in
-    (omega arith, turned₀ (l .inv .1) (c .before .largest .ensures), turned₀ (l .inv .2) (c .smallest .ensures))
+    let l = c .before .before .loop in
+    let e = c .extremes-at .ensures in
+    (omega arith, turned₀ (l .inv .1) (e .0), turned₀ (l .inv .2) (e .1))
 
 returns : tie.Need-returns Inv-loop μ-loop
 returns c =
@@ -33,7 +34,6 @@ show-extremes-spec =
     (λ c κs. (omega arith, omega arith, omega arith))
     (λ c. omega arith)
     (λ c. omega arith)
-    (λ c κs. (omega arith, omega arith, omega arith))
     (λ c. omega arith)
     (λ c. omega arith)
     (λ c. omega arith)
