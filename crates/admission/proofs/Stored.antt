@@ -14,7 +14,8 @@ use Rattle.lists.proofs.Frame.{Wrote, wrote, untouched, kept-all, kept-by, kept
 use Rattle.doubles.specs.F64.{+0}
 use Rattle.general_operator.specs.Csr.{Csr, csr, Valid}
 use Rattle.csr_matvec.specs.Values.{values}
-use Rattle.generator_action.specs.Mass.{Mass, given, normalise, quotients, stored, quotient-need}
+use Rattle.generator_action.specs.Mass.{Mass, given, normalise, quotients, stored, quotient-need, generator-checks}
+use Rattle.generator_action.specs.Generator.{forward}
 use Rattle.generator_action.specs.Known.{Passed}
 use Rattle.generator_action.specs.declared.Shape.{Shape}
 use Rattle.generator_action.proofs.Quotients.{length-normalise}
@@ -24,7 +25,7 @@ use Rattle.phi_action_helpers.specs.Augmented.{augmented}
 use Rattle.phi_action_helpers.specs.Laid.{Ready, Lined, matrix-at, operator-at}
 use Rattle.phi_action_helpers.proofs.Sweeps.{laid}
 use Rattle.combination.specs.Call.{cleared}
-use Rattle.admission.specs.Inner.{Coupled}
+use Rattle.admission.specs.Inner.{Coupled, after-checks}
 pub use Rattle.admission.specs.Inner.{matrix-of}
 
 length-stored : (a : Csr) (b : Bool) (mass : List Float) → length (stored a (given b mass)) ≡ quotient-need a (given b mass)
@@ -36,6 +37,10 @@ pub quotients-rows : (a : Csr) (mass : Mass) → quotients a mass .n ≡ a .n
 unfolding quotients normalise
 quotients-rows a none = refl
 quotients-rows a (some mass) = refl
+
+-- a generator that passed 1 to 11, by its numbers
+pub forward-is : (a : Csr) (mass : Mass) (g : Shape) → g .stored ≡ quotient-need a mass → after-checks (generator-checks a mass) a mass g ≡ forward a mass
+forward-is a mass g e = λ i. record { checks = generator-checks a mass; matrix = quotients a mass; stored = e i }
 
 -- with a mass they need as many places as there are entries
 needed-with : (a : Csr) (b : Bool) (mass : List Float) → b ≡ true → quotient-need a (given b mass) ≡ length (a .entries)

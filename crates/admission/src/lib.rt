@@ -77,7 +77,7 @@ fn taylor_need(n: usize, d: usize, stored: usize) -> usize
 }
 
 // 24 to 26, after some checks.
-fn plan_job(
+pub fn plan_job(
     before: Checked,
     g: Shape,
     tau: f64,

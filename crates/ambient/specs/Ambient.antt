@@ -1,29 +1,28 @@
 -- A soak under a changing ambient level, with a window (document 02, N12): Taylor combinations in a row over one matrix, w_1 being the load times the
 -- record's level. Definitions only.
-use mathlib.Core.Bool.{Bool, true, false, not, _||_}
+use mathlib.Core.Bool.{Bool, true, false}
 use mathlib.Core.List.{List, [], _∷_, _++_}
 use Prim.Native.Nat.{ℕ, _+_}
-use lib.Dec.{leb, ltb, eqb}
 use lib.ListN.{length}
-use lib.Ieee.{Float, nan, isNan}
+use lib.Ieee.{Float, isNan}
 use Rattle.lists.specs.Loop.{tabulate}
 use Rattle.lists.specs.Walk.{Turn, on, out, walk}
 use Rattle.lists.specs.Window.{splice}
-use Rattle.doubles.specs.F64.{nat, at}
+use Rattle.doubles.specs.F64.{at}
 use Rattle.vectors.specs.Vectors.{scale}
-use Rattle.checks.specs.First.{Check, refuse, first}
+use Rattle.extremes.specs.Extremes.{largest, smallest, open-Extremes}
+use Rattle.checks.specs.First.{Check, first}
 use Rattle.checks.specs.declared.Checked.{Checked}
 use Rattle.checks.specs.declared.Checked.the-variants.{Sound, Refused}
 use Rattle.generator_action.specs.Generator.{Generator}
 use Rattle.expmv.specs.Select.{M-MAX}
-use Rattle.combination.specs.Checks.{length-checks, finite-checks}
 use Rattle.combination.specs.Call.{Call, ends}
-use Rattle.phi_action.specs.Calls.{phi-combination}
+use Rattle.phi_action.specs.Calls.{phi-combination, open-Calls}
 use Rattle.phi_action.specs.declared.TaylorAnswer.{TaylorAnswer}
 use Rattle.phi_action.specs.declared.TaylorAnswer.the-variants as taylor
+use Rattle.ambient_checks.specs.Log.{Log, records-of, Places, field-checks, log-checks, open-Log}
 use Rattle.ambient.specs.declared.AmbientAnswer.{AmbientAnswer}
 use Rattle.ambient.specs.declared.AmbientAnswer.the-variants.{Refusal, NotANumber, Logged}
-use Rattle.ambient.specs.Extremes.{largest, smallest}
 
 -- ---- one record
 -- n doubles more of working memory
@@ -35,14 +34,6 @@ unfoldable pub record-call : Generator → Float → Float → List Float → Li
 record-call g duration level field load output memory = phi-combination (wider g) duration M-MAX 2 (field ++ scale level load) output memory
 
 -- ---- the log
--- a duration and an ambient level for each record
-pub record Log : Type 0 where
-  pub durations : List Float
-  pub levels : List Float
-
-abbrev pub records-of : Log → ℕ
-records-of log = length (log .durations)
-
 -- before a record: the field, what the output and the working memory hold, and the temperatures so far
 pub record Progress : Type 0 where
   pub field : List Float
@@ -74,29 +65,7 @@ record-step g log load node i p =
     let c = record-call g (at (log .durations) i) (at (log .levels) i) (p .field) load (p .output) (p .memory) in
     settle node i (p .temperatures) c (c .answer)
 
--- ---- the checks, behind those of the matrix
--- 15 for the output, 16 for field, then load, 17 for field, then load
-unfoldable pub field-checks : ℕ → List Float → List Float → ℕ → List Check
-field-checks n field load output =
-    length-checks output n (length field) n ++ (refuse 16 (not (eqb (length load) n)) (nat (length load)) ∷ (finite-checks field ++ finite-checks load))
-
--- how long the three slices for the results are
-pub record Places : Type 0 where
-  pub temperatures : ℕ
-  pub largest : ℕ
-  pub smallest : ℕ
-
-abbrev pub short : ℕ → Places → Bool
-short records r = ltb (r .temperatures) records || (ltb (r .largest) records || ltb (r .smallest) records)
-
--- W not 1 to 1,024 or the node not below n; not 1 to 100,000 records or levels not as many as durations; a slice for the results too short
-unfoldable pub log-checks : ℕ → Log → ℕ → ℕ → Places → List Check
-log-checks n log W node r =
-    refuse 38 (eqb W 0 || (ltb 1024 W || leb n node)) nan
-    ∷ refuse 39 (eqb (records-of log) 0 || (ltb 100000 (records-of log) || not (eqb (length (log .levels)) (records-of log)))) nan
-    ∷ refuse 40 (short (records-of log) r) nan
-    ∷ []
-
+-- ---- the checks: those of the matrix, of field and load, of the log
 unfoldable pub ambient-checks : Generator → Log → List Float → List Float → ℕ → ℕ → ℕ → Places → List Check
 ambient-checks g log field load W node output r =
     g .checks ++ (field-checks (g .matrix .n) field load output ++ log-checks (g .matrix .n) log W node r)
@@ -133,6 +102,10 @@ unfoldable pub concluded : Turn Progress Ended → Ended
 concluded (on p) = ended Logged (p .output) (p .memory) (p .temperatures)
 concluded (out e) = e
 
+-- the first field is w_0 of record 1
+abbrev pub begun : List Float → List Float → List Float → Progress
+begun field output memory = record { field = field; output = output; memory = memory; temperatures = [] }
+
 -- refused before any record: nothing is changed
 unfoldable pub unless-log-refused : Checked → List Float → List Float → Results → Logging → Logging
 unless-log-refused (Refused k x) output memory r l = record { call = ends (Refusal k x 0) output memory; results = r }
@@ -141,4 +114,9 @@ unless-log-refused Sound output memory r l = l
 unfoldable pub ambient : Generator → Log → List Float → List Float → ℕ → ℕ → List Float → List Float → Results → Logging
 ambient g log field load W node output memory r =
     unless-log-refused (first (ambient-checks g log field load W node (length output) (places-of r))) output memory r
-    (written W r (concluded (walk (record-step g log load node) (records-of log) 0 (on (record { field = field; output = output; memory = memory; temperatures = [] })))))
+    (written W r (concluded (walk (record-step g log load node) (records-of log) 0 (on (begun field output memory)))))
+
+-- to compute: a line `unfolding open-Ambient` opens every definition of this file and of those below it
+unfoldable pub open-Ambient : Unit {0}
+unfolding record-call shown settle record-step ambient-checks written concluded unless-log-refused ambient walk splice tabulate scale open-Extremes open-Log open-Calls
+open-Ambient = tt

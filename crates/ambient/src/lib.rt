@@ -1,8 +1,259 @@
 // A soak under a changing ambient level: Taylor combinations in a row, and the extremes of one node's temperature over a window.
+use admission::Job;
+use checks::Checked;
+use generator_action::MatrixAnswer;
+use generator_action::Shape;
+use phi_action::TaylorAnswer;
+use phi_action_helpers::SweepArgs;
+ghost use mathlib.Core.Path.{_≡_};
+ghost use mathlib.Core.List.{List, []};
+ghost use Prim.Native.Nat.{_+_, _-_, _≤_, _<_};
+ghost use lib.ListN.{length};
+ghost use lib.Ieee.{Float};
+ghost use Rattle.lists.specs.Walk.{walk, on};
+ghost use Rattle.lists.specs.Window.{window, splice};
+ghost use Rattle.checks.specs.First.{Check, first};
+ghost use Rattle.checks.specs.declared.Checked.the-variants.{Sound};
+ghost use Rattle.general_operator.specs.Csr.{csr};
+ghost use Rattle.generator_action.specs.Mass.{given, quotient-need, generator-checks};
+ghost use Rattle.generator_action.specs.Generator.{forward};
+ghost use Rattle.generator_action.specs.Known.{Passed};
+ghost use Rattle.combination.specs.Call.{ends};
+ghost use Rattle.admission.specs.Inner.{Coupled, matrix-of, after-checks};
+ghost use Rattle.phi_action.specs.Calls.{soaked};
+ghost use Rattle.phi_action.specs.Inner.{operator-by, Allowed};
+ghost use Rattle.ambient_checks.specs.Inner.{log-of, field-of};
+ghost use Rattle.ambient.specs.Ambient.{record-call, settle, record-step, ended, concluded, begun, ambient};
+ghost use Rattle.ambient.specs.Inner.{record-end, turn-at, results-of, shown-in, Logs, results, logging};
 
 // A refusal's number and double with the record that met it, from 1 (0: before any record); the record after which the temperature is NaN; or all done.
 pub enum AmbientAnswer {
     Refusal(u32, f64, u32),
     NotANumber(u32),
     Logged,
+}
+
+// The run of a record that passed: w_1 lies in the output, which is free until the field is copied there, and w_0 at the front of the memory.
+fn run_record(
+    starts: &[u32],
+    cols: &[u32],
+    vals: &[f64],
+    mass: &[f64],
+    out: &mut [f64],
+    work: &mut [f64],
+    j: Job,
+) -> TaylorAnswer
+    requires { ⌜ Allowed (now starts) (now cols) (now vals) (now mass) (now work) j ⌝ }
+    requires { ⌜ Coupled (j .b) (j .g .n) (j .d) (length (now out)) × (length (now out) ≡ j .g .n) × (j .need + j .g .n ≤ length (now work)) ⌝ }
+    ensures { λ r. ⌜ ends r (now (out .exit)) (now (work .exit)) ≡ record-end j (matrix-of (j .g) (now (starts .entry)) (now (cols .entry)) (now (vals .entry)) (now (mass .entry))) (soaked (operator-by j (matrix-of (j .g) (now (starts .entry)) (now (cols .entry)) (now (vals .entry)) (now (mass .entry))) (now (out .entry))) (j .tau) (window 0 (j .g .n + j .d) (now (work .entry)))) (now (work .entry)) ⌝ }
+{
+    let g = j.g;
+    let l = phi_action::layout(g.n, j.d, g.with_mass);
+    let b = j.b;
+    let n = l.n;
+    let p = phi_action::prepare(starts, cols, vals, mass, work, j);
+    let x = SweepArgs {
+        l: l,
+        b: b,
+        tau: j.tau,
+        p: p,
+    };
+    let applied = phi_action_helpers::run_sweeps(starts, cols, vals, out, work, x);
+    vectors::copy_from(out, 0, work, 0, n);
+    phi_action::finish(work, j.need + g.n, p, applied)
+}
+
+// A record: its checks, then its run. The field is the first one or the output's.
+fn record_call(
+    starts: &[u32],
+    cols: &[u32],
+    vals: &[f64],
+    mass: &[f64],
+    g: Shape,
+    duration: f64,
+    level: f64,
+    initial: bool,
+    field: &[f64],
+    load: &[f64],
+    out: &mut [f64],
+    work: &mut [f64],
+) -> TaylorAnswer
+    requires { ⌜ Passed (csr (g .n) (now starts) (now cols) (now vals)) (given (g .«with_mass») (now mass)) g ⌝ }
+    requires { ⌜ (length (now field) ≡ g .n) × (length (now load) ≡ g .n) × (length (now out) ≡ g .n) ⌝ }
+    ensures { λ r. ⌜ ((gs : List Check) → Sound ≡ first gs → ends r (now (out .exit)) (now (work .exit)) ≡ record-call (after-checks gs (csr (g .n) (now (starts .entry)) (now (cols .entry)) (now (vals .entry))) (given (g .«with_mass») (now (mass .entry))) g) duration level (field-of initial (now (field .entry)) (now (out .entry))) (now (load .entry)) (now (out .entry)) (now (work .entry))) ⌝ }
+{
+    let early = ambient_checks::check_record(duration, level, initial, field, out, load);
+    let Checked::Sound = early else {
+        return TaylorAnswer::Refusal(checks::number(early), checks::reported(early));
+    };
+    let j = ambient_checks::admit_record(g, duration, level, load, work.len());
+    let checked = j.checked;
+    let Checked::Sound = checked else {
+        return TaylorAnswer::Refusal(checks::number(checked), checks::reported(checked));
+    };
+    ambient_checks::start_record(initial, field, out, g.n, j.inv, work);
+    ambient_checks::scale_into(load, level, out);
+    run_record(starts, cols, vals, mass, out, work, j)
+}
+
+// After record i + 1: a refusal or a NaN temperature ends the work, any other temperature is shown.
+fn settle(
+    i: usize,
+    node: usize,
+    answer: TaylorAnswer,
+    out: &[f64],
+    temperatures: &mut [f64],
+) -> AmbientAnswer
+    requires { ⌜ (i < 100000) × (node < length (now out)) × (i < length (now temperatures)) ⌝ }
+    ensures { λ r. ⌜ ((memory : List Float) → turn-at r (now (out .entry)) (now (out .entry)) memory (shown-in r (i + 1) (now (temperatures .exit))) ≡ settle node i (window 0 i (now (temperatures .entry))) (ends answer (now (out .entry)) memory) answer) ⌝ }
+    ensures { λ r. ⌜ (results-of r (i + 1) ≤ i + 1) × ((t₀ : List Float) → now (temperatures .entry) ≡ splice 0 (window 0 i (now (temperatures .entry))) t₀ → now (temperatures .exit) ≡ splice 0 (shown-in r (i + 1) (now (temperatures .exit))) t₀) ⌝ }
+{
+    let record = i as u32 + 1;
+    match answer {
+        TaylorAnswer::Refusal(k, x) => AmbientAnswer::Refusal(k, x, record),
+        TaylorAnswer::Soaked(_) => {
+            let t = out[node];
+            if t != t {
+                return AmbientAnswer::NotANumber(record);
+            }
+            temperatures[i] = t;
+            AmbientAnswer::Logged
+        }
+    }
+}
+
+// The records in order: the first starts from `field`, each other from what the one before it left in the output.
+fn run_records(
+    starts: &[u32],
+    cols: &[u32],
+    vals: &[f64],
+    mass: &[f64],
+    g: Shape,
+    durations: &[f64],
+    levels: &[f64],
+    field: &[f64],
+    load: &[f64],
+    node: usize,
+    out: &mut [f64],
+    work: &mut [f64],
+    temperatures: &mut [f64],
+) -> AmbientAnswer
+    requires { ⌜ Passed (csr (g .n) (now starts) (now cols) (now vals)) (given (g .«with_mass») (now mass)) g ⌝ }
+    requires { ⌜ (Sound ≡ first (generator-checks (csr (g .n) (now starts) (now cols) (now vals)) (given (g .«with_mass») (now mass)))) × (g .stored ≡ quotient-need (csr (g .n) (now starts) (now cols) (now vals)) (given (g .«with_mass») (now mass))) ⌝ }
+    requires { ⌜ Logs (g .n) (length (now durations)) (length (now levels)) (length (now field)) (length (now load)) (length (now out)) (length (now temperatures)) node ⌝ }
+    ensures { λ r. ⌜ ended r (now (out .exit)) (now (work .exit)) (shown-in r (length (now (durations .entry))) (now (temperatures .exit))) ≡ concluded (walk (record-step (forward (csr (g .n) (now (starts .entry)) (now (cols .entry)) (now (vals .entry))) (given (g .«with_mass») (now (mass .entry)))) (log-of (now (durations .entry)) (now (levels .entry))) (now (load .entry)) node) (length (now (durations .entry))) 0 (on (begun (now (field .entry)) (now (out .entry)) (now (work .entry))))) ⌝ }
+    ensures { λ r. ⌜ (results-of r (length (now (durations .entry))) ≤ length (now (durations .entry))) × (now (temperatures .exit) ≡ splice 0 (shown-in r (length (now (durations .entry))) (now (temperatures .exit))) (now (temperatures .entry))) ⌝ }
+{
+    let k = durations.len();
+    let mut answer = AmbientAnswer::Logged;
+    for i in 0..k {
+        let AmbientAnswer::Logged = answer else {
+            return answer;
+        };
+        let call = record_call(
+            starts,
+            cols,
+            vals,
+            mass,
+            g,
+            durations[i],
+            levels[i],
+            i == 0,
+            field,
+            load,
+            out,
+            work,
+        );
+        answer = settle(i, node, call, out, temperatures);
+    }
+    answer
+}
+
+// How many of k records have a result.
+fn results_of(answer: AmbientAnswer, k: usize) -> usize
+    requires { ⌜ results-of answer k ≤ k ⌝ }
+    ensures { λ r. ⌜ r ≡ results-of answer k ⌝ }
+{
+    match answer {
+        AmbientAnswer::Refusal(_, _, i) => records_before(i),
+        AmbientAnswer::NotANumber(i) => records_before(i),
+        AmbientAnswer::Logged => k,
+    }
+}
+
+// The records before record i.
+fn records_before(i: u32) -> usize
+    ensures { λ r. ⌜ r ≡ i - 1 ⌝ }
+{
+    if i == 0 {
+        return 0;
+    }
+    i as usize - 1
+}
+
+// A soak under a changing ambient level over one matrix: each record has a duration and a level, and w_1 is the load times the level. Of the node the
+// temperature after each record is shown, and the largest and the smallest among the last `window` of these.
+pub fn ambient(
+    n: usize,
+    starts: &[u32],
+    cols: &[u32],
+    vals: &[f64],
+    with_mass: bool,
+    mass: &[f64],
+    durations: &[f64],
+    levels: &[f64],
+    field: &[f64],
+    load: &[f64],
+    window: usize,
+    node: usize,
+    out: &mut [f64],
+    work: &mut [f64],
+    temperatures: &mut [f64],
+    largest: &mut [f64],
+    smallest: &mut [f64],
+) -> AmbientAnswer
+    ensures { λ r. ⌜ logging r (now (out .exit)) (now (work .exit)) (now (temperatures .exit)) (now (largest .exit)) (now (smallest .exit)) ≡ ambient (forward (csr n (now (starts .entry)) (now (cols .entry)) (now (vals .entry))) (given «with_mass» (now (mass .entry)))) (log-of (now (durations .entry)) (now (levels .entry))) (now (field .entry)) (now (load .entry)) window node (now (out .entry)) (now (work .entry)) (results (now (temperatures .entry)) (now (largest .entry)) (now (smallest .entry))) ⌝ }
+{
+    let matrix = generator_action::check_generator(n, starts, cols, vals, with_mass, mass);
+    let MatrixAnswer::Norm(norm, _) = matrix else {
+        return AmbientAnswer::Refusal(
+            generator_action::number(matrix),
+            generator_action::value(matrix),
+            0,
+        );
+    };
+    let fields = ambient_checks::check_fields(n, field, load, out.len());
+    let log = ambient_checks::check_log(
+        n,
+        durations,
+        levels,
+        window,
+        node,
+        temperatures.len(),
+        largest.len(),
+        smallest.len(),
+    );
+    let checked = combination::and_then(fields, log);
+    let Checked::Sound = checked else {
+        return AmbientAnswer::Refusal(checks::number(checked), checks::reported(checked), 0);
+    };
+    let g = generator_action::generator_shape(n, with_mass, vals.len(), norm);
+    let answer = run_records(
+        starts,
+        cols,
+        vals,
+        mass,
+        g,
+        durations,
+        levels,
+        field,
+        load,
+        node,
+        out,
+        work,
+        temperatures,
+    );
+    let count = results_of(answer, durations.len());
+    extremes::show_extremes(window, temperatures, count, largest, smallest);
+    answer
 }

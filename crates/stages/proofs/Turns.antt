@@ -12,12 +12,8 @@ use Rattle.lists.proofs.Walk.{Left, left-out}
 use Rattle.checks.specs.First.{first}
 use Rattle.checks.specs.declared.Checked.{Checked}
 use Rattle.checks.specs.declared.Checked.the-variants.{Sound, Refused}
-use Rattle.general_operator.specs.Csr.{Csr}
-use Rattle.generator_action.specs.Mass.{Mass, quotient-need, generator-checks, quotients}
-use Rattle.generator_action.specs.Generator.{Generator, forward}
-use Rattle.generator_action.specs.declared.Shape.{Shape}
+use Rattle.generator_action.specs.Generator.{Generator}
 use Rattle.combination.specs.Call.{Call, ends, unless-refused}
-use Rattle.admission.specs.Inner.{after-checks}
 use Rattle.combination.proofs.Ends.{refused-by, runs}
 use Rattle.phi_krylov.specs.declared.PhiAnswer.{PhiAnswer}
 use Rattle.phi_krylov.specs.declared.PhiAnswer.the-variants as phi
@@ -31,10 +27,6 @@ use Rattle.stage_checks.specs.Schedule.{Schedule, stage, stages-of, Progress, f
 use Rattle.stages.specs.Stages.{stage-call, unless-stage-refused, stage-step, concluded, begun, before-stages, staged}
 use Rattle.stage_checks.specs.Inner.{field-of, turn-at}
 use Rattle.stages.specs.Inner.{stage-end}
-
--- a generator that passed 1 to 11, by its numbers
-pub forward-is : (a : Csr) (mass : Mass) (g : Shape) → g .stored ≡ quotient-need a mass → after-checks (generator-checks a mass) a mass g ≡ forward a mass
-forward-is a mass g e = λ i. record { checks = generator-checks a mass; matrix = quotients a mass; stored = e i }
 
 -- ---- a refusal by a stage's own checks is told as one by its call
 by-checks : (i used : ℕ) (p : Progress) (c : Call PhiAnswer) (x : Checked)

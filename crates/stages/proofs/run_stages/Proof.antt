@@ -13,7 +13,7 @@ use Rattle.general_operator.specs.Csr.{Csr, csr}
 use Rattle.generator_action.specs.Mass.{Mass, given}
 use Rattle.generator_action.specs.Generator.{Generator, forward}
 use Rattle.combination.specs.Call.{Call}
-use Rattle.admission.proofs.Stored.{quotients-rows}
+use Rattle.admission.proofs.Stored.{forward-is, quotients-rows}
 use Rattle.phi_krylov.specs.declared.PhiAnswer.{PhiAnswer}
 use Rattle.stage_checks.specs.declared.Stage.{Stage}
 use Rattle.stage_checks.specs.Schedule.{Schedule}
@@ -22,7 +22,7 @@ use Rattle.stage_checks.specs.Inner.{schedule-of, field-of, Few, Moderate, turn
 use Rattle.stages.specs.Inner.{stage-end}
 use Rattle.stage_checks.proofs.Checks.{schedule-known}
 use Rattle.stages.proofs.Few.{few-end}
-use Rattle.stages.proofs.Turns.{forward-is, later-field, step-is, turn-on, turn-ended}
+use Rattle.stages.proofs.Turns.{later-field, step-is, turn-on, turn-ended}
 use Rattle.stages.proofs.run_stages.Statement.{statement}
 use Rattle.stages.proofs.run_stages.Tie as tie
 

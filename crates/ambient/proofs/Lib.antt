@@ -1,0 +1,3 @@
+pub mod OneRecord
+pub mod Turns
+pub mod Whole

@@ -1,0 +1,2 @@
+-- Theorems on a soak under a changing ambient level.
+pub mod Ran

@@ -1,0 +1,1 @@
+// Theorems on a soak under a changing ambient level: no code.

@@ -1,0 +1,2 @@
+-- The largest and the smallest among the last W numbers.
+pub mod Extremes
