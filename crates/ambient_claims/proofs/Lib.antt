@@ -1,3 +1,6 @@
 pub mod Single
 pub mod Reached
 pub mod Answers
+pub mod Slices
+pub mod Memory
+pub mod Numbers
