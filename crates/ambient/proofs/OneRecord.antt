@@ -62,10 +62,10 @@ pub ended-wider : (j : Job) (q : Csr) (run : SweepPlan → Fields) (w₀ w₂ : 
 ended-wider j q run w₀ w₂ {x} {out₁} {w₃} e e₃ =
     let more = j .need + j .g .n in
     let m =
-        e₃
-        ∙ sym (clear-more (j .need) more w₂ (omega arith))
-        ∙ ap (λ (c : Call TaylorAnswer). cleared more (c .memory)) e
-        ∙ clear-more (j .need) more w₀ (omega arith) in
+    e₃
+    ∙ sym (clear-more (j .need) more w₂ (omega arith))
+    ∙ ap (λ (c : Call TaylorAnswer). cleared more (c .memory)) e
+    ∙ clear-more (j .need) more w₀ (omega arith) in
     λ i. ends (e i .answer) (e i .output) (m i)
 
 -- 26 with n doubles more, and 26 of n doubles less

@@ -200,14 +200,7 @@ fn less(a: usize, b: usize) -> usize
 }
 
 // The first field of a record's run, at the front of the lent memory.
-pub fn start_record(
-    initial: bool,
-    field: &[f64],
-    out: &[f64],
-    n: usize,
-    inv: f64,
-    work: &mut [f64],
-)
+pub fn start_record(initial: bool, field: &[f64], out: &[f64], n: usize, inv: f64, work: &mut [f64])
     requires { ⌜ (length (field-of initial (now field) (now out)) ≡ n) × (n + 1 ≤ length (now work)) ⌝ }
     ensures { λ _. ⌜ now (work .exit) ≡ splice 0 (combination-start n (field-of initial (now (field .entry)) (now (out .entry))) 1 inv) (now (work .entry)) ⌝ }
 {

@@ -4,3 +4,4 @@ pub mod Answers
 pub mod Slices
 pub mod Memory
 pub mod Numbers
+pub mod Examples

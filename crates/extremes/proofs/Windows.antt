@@ -35,6 +35,7 @@ module _ (op : Float → Float → Float) where
     where
       first : (s : ℕ) → s ≡ s + 0
       first s = omega arith
+
       last : (s : ℕ) → s + 0 ≡ s
       last s = omega arith
 
@@ -46,5 +47,6 @@ module _ (op : Float → Float → Float) where
     where
       front : (n : ℕ) (x : List Float) (j : ℕ) → j < n → at x j ≡ at (window 0 n x) j
       front n x j c = let e : j ≡ 0 + j = omega arith in ap (at x) e ∙ sym (getD-window 0 n x j nan c)
+
       long : (n : ℕ) (x : List Float) → n ≤ length x → n ≡ length (window 0 n x)
       long n x l = omega (arith, length-window 0 n x (omega arith))
