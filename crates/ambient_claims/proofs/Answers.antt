@@ -26,12 +26,12 @@ named (Refusal k x i) = 0
 named (NotANumber i) = 1
 named Logged = 2
 
-number-in : AmbientAnswer → ℕ
+pub number-in : AmbientAnswer → ℕ
 number-in (Refusal k x i) = i
 number-in (NotANumber i) = i
 number-in Logged = 0
 
-refusal-is : {k k' : ℕ} {x x' : Float} {i i' : ℕ} → Refusal k x i ≡ Refusal k' x' i' → (k ≡ k') × (x ≡ x')
+pub refusal-is : {k k' : ℕ} {x x' : Float} {i i' : ℕ} → Refusal k x i ≡ Refusal k' x' i' → (k ≡ k') × (x ≡ x')
 refusal-is e = (number e, double e)
   where
     number : {k k' : ℕ} {x x' : Float} {i i' : ℕ} → Refusal k x i ≡ Refusal k' x' i' → k ≡ k'
@@ -55,7 +55,7 @@ module _ (g : Generator) (log : Log) (start load : List Float) (W node : ℕ) (o
   stand = stands g log start load node output memory
 
   -- ---- how the records end
-  data End : Type 0 where
+  pub data End : Type 0 where
     all : (p : Progress) → RanTo g log start load node output memory K p → concluded (stand K) ≡ ended Logged (p .output) (p .memory) (p .temperatures) → End
     at-nan : (i : ℕ) (p : Progress) → i < K → RanTo g log start load node output memory i p → Run g log start load node output memory i (p .field) (p .output) (p .memory) → isNan (temperature g log start load node output memory i p) ≡ true
         → concluded (stand K) ≡ ended (NotANumber (i + 1)) (call g log start load node output memory i p .output) (cleared (record-need g) (p .memory)) (p .temperatures)
@@ -70,7 +70,7 @@ module _ (g : Generator) (log : Log) (start load : List Float) (W node : ℕ) (o
   same-end : {x y : Ended} → _≡_ {A = Turn Progress Ended} (out x) (out y) → x ≡ y
   same-end e = cc
 
-  end : End
+  pub end : End
   unfolding concluded
   end = go (stand K) refl
     where
@@ -97,7 +97,7 @@ module _ (g : Generator) (log : Log) (start load : List Float) (W node : ℕ) (o
     unfolding ambient unless-log-refused
     whole-is = rw (← sound) refl
 
-    leaves : {e : Ended} → concluded (stand K) ≡ e → whole ≡ written W r e
+    pub leaves : {e : Ended} → concluded (stand K) ≡ e → whole ≡ written W r e
     leaves h = whole-is ∙ ap (written W r) h
 
     call-of : {e : Ended} {c : Call AmbientAnswer} → concluded (stand K) ≡ e → whole .call ≡ c → e .call ≡ c
