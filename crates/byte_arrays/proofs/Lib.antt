@@ -1,0 +1,4 @@
+pub mod Alike
+pub mod Parts
+pub mod Cuts
+pub mod Forward
