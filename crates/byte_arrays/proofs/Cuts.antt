@@ -15,7 +15,8 @@ use Rattle.doubles.specs.F64.{nat}
 use Rattle.checks.specs.First.{Check, refuse, first, before}
 use Rattle.checks.specs.declared.Checked.{Checked}
 use Rattle.checks.specs.declared.Checked.the-variants.{Sound, Refused}
-use Rattle.checks.proofs.First.{and-then, first-append}
+use Rattle.checks.proofs.First.{and-then, first-append, refused-up}
+use Rattle.checks.proofs.Numbers.{before-append}
 use Rattle.generator_action.specs.Mass.{Mass, given}
 use Rattle.byte_arrays.specs.Inner.{long-told, lengths-told}
 use Rattle.byte_arrays.proofs.Alike.{Alike, in-front, behind, wrong-lengths}
@@ -68,6 +69,9 @@ pub record Both (x y : Checked) : Type 0 where
   pub here : x ≡ Refused number reported
   pub there : y ≡ Refused number reported
 
+pub both-on : (xs ys cs ds : List Check) → Both (first xs) (first ys) → Both (first (xs ++ cs)) (first (ys ++ ds))
+both-on xs ys cs ds β = record { number = β .number; reported = β .reported; here = sym (refused-up xs cs refl (sym (β .here))); there = sym (refused-up ys ds refl (sym (β .there))) }
+
 both-in : (ps xs ys cs ds : List Check) → Both (first xs) (first ys) → (first (ps ++ (xs ++ cs)) ≡ first (ps ++ (ys ++ ds))) × (first (ps ++ (ys ++ ds)) ≡ Sound → ⊥)
 unfolding and-then
 both-in ps xs ys cs ds β = (e xs cs (β .here) ∙ sym (e ys ds (β .there)), λ s. never (first ps) (sym (e ys ds (β .there)) ∙ s))
@@ -86,6 +90,17 @@ pub record Refuses (entries : ℕ) (G : List ℕ → List ℕ → Mass → List 
   pub other-columns : (s cols other : List ℕ) (mass : Mass) → (length cols ≡ entries → ⊥) → (length other ≡ entries → ⊥) → Both (first (G s cols mass)) (first (G s other mass))
   pub not-15 : (s cols : List ℕ) (mass : Mass) → before 15 (G s cols mass) ≡ G s cols mass
   pub not-16 : (s cols : List ℕ) (mass : Mass) → before 16 (G s cols mass) ≡ G s cols mass
+
+-- with more checks behind
+pub refuses-on : {entries : ℕ} {G : List ℕ → List ℕ → Mass → List Check} → Refuses entries G → (H : List ℕ → List ℕ → Mass → List Check) → ((s cols : List ℕ) (mass : Mass) → before 15 (H s cols mass) ≡ H s cols mass) → ((s cols : List ℕ) (mass : Mass) → before 16 (H s cols mass) ≡ H s cols mass) → Refuses entries (λ s cols mass. G s cols mass ++ H s cols mass)
+refuses-on {G = G} R H h h' =
+    record {
+      long-starts = λ s t cols mass ls lt. in-front _ _ _ _ (R .long-starts s t cols mass ls lt);
+      long-mass = λ s cols m p lm lp. in-front _ _ _ _ (R .long-mass s cols m p lm lp);
+      other-columns = λ s cols other mass d d'. both-on _ _ _ _ (R .other-columns s cols other mass d d');
+      not-15 = λ s cols mass. before-append 15 (G s cols mass) (H s cols mass) (R .not-15 s cols mass) ∙ ap (λ r. G s cols mass ++ r) (h s cols mass);
+      not-16 = λ s cols mass. before-append 16 (G s cols mass) (H s cols mass) (R .not-16 s cols mass) ∙ ap (λ r. G s cols mass ++ r) (h' s cols mass);
+    }
 
 -- nothing of a matrix was cut
 abbrev pub Uncut : List ℕ → List ℕ → List ℕ → List ℕ → Mass → Mass → ℕ → ℕ → Type 0

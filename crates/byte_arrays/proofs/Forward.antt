@@ -12,12 +12,12 @@ use Rattle.doubles.specs.F64.{nat}
 use Rattle.checks.specs.First.{Check, first, before}
 use Rattle.checks.specs.declared.Checked.{Checked}
 use Rattle.checks.specs.declared.Checked.the-variants.{Refused}
-use Rattle.checks.proofs.First.{passes, stops, not-ne, refused-up}
+use Rattle.checks.proofs.First.{passes, stops, not-ne}
 use Rattle.general_operator.specs.Csr.{Csr, csr}
 use Rattle.general_operator.specs.Checks.{wrong-rows, wrong-entries, shape-checks, row-checks, entry-checks, matrix-checks}
 use Rattle.generator_action.specs.Mass.{Mass, mass-checks, sum-checks, norm-checks, bound-checks, generator-checks}
 use Rattle.byte_arrays.proofs.Alike.{Alike, stopped, in-front, behind}
-use Rattle.byte_arrays.proofs.Cuts.{Both, Refuses}
+use Rattle.byte_arrays.proofs.Cuts.{Both, both-on, Refuses}
 
 -- ---- lengths that no matrix of 64 rows has
 or-true : (b : Bool) → (b || true) ≡ true
@@ -61,10 +61,6 @@ other-columns n vals s cols other h h' = go (wrong-rows n (length s)) refl
     go : (b : Bool) → wrong-rows n (length s) ≡ b → Both (first (matrix-checks (csr n s cols vals))) (first (matrix-checks (csr n s other vals)))
     go true e = record { number = 1; reported = nat (length s); here = by-rows n vals s cols e; there = by-rows n vals s other e }
     go false e = record { number = 2; reported = nat (length vals); here = by-entries n vals s cols e h; there = by-entries n vals s other e h' }
-
--- also with others behind
-pub both-on : (xs ys cs ds : List Check) → Both (first xs) (first ys) → Both (first (xs ++ cs)) (first (ys ++ ds))
-both-on xs ys cs ds β = record { number = β .number; reported = β .reported; here = sym (refused-up xs cs refl (sym (β .here))); there = sym (refused-up ys ds refl (sym (β .there))) }
 
 -- ---- 1 to 11
 none-15 : (a : Csr) (mass : Mass) → before 15 (generator-checks a mass) ≡ generator-checks a mass

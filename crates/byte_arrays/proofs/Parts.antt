@@ -5,7 +5,9 @@ use mathlib.Core.Logic.{_⊎_, inl, inr}
 use mathlib.Core.Path.{_≡_, refl, sym, _∙_, ap, subst}
 use native.Mathlib.Omega.{arith}
 use Prim.Native.Nat.{ℕ, _/_, _≤_, _<_}
+use lib.Dec.{ltb}
 use lib.ListN.{length, take, drop}
+use borrow.Author.Tests.{le-ltb}
 use lib.Seq.{length-take-le, take-length, drop-length}
 use Rattle.le_bytes.specs.Bytes.{numbers-of, doubles-of, words-of}
 use Rattle.le_bytes.proofs.Counts.{count-numbers, count-doubles, count-words}
@@ -43,6 +45,11 @@ words-part b (inl (e, l)) = inl (ap words-of (whole e), omega (arith, l))
 words-part b {r} (inr (e, l)) =
     let t : length (take r b) ≡ r = length-take-le r b (omega (arith, e, l)) in
     inr (omega (arith, l), count-words b, omega (arith, count-words (take r b), t, e))
+
+-- a length of up to 512 is there, or not, in the part as in the list
+pub enough : {A : Type 0} {c : ℕ} {l p : List A} → Part c l p → (w : ℕ) → w ≤ 512 → ltb (length p) w ≡ ltb (length l) w
+enough (inl (e, few)) w h = ap (λ x. ltb (length x) w) e
+enough {l = l} {p = p} (inr (lc, el, lp)) w h = le-ltb (length p) w (omega (arith, lp, h)) ∙ sym (le-ltb (length l) w (omega (arith, lc, el, h)))
 
 -- of a mass that is not given, none
 pub mass-part : (b : Bool) (mass : List ℕ) (len : ℕ) {r : ℕ} → len ≡ cond b (length mass) 0 → Cut len 4103 r → (b ≡ true → Part (len / 8) (doubles-of mass) (doubles-of (take r mass))) × (b ≡ false → len / 8 ≤ 512)
