@@ -1,0 +1,1 @@
+// Paused runs for the differential driver: on numbers and bytes.
