@@ -153,6 +153,14 @@ pub retold-refused : (cs cm co cv j : ℕ) (x : Float) → retold cs cm co cv (R
 unfolding again
 retold-refused cs cm co cv j x = refl
 
+-- where nothing was cut, the double stays
+pub few-told : (cs cm co cv j : ℕ) (x : Float) → cs ≤ 512 → cm ≤ 512 → co ≤ 512 → cv ≤ 512 → lengths-told cs cm co cv j x ≡ x
+few-told cs cm co cv j x ls lm lo lv =
+    ap (λ (y : Float). long-told 16 cv j (long-told 15 co j (long-told 7 cm j y))) (long-few 1 cs j x ls)
+    ∙ ap (λ (y : Float). long-told 16 cv j (long-told 15 co j y)) (long-few 7 cm j x lm)
+    ∙ ap (long-told 16 cv j) (long-few 15 co j x lo)
+    ∙ long-few 16 cv j x lv
+
 -- ---- a job: a limit, checks `times`, 15 and 16, and others
 module _ (entries : ℕ) (few : entries ≤ 512) (G : List ℕ → List ℕ → Mass → List Check) (R : Refuses entries G) (ps : List Check) (free : (before 1 ps ≡ ps) × (before 7 ps ≡ ps) × (before 15 ps ≡ ps) × (before 16 ps ≡ ps))
     (limit : Check) (low : limit .number ≤ 13) (times : List Check) (not-15 : before 15 times ≡ times) (not-16 : (c : Check) → before 16 (times ++ (refuse 15 (c .holds) (c .reported) ∷ [])) ≡ times ++ (refuse 15 (c .holds) (c .reported) ∷ []))

@@ -1,9 +1,9 @@
 -- A call on the parts of its lists answers what it answers on the whole lists, with the lengths handed in. Assumes nothing.
 use mathlib.Core.Bool.{Bool, true, false}
-use mathlib.Core.List.{List, [], _++_, append-nil}
+use mathlib.Core.List.{List, _++_}
 use mathlib.Core.Path.{_≡_, refl, sym, _∙_, ap}
 use Prim.Native.Nat.{ℕ, _/_, _≤_, _<_}
-use lib.ListN.{length, getD, take, drop, take-append-drop}
+use lib.ListN.{length, getD, take, drop}
 use lib.Ieee.{Float}
 use Rattle.checks.specs.First.{first}
 use Rattle.checks.specs.declared.Checked.{Checked}
@@ -12,11 +12,10 @@ use Rattle.generator_action.specs.Generator.{Generator}
 use Rattle.combination.specs.Call.{Call, ends}
 use Rattle.exports.specs.Told.{Numbers, numbers, run-numbers}
 use Rattle.le_bytes.specs.Bytes.{doubles-of, written-over}
-use Rattle.le_bytes.proofs.Unchanged.{unchanged}
-use Rattle.le_bytes.proofs.Fronts.{bytes-of}
-use Rattle.byte_arrays.specs.Inner.{Cut, long-told, lengths-told}
-use Rattle.byte_arrays.proofs.Parts.{whole, nothing-left, not-cut}
-use Rattle.byte_arrays.proofs.Cuts.{Recut, retold, retold-refused, long-few}
+use Rattle.byte_arrays.specs.Inner.{Cut, lengths-told}
+use Rattle.byte_arrays.proofs.Parts.{whole, not-cut}
+use Rattle.byte_arrays.proofs.Bytes.{back, left}
+use Rattle.byte_arrays.proofs.Cuts.{Recut, retold, retold-refused, few-told}
 use Rattle.byte_calls.specs.Inner.{told, called, revalued}
 use Rattle.byte_calls.specs.declared.Told.{Told}
 use Rattle.byte_calls.specs.declared.PhiCall.{PhiCall}
@@ -34,26 +33,11 @@ told-again (Action degree) t cs cm co cv = refl
 told-again (Batch degree) t cs cm co cv = refl
 told-again (Krylov tol m most) t cs cm co cv = refl
 
-pub few-told : (cs cm co cv j : ℕ) (x : Float) → cs ≤ 512 → cm ≤ 512 → co ≤ 512 → cv ≤ 512 → lengths-told cs cm co cv j x ≡ x
-few-told cs cm co cv j x ls lm lo lv =
-    ap (λ (y : Float). long-told 16 cv j (long-told 15 co j (long-told 7 cm j y))) (long-few 1 cs j x ls)
-    ∙ ap (λ (y : Float). long-told 16 cv j (long-told 15 co j y)) (long-few 7 cm j x lm)
-    ∙ ap (long-told 16 cv j) (long-few 15 co j x lo)
-    ∙ long-few 16 cv j x lv
-
 -- ---- a call on whole lists and on their parts
 pub record CallCut (q q₁ : Call Numbers) (cs cm co cv : ℕ) (out : List ℕ) (r : ℕ) : Type 0 where
   pub answer : q .answer ≡ retell cs cm co cv (q₁ .answer)
   pub output : written-over (q₁ .output) (take r out) ++ drop r out ≡ written-over (q .output) out
   pub memory : q .memory ≡ q₁ .memory
-
--- a slice that is not cut
-pub back : (f : List ℕ → List ℕ) (b : List ℕ) {r : ℕ} → r ≡ length b → f (take r b) ++ drop r b ≡ f b
-back f b e = (λ i. f (whole {b = b} e i) ++ nothing-left b e i) ∙ append-nil (f b)
-
--- a slice that is left as it was
-pub left : (b : List ℕ) (r : ℕ) → ((i : ℕ) → getD b i 0 < 256) → written-over (doubles-of (take r b)) (take r b) ++ drop r b ≡ written-over (doubles-of b) b
-left b r byte = ap (λ (x : List ℕ). x ++ drop r b) (unchanged (take r b) (bytes-of r b byte)) ∙ take-append-drop r b ∙ sym (unchanged b byte)
 
 module _ (call : PhiCall) (tau : Float) (k : ℕ) (memory : List Float) (g g₁ : Generator) (v v₁ : List Float) (out : List ℕ) (r cs cm cv : ℕ) where
   abbrev q : Call Numbers

@@ -143,6 +143,11 @@ running numbers counts e = go (fits numbers counts) refl
     go true d = d
     go false d = absurd (true≢false (sym ended ∙ ap over (sym (no-state numbers counts d)) ∙ e))
 
+-- those of a step between 31 and the field's
+abbrev of-call : PausedRun → Tolerance → Job → List Float → List Float → List Check
+of-call s t j output memory =
+    krylov-checks-by (j .g) (j .tau) (j .count) (j .w) (s .eta) (length-checks (length output) (rows j) (length (j .w)) (j .count * rows j) ++ other-checks s j) (options-in s (tol-in t s)) (length memory)
+
 module _ {cf cn ck : ℕ} {field field₁ numbers numbers₁ : List Float} {counts counts₁ : List ℕ} (hf : Part cf field field₁) (hn : Part cn numbers numbers₁) (hk : Part ck counts counts₁) where
   same-fits : fits numbers₁ counts₁ ≡ fits numbers counts
   unfolding fits
@@ -179,7 +184,7 @@ module _ {cf cn ck : ℕ} {field field₁ numbers numbers₁ : List Float} {coun
       ∙ ap first (sym (append-assoc K _ _))
   same-checks (Step with-tol tol) j output memory few =
       ap (λ (s : PausedRun). first (step-checks s (length field) (record { tolerance = tolerance with-tol tol; job = j; output = output; memory = memory }))) (sym same-run)
-      ∙ same-tail (refuse 31 (over (run-of numbers₁ counts₁)) nan ∷ _) _ _ (λ e. let x = sym (same-field j few (few-count _ _ _ _ _ _ _ _ (sound-cons _ _ _ _ e .1))) in λ i. first (refuse 26 (not (x i)) nan ∷ []))
+      ∙ same-tail (refuse 31 (over (run-of numbers₁ counts₁)) nan ∷ of-call (run-of numbers₁ counts₁) (tolerance with-tol tol) j output memory) _ _ (λ e. let x = sym (same-field j few (few-count _ _ _ _ _ _ _ _ (sound-cons _ _ _ _ e .1))) in λ i. first (refuse 26 (not (x i)) nan ∷ []))
 
   -- where all of them pass, nothing was cut
   pub whole-lent : (call : RunCall) (j : Job) (output memory : List Float) → rows j ≤ 64 → Sound ≡ first (checks call j output memory (length field₁) numbers₁ counts₁) → ((field₁ ≡ field) × (cf ≤ 512)) × Whole
@@ -193,7 +198,7 @@ module _ {cf cn ck : ℕ} {field field₁ numbers numbers₁ : List Float} {coun
       (uncut hf (omega (arith, few, c, x)), whole-state (not-false _ (sound-cons _ _ _ _ (s .1) .0)))
   whole-lent (Step with-tol tol) j output memory few e =
       let s = sound-cons _ _ _ _ e in
-      let t = sound-append _ _ (s .1) in
+      let t = sound-append (of-call (run-of numbers₁ counts₁) (tolerance with-tol tol) j output memory) _ (s .1) in
       let c : j .count ≤ 4 = few-count _ _ _ _ _ _ _ _ (t .0) in
       let x : length field₁ ≡ rows j + degree j = eqb-true (length field₁) (rows j + degree j) (not-false _ (sound-cons _ _ _ _ (t .1) .0)) in
       (uncut hf (omega (arith, few, c, x)), whole-state (running numbers₁ counts₁ (s .0)))
@@ -262,7 +267,7 @@ module _ (call : RunCall) (n : ℕ) (vals : List Float) (few : n ≤ 64) (entrie
 
   few-expected : (m : ℕ) → m ≤ 64 → limit .holds ≡ false → count * m ≤ 256
   unfolding limit
-  few-expected m l e = mul-le-mul {a = count} {b = 4} (ltb-false 4 count (or-false (eqb count 0) (ltb 4 count) e .1)) l
+  few-expected m l e = mul-le-mul (ltb-false 4 count (or-false (eqb count 0) (ltb 4 count) e .1)) l
 
   pub checks-cut : {cs cm co cv : ℕ} {s s₁ cols cols₁ : List ℕ} {m m₁ w w₁ o o₁ : List Float} (b : Bool) → Part cs s s₁ → Columns cols cols₁ → (b ≡ true → Part cm m m₁) → (b ≡ false → cm ≤ 512) → Part co o o₁ → Part cv w w₁
       → Recut cs cm co cv (first (checks call (over-lists s cols (given b m) w) o memory field numbers counts)) (first (checks call (over-lists s₁ cols₁ (given b m₁) w₁) o₁ memory field numbers counts)) (Uncut s s₁ cols cols₁ (given b m) (given b m₁) cs cm × (w₁ ≡ w))

@@ -7,7 +7,7 @@ use mathlib.Core.Path.{_≡_, refl, sym, _∙_, ap, subst}
 use native.Mathlib.Omega.{arith}
 use Prim.Native.Nat.{ℕ, _+_, _*_, _/_, _≤_, _<_}
 use lib.Dec.{ltb}
-use lib.ListN.{length, getD, take, drop, take-append-drop}
+use lib.ListN.{length, getD, take, drop}
 use lib.Seq.{length-take-le}
 use lib.Ieee.{Float, nan}
 use Rattle.lists.specs.Window.{splice}
@@ -25,17 +25,18 @@ use Rattle.combination.proofs.Stored.{quotients-rows}
 use Rattle.exports.specs.Told.{Numbers}
 use Rattle.le_bytes.specs.Bytes.{numbers-of, doubles-of, numbers-over, written-over}
 use Rattle.le_bytes.proofs.Counts.{count-numbers, count-doubles}
-use Rattle.le_bytes.proofs.Fronts.{bytes-of, numbers-unchanged, numbers-cut, doubles-cut}
+use Rattle.le_bytes.proofs.Fronts.{numbers-cut, doubles-cut}
 use Rattle.byte_arrays.specs.Inner.{Cut, long-told, lengths-told}
 use Rattle.byte_arrays.proofs.Alike.{in-front}
 use Rattle.byte_arrays.proofs.Parts.{Part, Columns, numbers-part, doubles-part, columns-part, mass-part, enough}
+use Rattle.byte_arrays.proofs.Bytes.{left, left-numbers}
 use Rattle.byte_arrays.proofs.Cuts.{Refuses, both-on, refuses-on, again, Uncut, matrix-cut}
 use Rattle.byte_arrays.proofs.Forward.{alike-starts, alike-mass, other-columns}
 use Rattle.byte_calls.specs.Inner.{told, called, revalued}
 use Rattle.byte_calls.specs.declared.Told.{Told}
 use Rattle.byte_calls.specs.declared.PhiCall.{PhiCall}
 use Rattle.byte_calls.proofs.Jobs.{checks-cut}
-use Rattle.byte_calls.proofs.Calls.{CallCut, retell, told-again, call-cut, left}
+use Rattle.byte_calls.proofs.Calls.{CallCut, retell, told-again, call-cut}
 use Rattle.transposed_byte_calls.specs.Replies.{Lent as Bytes, lent, unpacked, packed, Reply, replies, packs}
 use Rattle.transposed_byte_calls.specs.Inner.{called-transposed}
 
@@ -102,9 +103,6 @@ after-refused a mass b e = rw e refl
 after-sound : (a : Csr) (mass : Mass) (b : Buffers) → first (before-transposing a mass (lengths b)) ≡ Sound → buffers-after a mass b ≡ buffers (splice 0 (transpose (quotients a mass) .starts) (b .starts)) (splice 0 (transpose (quotients a mass) .columns) (b .columns)) (splice 0 (transpose (quotients a mass) .entries) (b .values))
 unfolding buffers-after filled
 after-sound a mass b e = rw e refl
-
-left-numbers : (b : List ℕ) (r : ℕ) → ((i : ℕ) → getD b i 0 < 256) → numbers-over (numbers-of (take r b)) (take r b) ++ drop r b ≡ numbers-over (numbers-of b) b
-left-numbers b r byte = ap (λ (x : List ℕ). x ++ drop r b) (numbers-unchanged (take r b) (bytes-of r b byte)) ∙ take-append-drop r b ∙ sym (numbers-unchanged b byte)
 
 -- the checks of a matrix alone
 module _ (entries : ℕ) (few : entries ≤ 512) (G : List ℕ → List ℕ → Mass → List Check) (R : Refuses entries G) where

@@ -56,11 +56,9 @@ pub fn own_libm(job: &Job, transcribed: &Answer) -> Option<Difference> {
     Difference::of("own libm", Answer { steps: transcribed.steps, ..unaltered(job) }, transcribed)
 }
 
-/// Where the library differs, on slices and on bytes; `tail` tells how many bytes stand behind the last whole element. There are
-/// no transposed calls on bytes.
+/// Where the library differs, on slices and on bytes; `tail` tells how many bytes stand behind the last whole element.
 pub fn library(job: &Job, expected: &Answer, tail: usize) -> Vec<Difference> {
-    let on_bytes = if job.lent.is_some() { None } else { on_bytes(job, expected, tail) };
-    Difference::of("rattle", library::answer(job), expected).into_iter().chain(on_bytes).collect()
+    Difference::of("rattle", library::answer(job), expected).into_iter().chain(on_bytes(job, expected, tail)).collect()
 }
 
 /// Where its answer to the matrix alone differs.

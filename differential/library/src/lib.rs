@@ -1,5 +1,5 @@
-//! The proved library (crates/exports, crates/exports_transposed, crates/exports_paused, crates/exports_bytes): its exported
-//! functions, and a job put to them.
+//! The proved library (crates/exports, exports_transposed, exports_paused, and on bytes exports_bytes, exports_transposed_bytes,
+//! exports_paused_bytes): its exported functions, and a job put to them.
 
 #[cfg(feature = "bytes")]
 mod bytes;
