@@ -18,11 +18,12 @@ use Rattle.general_operator.specs.Csr.{Csr, csr}
 use Rattle.general_operator.specs.Checks.{shape-checks, row-checks, entry-checks, matrix-checks}
 use Rattle.generator_action.specs.Mass.{Mass, given, quotients, mass-checks, sum-checks, norm-checks}
 use Rattle.generator_action.specs.Generator.{Generator}
-use Rattle.transpose.specs.Transpose.{Lent, Buffers, buffers, lengths, transpose, start-checks, forward-checks, short, lent-checks, before-transposing, transposed-checks, filled, buffers-after, transposed}
+use Rattle.generator_action.specs.Answer.{unless-refused}
+use Rattle.transpose.specs.Transpose.{Lent, Buffers, buffers, lengths, transpose, start-checks, forward-checks, short, lent-checks, before-transposing, transposed-checks, filled, buffers-after, transposed, transposed-answer}
 use Rattle.transpose.proofs.Passed.{Transposable, transposable, transposed-valid, transposed-length}
 use Rattle.combination.specs.Call.{Call}
 use Rattle.combination.proofs.Stored.{quotients-rows}
-use Rattle.exports.specs.Told.{Numbers}
+use Rattle.exports.specs.Told.{Numbers, numbers, run-numbers, matrix-numbers}
 use Rattle.le_bytes.specs.Bytes.{numbers-of, doubles-of, numbers-over, written-over}
 use Rattle.le_bytes.proofs.Counts.{count-numbers, count-doubles}
 use Rattle.le_bytes.proofs.Fronts.{numbers-cut, doubles-cut}
@@ -30,15 +31,15 @@ use Rattle.byte_arrays.specs.Inner.{Cut, long-told, lengths-told}
 use Rattle.byte_arrays.proofs.Alike.{in-front}
 use Rattle.byte_arrays.proofs.Parts.{Part, Columns, numbers-part, doubles-part, columns-part, mass-part, enough}
 use Rattle.byte_arrays.proofs.Bytes.{left, left-numbers}
-use Rattle.byte_arrays.proofs.Cuts.{Refuses, both-on, refuses-on, again, Uncut, matrix-cut}
+use Rattle.byte_arrays.proofs.Cuts.{Refuses, both-on, refuses-on, again, long-few, few-told, Uncut, matrix-cut}
 use Rattle.byte_arrays.proofs.Forward.{alike-starts, alike-mass, other-columns}
 use Rattle.byte_calls.specs.Inner.{told, called, revalued}
 use Rattle.byte_calls.specs.declared.Told.{Told}
 use Rattle.byte_calls.specs.declared.PhiCall.{PhiCall}
 use Rattle.byte_calls.proofs.Jobs.{checks-cut}
 use Rattle.byte_calls.proofs.Calls.{CallCut, retell, told-again, call-cut}
-use Rattle.transposed_byte_calls.specs.Replies.{Lent as Bytes, lent, unpacked, packed, Reply, replies, packs}
-use Rattle.transposed_byte_calls.specs.Inner.{called-transposed}
+use Rattle.transposed_byte_calls.specs.Replies.{Lent as Bytes, lent, unpacked, packed, Reply, replies, packs, MatrixReply, matrix-replies, matrix-packs}
+use Rattle.transposed_byte_calls.specs.Inner.{called-transposed, checked-transposed}
 
 -- ---- the checks up to 30, and the 11 behind it, where a list is too long
 none-15 : (a : Csr) (mass : Mass) (l : Lent) → before 15 (before-transposing a mass l) ≡ before-transposing a mass l
@@ -103,6 +104,18 @@ after-refused a mass b e = rw e refl
 after-sound : (a : Csr) (mass : Mass) (b : Buffers) → first (before-transposing a mass (lengths b)) ≡ Sound → buffers-after a mass b ≡ buffers (splice 0 (transpose (quotients a mass) .starts) (b .starts)) (splice 0 (transpose (quotients a mass) .columns) (b .columns)) (splice 0 (transpose (quotients a mass) .entries) (b .values))
 unfolding buffers-after filled
 after-sound a mass b e = rw e refl
+
+answer-refused : (a : Csr) (mass : Mass) (l : Lent) {j : ℕ} {x : Float} → first (transposed-checks a mass l) ≡ Refused j x → matrix-numbers (transposed-answer a mass l) ≡ numbers j x 0 0 0
+unfolding transposed-answer unless-refused matrix-numbers
+answer-refused a mass l e = rw e refl
+
+same-answer : (a : Csr) (mass : Mass) (l₁ l : Lent) → transposed-checks a mass l₁ ≡ transposed-checks a mass l → transposed-answer a mass l₁ ≡ transposed-answer a mass l
+unfolding transposed-answer
+same-answer a mass l₁ l e = ap (λ (cs : List Check). unless-refused (first cs) (transpose (quotients a mass))) e
+
+-- the numbers that are told, where they are stored
+pub telling-row : {t₁ t : Numbers} {l : Bytes} {r : MatrixReply} → t₁ ≡ t → matrix-replies t l ≡ r → matrix-replies t₁ l ≡ r
+telling-row {l = l} et e = ap (λ x. matrix-replies x l) et ∙ e
 
 -- the checks of a matrix alone
 module _ (entries : ℕ) (few : entries ≤ 512) (G : List ℕ → List ℕ → Mass → List Check) (R : Refuses entries G) where
@@ -190,6 +203,40 @@ module _ (tb tc tv : List ℕ) (x y z : ℕ) (bytes-b : (i : ℕ) → getD tb i 
               ∙ ap (λ (v : Buffers). joined (packed v cuts)) (after-sound q g (unpacked cuts) here)
               ∙ written q g (sym here)
               ∙ ap (λ (v : Buffers). packed v wholes) (sym (after-sound q g (unpacked wholes) there))
+
+      -- ---- the check of the matrix
+      told-cut : matrix-numbers (transposed-answer q g (lengths (unpacked wholes))) ≡ retell (length starts / 4) (len / 8) 0 0 (matrix-numbers (transposed-answer q₁ g₁ (lengths (unpacked cuts))))
+      told-cut = go (first (transposed-checks q₁ g₁ (lengths (unpacked wholes)))) refl
+        where
+          t : (first (transposed-checks q g (lengths (unpacked wholes))) ≡ again 7 (len / 8) (again 1 (length starts / 4) (first (transposed-checks q₁ g₁ (lengths (unpacked wholes)))))) × (first (transposed-checks q₁ g₁ (lengths (unpacked wholes))) ≡ Sound → Uncut (numbers-of starts) (numbers-of (take a starts)) (numbers-of cols) (numbers-of (take d cols)) g g₁ (length starts / 4) (len / 8))
+          t =
+              let h = mass-part b mass len el cm in
+              alone-cut (length vals) fits (λ s c u. transposed-checks (matrix s c) u (lengths (unpacked wholes))) (transposed-refuses n vals (lengths (unpacked wholes)) few) b (numbers-part starts ca) (columns-part cols cd) (h .0) (h .1)
+
+          re : Numbers → Numbers
+          re = retell (length starts / 4) (len / 8) 0 0
+
+          same : transposed-answer q₁ g₁ (lengths (unpacked cuts)) ≡ transposed-answer q₁ g₁ (lengths (unpacked wholes))
+          same = same-answer q₁ g₁ (lengths (unpacked cuts)) (lengths (unpacked wholes)) (ap (λ (s : Generator). s .checks) (same-generator lent-parts q₁ few fits g₁))
+
+          go : (c : Checked) → first (transposed-checks q₁ g₁ (lengths (unpacked wholes))) ≡ c → matrix-numbers (transposed-answer q g (lengths (unpacked wholes))) ≡ re (matrix-numbers (transposed-answer q₁ g₁ (lengths (unpacked cuts))))
+          go (Refused j v) e =
+              answer-refused q g (lengths (unpacked wholes)) (t .0 ∙ ap (λ (u : Checked). again 7 (len / 8) (again 1 (length starts / 4) u)) e ∙ again-refused (length starts / 4) (len / 8) j v)
+              ∙ ap (λ (x : Float). numbers j x 0 0 0) (sym (long-few 15 0 j _ (omega arith)) ∙ sym (long-few 16 0 j _ (omega arith)))
+              ∙ ap re (sym (answer-refused q₁ g₁ (lengths (unpacked wholes)) e) ∙ ap matrix-numbers (sym same))
+          go Sound e =
+              let u = t .1 e in
+              let x = matrix-numbers (transposed-answer q₁ g₁ (lengths (unpacked wholes))) in
+              (λ i. matrix-numbers (transposed-answer (matrix (sym (u .0) i) (sym (u .1) i)) (sym (u .2) i) (lengths (unpacked wholes))))
+              ∙ ap (λ (y : Float). run-numbers (x .number) y (x .first) (x .second) (x .third) (x .shortest) (x .last)) (sym (few-told (length starts / 4) (len / 8) 0 0 (x .number) (x .value) (u .3) (u .4) (omega arith) (omega arith)))
+              ∙ ap re (ap matrix-numbers (sym same))
+
+      pub check-cut : {k row : ℕ} {x y : Float} {l₁ : Bytes} → matrix-replies (numbers k x row 0 0) l₁ ≡ matrix-packs (checked-transposed q₁ g₁ (unpacked cuts)) cuts → y ≡ lengths-told (length starts / 4) (len / 8) 0 0 k x → matrix-replies (numbers k y row 0 0) (joined l₁) ≡ matrix-packs (checked-transposed q g (unpacked wholes)) wholes
+      unfolding checked-transposed
+      check-cut {k} {row} {l₁ = l₁} e ey =
+          ap (λ (v : Float). matrix-replies (numbers k v row 0 0) (joined l₁)) ey
+          ∙ ap (λ (r : MatrixReply). matrix-replies (retell (length starts / 4) (len / 8) 0 0 (r .told)) (joined (r .buffers))) e
+          ∙ (λ i. matrix-replies (sym told-cut i) (buffers-cut i))
 
       -- ---- a whole job
       module _ (call : PhiCall) (tau : Float) (k : ℕ) (v out work : List ℕ) (p r : ℕ) (bytes-o : (i : ℕ) → getD out i 0 < 256) (cp : Cut (length v) 4103 p) (cr : Cut (length out) 4103 r) where

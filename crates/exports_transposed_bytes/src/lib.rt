@@ -6,14 +6,15 @@ ghost use Prim.Native.Nat.{_/_, _≤_};
 ghost use lib.ListN.{length};
 ghost use Rattle.general_operator.specs.Csr.{csr};
 ghost use Rattle.generator_action.specs.Mass.{given};
+ghost use Rattle.transpose.specs.Transpose.{lengths, buffers-after, transposed-answer};
 ghost use Rattle.transposed.specs.Transposed.{phi-combination-transposed, phi-action-transposed, phi-action-batched-transposed, phi-combination-krylov-transposed};
 ghost use Rattle.le_bytes.specs.Bytes.{numbers-of, doubles-of};
-ghost use Rattle.exports.specs.Told.{numbers, run-numbers, taylor-numbers, krylov-numbers, options};
-ghost use Rattle.exports_transposed.specs.Telling.{telling};
+ghost use Rattle.exports.specs.Told.{numbers, run-numbers, matrix-numbers, taylor-numbers, krylov-numbers, options};
+ghost use Rattle.exports_transposed.specs.Telling.{telling, matrix-told};
 ghost use Rattle.byte_arrays.specs.Large.{large};
 ghost use Rattle.byte_calls.specs.Inner.{told};
-ghost use Rattle.transposed_byte_calls.specs.Replies.{lent, unpacked, replies, packs, replied};
-ghost use Rattle.transposed_byte_calls.specs.Inner.{called-transposed};
+ghost use Rattle.transposed_byte_calls.specs.Replies.{lent, unpacked, replies, packs, replied, matrix-replies, matrix-packs, matrix-replied};
+ghost use Rattle.transposed_byte_calls.specs.Inner.{called-transposed, checked-transposed};
 
 // A job that is not large is refused where columns, row starts, a given mass, vectors or output have more than 512 elements. Cut slices are refused
 // alike, columns while they are more than 512, the most entries; `reported` gives the length handed in. Of buffers that are cut, enough is left.
@@ -261,4 +262,91 @@ pub extern "C" fn hazhendu_phi_combination_krylov_transposed_bytes(
         work,
     );
     byte_calls::tell_krylov(t, value, substeps, matvecs, rejected, shortest, last)
+}
+
+// What is told of a matrix: 0 or the refusal's number, the norm or the refusal's double, and the row.
+struct RowTold {
+    number: u32,
+    value: f64,
+    row: usize,
+}
+
+// The check of the matrix on cut slices.
+fn check_answer(
+    n: usize,
+    starts: &[u8],
+    cols: &[u8],
+    vals: &[u8],
+    with_mass: bool,
+    mass: &[u8],
+    t_starts: &mut [u8],
+    t_cols: &mut [u8],
+    t_vals: &mut [u8],
+) -> RowTold
+    requires { ⌜ (n ≤ 64) × (length (now vals) / 8 ≤ 512) ⌝ }
+    ensures { λ r. ⌜ matrix-replies (numbers (r .number) (r .value) (r .row) 0 0) (lent (now («t_starts» .exit)) (now («t_cols» .exit)) (now («t_vals» .exit))) ≡ matrix-packs (checked-transposed (csr n (numbers-of (now (starts .entry))) (numbers-of (now (cols .entry))) (doubles-of (now (vals .entry)))) (given «with_mass» (doubles-of (now (mass .entry)))) (unpacked (lent (now («t_starts» .entry)) (now («t_cols» .entry)) (now («t_vals» .entry))))) (lent (now («t_starts» .entry)) (now («t_cols» .entry)) (now («t_vals» .entry))) ⌝ }
+{
+    let mass_len = byte_arrays::used(with_mass, mass.len());
+    let starts_part = byte_arrays::part(starts.len(), 2051);
+    let cols_part = byte_arrays::part(cols.len(), 2055);
+    let mass_part = byte_arrays::part(mass_len, 4103);
+    let t_starts_part = byte_arrays::part(t_starts.len(), 2051);
+    let t_cols_part = byte_arrays::part(t_cols.len(), 2051);
+    let t_vals_part = byte_arrays::part(t_vals.len(), 4103);
+    let answer = transposed_byte_calls::check_in_arrays(
+        n,
+        &starts[..starts_part],
+        &cols[..cols_part],
+        vals,
+        with_mass,
+        &mass[..mass_part],
+        &mut t_starts[..t_starts_part],
+        &mut t_cols[..t_cols_part],
+        &mut t_vals[..t_vals_part],
+    );
+    let mut value = 0.0f64;
+    let mut row = 0usize;
+    let number = exports::tell_matrix(answer, &mut value, &mut row);
+    let told = byte_arrays::reported(number, value, starts.len() / 4, mass_len / 8, 0, 0);
+    RowTold {
+        number: number,
+        value: told,
+        row: row,
+    }
+}
+
+// `transpose::check_transposed`.
+#[no_mangle]
+pub extern "C" fn hazhendu_check_transposed_bytes(
+    n: usize,
+    starts: &[u8],
+    cols: &[u8],
+    vals: &[u8],
+    with_mass: bool,
+    mass: &[u8],
+    t_starts: &mut [u8],
+    t_cols: &mut [u8],
+    t_vals: &mut [u8],
+    value: &mut f64,
+    row: &mut usize,
+) -> u32
+    ensures { λ r. ⌜ matrix-replies (numbers r (now (value .exit)) (now (row .exit)) 0 0) (lent (now («t_starts» .exit)) (now («t_cols» .exit)) (now («t_vals» .exit))) ≡ matrix-replied (large n (length (now (vals .entry))) 0) (matrix-replies (numbers 255 (now (value .entry)) (now (row .entry)) 0 0) (lent (now («t_starts» .entry)) (now («t_cols» .entry)) (now («t_vals» .entry)))) (matrix-told (matrix-numbers (transposed-answer (csr n (numbers-of (now (starts .entry))) (numbers-of (now (cols .entry))) (doubles-of (now (vals .entry)))) (given «with_mass» (doubles-of (now (mass .entry)))) (lengths (unpacked (lent (now («t_starts» .entry)) (now («t_cols» .entry)) (now («t_vals» .entry))))))) (buffers-after (csr n (numbers-of (now (starts .entry))) (numbers-of (now (cols .entry))) (doubles-of (now (vals .entry)))) (given «with_mass» (doubles-of (now (mass .entry)))) (unpacked (lent (now («t_starts» .entry)) (now («t_cols» .entry)) (now («t_vals» .entry)))))) ⌝ }
+{
+    if byte_arrays::large(n, vals.len(), 0) {
+        return 255;
+    }
+    let t = check_answer(
+        n,
+        starts,
+        cols,
+        vals,
+        with_mass,
+        mass,
+        t_starts,
+        t_cols,
+        t_vals,
+    );
+    *value = t.value;
+    *row = t.row;
+    t.number
 }
