@@ -16,6 +16,29 @@ exported!(hazhendu_phi_action_transposed_bytes, u8, u8, [u8, u8, u8], [degree: u
 exported!(hazhendu_phi_action_batched_transposed_bytes, u8, u8, [u8, u8, u8], [degree: u32], [], u32, u32, u64);
 exported!(hazhendu_phi_combination_krylov_transposed_bytes, u8, u8, [u8, u8, u8], [], [tol: f64, m: usize, max_substeps: usize], usize, usize, usize, shortest: f64, last: f64);
 
+extern "C" {
+    pub fn hazhendu_check_transposed_bytes(
+        n: usize,
+        starts: *const u8,
+        starts_len: usize,
+        cols: *const u8,
+        cols_len: usize,
+        vals: *const u8,
+        vals_len: usize,
+        with_mass: bool,
+        mass: *const u8,
+        mass_len: usize,
+        t_starts: *mut u8,
+        t_starts_len: usize,
+        t_cols: *mut u8,
+        t_cols_len: usize,
+        t_vals: *mut u8,
+        t_vals_len: usize,
+        value: *mut f64,
+        row: *mut usize,
+    ) -> u32;
+}
+
 /// The doubles' bytes, and `tail` more that make no whole element.
 pub(crate) fn doubles(list: &[f64], tail: usize) -> Box<[u8]> {
     list.iter().flat_map(|x| x.to_le_bytes()).chain(repeat_n(0xa5, tail % 8)).collect()
@@ -90,4 +113,39 @@ fn left(told: Told, out: &[u8], work: &[u8], buffers: Option<Buffers>) -> Option
     let Told { number, value, counts, steps } = told;
     let answer = Answer { number, value, counts, steps, out: whole_doubles(out), work: whole_doubles(work), buffers };
     (kept(out, 8) && kept(work, 8)).then_some(answer)
+}
+
+/// The answer to the transposed matrix alone, the row as its first count; `None` if a byte behind the last whole element was written. A matrix is too large by
+/// its rows and entries.
+pub fn matrix(job: &Job, tail: usize) -> Option<Answer> {
+    let s = lent(job, tail);
+    let b = job.marked_buffers()?;
+    let (mut starts, mut columns, mut values) = (numbers(&b.starts, tail / 3), numbers(&b.columns, tail), doubles(&b.values, tail / 2));
+    let (mut value, mut row) = (jobs::mark(0), !0);
+    // SAFETY: as of `called!`.
+    let number = unsafe {
+        hazhendu_check_transposed_bytes(
+            job.n,
+            s.starts.as_ptr(),
+            s.starts.len(),
+            s.cols.as_ptr(),
+            s.cols.len(),
+            s.vals.as_ptr(),
+            s.vals.len(),
+            job.mass.is_some(),
+            s.mass.as_ptr(),
+            s.mass.len(),
+            starts.as_mut_ptr(),
+            starts.len(),
+            columns.as_mut_ptr(),
+            columns.len(),
+            values.as_mut_ptr(),
+            values.len(),
+            &mut value,
+            &mut row,
+        )
+    };
+    let buffers = Buffers { starts: whole_numbers(&starts), columns: whole_numbers(&columns), values: whole_doubles(&values) };
+    let answer = Answer { buffers: Some(buffers), ..Answer::of_matrix(number, value, row) };
+    (kept(&starts, 4) && kept(&columns, 4) && kept(&values, 8)).then_some(answer)
 }

@@ -8,7 +8,7 @@ mod slices;
 mod transposed;
 
 #[cfg(feature = "bytes")]
-pub use bytes::answer as answer_on_bytes;
+pub use bytes::{answer as answer_on_bytes, matrix as matrix_on_bytes};
 pub use slices::{call, check, join};
 pub use transposed::check as check_transposed;
 
