@@ -52,8 +52,12 @@ pub(crate) fn whole_doubles(bytes: &[u8]) -> Vec<f64> {
     bytes.chunks_exact(8).map(|b| f64::from_le_bytes(b.try_into().unwrap())).collect()
 }
 
-fn whole_numbers(bytes: &[u8]) -> Vec<u32> {
+fn whole_numbers(bytes: &[u8]) -> Box<[u32]> {
     bytes.chunks_exact(4).map(|b| u32::from_le_bytes(b.try_into().unwrap())).collect()
+}
+
+fn buffers(starts: &[u8], columns: &[u8], values: &[u8]) -> Buffers {
+    Buffers { starts: whole_numbers(starts), columns: whole_numbers(columns), values: whole_doubles(values).into() }
 }
 
 /// Whether the bytes behind the last whole element of `size` bytes hold what they held.
@@ -105,8 +109,7 @@ pub fn answer(job: &Job, tail: usize) -> Option<Answer> {
         hazhendu_phi_action_batched_transposed_bytes,
         hazhendu_phi_combination_krylov_transposed_bytes
     );
-    let buffers = Buffers { starts: whole_numbers(&starts), columns: whole_numbers(&columns), values: whole_doubles(&values) };
-    left(told, &out, &work, Some(buffers)).filter(|_| kept(&starts, 4) && kept(&columns, 4) && kept(&values, 8))
+    left(told, &out, &work, Some(buffers(&starts, &columns, &values))).filter(|_| kept(&starts, 4) && kept(&columns, 4) && kept(&values, 8))
 }
 
 fn left(told: Told, out: &[u8], work: &[u8], buffers: Option<Buffers>) -> Option<Answer> {
@@ -145,7 +148,6 @@ pub fn matrix(job: &Job, tail: usize) -> Option<Answer> {
             &mut row,
         )
     };
-    let buffers = Buffers { starts: whole_numbers(&starts), columns: whole_numbers(&columns), values: whole_doubles(&values) };
-    let answer = Answer { buffers: Some(buffers), ..Answer::of_matrix(number, value, row) };
+    let answer = Answer { buffers: Some(buffers(&starts, &columns, &values)), ..Answer::of_matrix(number, value, row) };
     (kept(&starts, 4) && kept(&columns, 4) && kept(&values, 8)).then_some(answer)
 }
