@@ -327,11 +327,10 @@ fn count(o: &Options, job: &Job, expected: &Expected, t: &mut Tally) {
     }
     t.compared += 1;
     t.above_64_rows += u64::from(job.n > jobs::ROWS);
+    *(if job.is_large() { &mut t.large_on_bytes } else { &mut t.on_bytes }) += 1;
     if job.lent.is_some() {
         count_transposed(job, &expected.answer, t);
-        return;
     }
-    *(if job.is_large() { &mut t.large_on_bytes } else { &mut t.on_bytes }) += 1;
 }
 
 fn count_transposed(job: &Job, answer: &Answer, t: &mut Tally) {
@@ -377,7 +376,6 @@ fn replay(file: &str, side: &str) -> Result<bool, String> {
             "rust" => Some(compare::unaltered(&job)),
             "transcribed" => reference::answer(&job, |j| transcribed::answer(j, u64::MAX)),
             "rattle" => Some(library::answer(&job)),
-            "bytes" if job.lent.is_some() => None,
             "steps" if job.lent.is_some() || !matches!(job.call, Call::Krylov { .. }) => None,
             "steps" => Some(library::paused::answer(&job)),
             "bytes" => library::answer_on_bytes(&job, 0),

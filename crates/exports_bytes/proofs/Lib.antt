@@ -1,4 +1,2 @@
 pub mod Reply
-pub mod Alike
-pub mod Parts
 pub mod Cuts

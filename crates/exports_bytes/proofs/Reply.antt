@@ -21,7 +21,6 @@ pub not-large : {large : Bool} {r : Reply} (u : Reply) (call : Call Numbers) →
 unfolding replied
 not-large u call e d = rw e d
 
--- the same numbers, and those that a large job keeps
-pub kept : {t₁ t u₁ u : Numbers} {out₁ work₁ : List ℕ} (large : Bool) (out work : List ℕ) (call : Call Numbers) → t₁ ≡ t → u₁ ≡ u → replies t out₁ work₁ ≡ replied large (replies u₁ out work) call → replies t₁ out₁ work₁ ≡ replied large (replies u out work) call
-kept {out₁ = out₁} {work₁ = work₁} large out work call et eu e =
-    ap (λ x. replies x out₁ work₁) et ∙ e ∙ ap (λ x. replied large (replies x out work) call) eu
+-- the numbers that are told, where they are stored
+pub telling : {t₁ t : Numbers} {out₁ work₁ : List ℕ} {r : Reply} → t₁ ≡ t → replies t out₁ work₁ ≡ r → replies t₁ out₁ work₁ ≡ r
+telling {out₁ = out₁} {work₁ = work₁} et e = ap (λ x. replies x out₁ work₁) et ∙ e

@@ -28,7 +28,7 @@ module _ (b : List ℕ) (byte : (i : ℕ) → getD b i 0 < 256) where
   small p = omega (arith, sum p, bytes p)
 
   -- byte j of the word from p
-  digit : (p j : ℕ) → j < 8 → word b p / 2 ^ (8 * j) % 256 ≡ getD b (p + j) 0
+  pub digit : (p j : ℕ) → j < 8 → word b p / 2 ^ (8 * j) % 256 ≡ getD b (p + j) 0
   digit p zero l = let d : word b p / 1 % 256 ≡ getD b p 0 = omega (arith, sum p, bytes p) in d ∙ ap (λ (i : ℕ). getD b i 0) (sym (add-zero p))
   digit p (suc zero) l = let d : word b p / 256 % 256 ≡ getD b (p + 1) 0 = omega (arith, sum p, bytes p) in d
   digit p (suc (suc zero)) l = let d : word b p / 65536 % 256 ≡ getD b (p + 2) 0 = omega (arith, sum p, bytes p) in d
@@ -39,7 +39,7 @@ module _ (b : List ℕ) (byte : (i : ℕ) → getD b i 0 < 256) where
   digit p (suc (suc (suc (suc (suc (suc (suc zero))))))) l = let d : word b p / 72057594037927936 % 256 ≡ getD b (p + 4 + 3) 0 = omega (arith, sum p, bytes p) in let e : p + 4 + 3 ≡ p + 7 = omega arith in d ∙ ap (λ (i : ℕ). getD b i 0) e
   digit p (suc (suc (suc (suc (suc (suc (suc (suc j)))))))) l = absurd (omega (arith, l))
 
-  same-byte : (p j : ℕ) → j < 8 → byte-over (double-at b p) b p j ≡ getD b (p + j) 0
+  pub same-byte : (p j : ℕ) → j < 8 → byte-over (double-at b p) b p j ≡ getD b (p + j) 0
   unfolding byte-over double-at
   same-byte p j l = go (isNan (ofBits binary64 (word b p))) refl
     where

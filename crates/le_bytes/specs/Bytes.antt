@@ -23,12 +23,22 @@ word b k = half b k + 4294967296 * half b (k + 4)
 unfoldable pub double-at : List ℕ → ℕ → Float
 double-at b k = ofBits binary64 (word b k)
 
--- the whole elements, of four bytes and of eight
+-- the whole elements: numbers of four bytes, doubles, numbers of eight bytes
 unfoldable pub numbers-of : List ℕ → List ℕ
 numbers-of b = tabulate (length b / 4) (λ k. half b (4 * k))
 
 unfoldable pub doubles-of : List ℕ → List Float
 doubles-of b = tabulate (length b / 8) (λ k. double-at b (8 * k))
+
+unfoldable pub words-of : List ℕ → List ℕ
+words-of b = tabulate (length b / 8) (λ k. word b (8 * k))
+
+-- the numbers xs, of four bytes or of eight, written over the front of b
+unfoldable pub numbers-over : List ℕ → List ℕ → List ℕ
+numbers-over xs b = splice 0 (tabulate (4 * length xs) (λ i. getD xs (i / 4) 0 / 2 ^ (8 * (i % 4)) % 256)) b
+
+unfoldable pub words-over : List ℕ → List ℕ → List ℕ
+words-over xs b = splice 0 (tabulate (8 * length xs) (λ i. getD xs (i / 8) 0 / 2 ^ (8 * (i % 8)) % 256)) b
 
 -- byte j of the double x, written over the eight bytes from p of b
 unfoldable pub byte-over : Float → List ℕ → ℕ → ℕ → ℕ

@@ -6,7 +6,7 @@ ghost use lib.ListN.{length, getD};
 ghost use lib.Ieee.{binary64, isNan, ofBits, toBits};
 ghost use Rattle.lists.specs.Loop.{tabulate};
 ghost use Rattle.lists.specs.Window.{splice};
-ghost use Rattle.le_bytes.specs.Bytes.{half, double-at, numbers-of, doubles-of, byte-over, written-over};
+ghost use Rattle.le_bytes.specs.Bytes.{half, word, double-at, numbers-of, doubles-of, words-of, numbers-over, words-over, byte-over, written-over};
 
 fn byte(b: &[u8], k: usize) -> u64
     requires { ⌜ k < length (now b) ⌝ }
@@ -32,11 +32,18 @@ fn double(w: u64) -> f64
     f64::from_bits(w)
 }
 
+fn word_at(b: &[u8], k: usize) -> u64
+    requires { ⌜ k + 8 ≤ length (now b) ⌝ }
+    ensures { λ r. ⌜ r ≡ word (now (b .entry)) k ⌝ }
+{
+    half_at(b, k) + 4294967296 * half_at(b, k + 4)
+}
+
 pub fn double_at(b: &[u8], k: usize) -> f64
     requires { ⌜ k + 8 ≤ length (now b) ⌝ }
     ensures { λ r. ⌜ r ≡ double-at (now (b .entry)) k ⌝ }
 {
-    double(half_at(b, k) + 4294967296 * half_at(b, k + 4))
+    double(word_at(b, k))
 }
 
 pub fn pattern(x: f64) -> u64
@@ -75,6 +82,33 @@ pub fn unpack_doubles(src: &[u8], dst: &mut [f64])
 {
     for k in 0..dst.len() {
         dst[k] = double_at(src, 8 * k);
+    }
+}
+
+pub fn unpack_words(src: &[u8], dst: &mut [usize])
+    requires { ⌜ length (now dst) ≡ length (now src) / 8 ⌝ }
+    ensures { λ _. ⌜ now (dst .exit) ≡ words-of (now (src .entry)) ⌝ }
+{
+    for k in 0..dst.len() {
+        dst[k] = word_at(src, 8 * k) as usize;
+    }
+}
+
+pub fn pack_numbers(src: &[u32], dst: &mut [u8])
+    requires { ⌜ 4 * length (now src) ≤ length (now dst) ⌝ }
+    ensures { λ _. ⌜ now (dst .exit) ≡ numbers-over (now (src .entry)) (now (dst .entry)) ⌝ }
+{
+    for i in 0..4 * src.len() {
+        dst[i] = ((src[i / 4] >> (8 * (i % 4))) % 256) as u8;
+    }
+}
+
+pub fn pack_words(src: &[usize], dst: &mut [u8])
+    requires { ⌜ 8 * length (now src) ≤ length (now dst) ⌝ }
+    ensures { λ _. ⌜ now (dst .exit) ≡ words-over (now (src .entry)) (now (dst .entry)) ⌝ }
+{
+    for i in 0..8 * src.len() {
+        dst[i] = ((src[i / 8] >> (8 * (i % 8))) % 256) as u8;
     }
 }
 

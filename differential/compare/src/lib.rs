@@ -56,16 +56,28 @@ pub fn own_libm(job: &Job, transcribed: &Answer) -> Option<Difference> {
     Difference::of("own libm", Answer { steps: transcribed.steps, ..unaltered(job) }, transcribed)
 }
 
-/// Where the library differs, on slices and on bytes; `tail` tells how many bytes stand behind the last whole element. There are
-/// no transposed calls on bytes.
+/// Where the library differs, on slices and on bytes; `tail` tells how many bytes stand behind the last whole element.
 pub fn library(job: &Job, expected: &Answer, tail: usize) -> Vec<Difference> {
-    let on_bytes = if job.lent.is_some() { None } else { on_bytes(job, expected, tail) };
-    Difference::of("rattle", library::answer(job), expected).into_iter().chain(on_bytes).collect()
+    Difference::of("rattle", library::answer(job), expected).into_iter().chain(on_bytes(job, expected, tail)).collect()
 }
 
-/// Where its answer to the matrix alone differs.
+/// Where its answer to the matrix alone differs, to that of a transposed job on bytes too, unless it is too large for them.
 pub fn matrix(job: &Job, expected: &Answer) -> Option<Difference> {
-    Difference::of("rattle's matrix answer", library::matrix(job), expected)
+    let on_slices = Difference::of("rattle's matrix answer", library::matrix(job), expected);
+    let on_bytes = || {
+        let large = job.n > jobs::ROWS || job.vals.len() > jobs::ENTRIES;
+        if job.lent.is_none() || large {
+            return None;
+        }
+        let side = "rattle's matrix answer on bytes";
+        match library::matrix_on_bytes(job, job.vals.len()) {
+            Some(got) => Difference::of(side, got, expected),
+            None => {
+                Some(Difference { side, parts: vec!["a byte behind the last whole element"], got: job.large(), expected: expected.clone() })
+            }
+        }
+    };
+    on_slices.or_else(on_bytes)
 }
 
 fn on_bytes(job: &Job, expected: &Answer, tail: usize) -> Option<Difference> {

@@ -40,6 +40,18 @@ impl Seen {
         parts.is_empty()
     }
 
+    /// The same on bytes, where a large job gets 255 and nothing is changed.
+    fn hold_on_bytes(&mut self, at: &str, job: &Job, tol: Option<f64>, before: &Run, got: Option<Left>, expected: Left) -> bool {
+        let large = job.is_large();
+        self.hit(if large { "on bytes: large ones answered by 255" } else { "on bytes: starts and steps" });
+        let Some(got) = got else {
+            self.differences.push(format!("{at} wrote a byte behind the last whole element:\n  job  {}", job.print()));
+            return false;
+        };
+        let expected = if large { Left::refused(job, before, 255, jobs::mark(0)) } else { expected };
+        self.hold(at, job, tol, before, &got, &expected)
+    }
+
     fn differ(&mut self, job: &Job, what: &str, got: &str, expected: &str) {
         self.differences.push(format!("a run by steps differs in {what}:\n  job  {}\n  steps {got}\n  whole {expected}", job.print()));
     }
@@ -156,7 +168,14 @@ pub fn expected_step(job: &Job, tol: Option<f64>, run: &Run, cost: u64, seen: &m
 pub fn start(job: &Job, lent: Run, seen: &mut Seen) -> Option<Left> {
     let expected = expected_start(job, &lent, seen);
     let got = library::paused::start(job, lent.clone());
-    seen.hold("a start", job, None, &lent, &got, &expected).then_some(got)
+    let held = seen.hold("a start", job, None, &lent, &got, &expected);
+    let on_bytes = library::paused::start_on_bytes(job, &lent, tail(job));
+    (seen.hold_on_bytes("a start on bytes", job, None, &lent, on_bytes, expected) && held).then_some(got)
+}
+
+/// How many bytes stand behind the last whole elements.
+fn tail(job: &Job) -> usize {
+    job.vals.len() + job.w.len()
 }
 
 /// A step put to both sides; what it leaves, unless they differ or it costs too much.
@@ -166,7 +185,9 @@ pub fn step(job: &Job, tol: Option<f64>, run: &Run, cost: u64, seen: &mut Seen) 
         return None;
     };
     let got = library::paused::step(job, tol, run.clone());
-    seen.hold("a step", job, tol, run, &got, &expected).then_some(got)
+    let held = seen.hold("a step", job, tol, run, &got, &expected);
+    let on_bytes = library::paused::step_on_bytes(job, tol, run, tail(job));
+    (seen.hold_on_bytes("a step on bytes", job, tol, run, on_bytes, expected) && held).then_some(got)
 }
 
 /// How a run has ended, for the tally; of one that a start or step has just ended.

@@ -1,5 +1,5 @@
-//! The proved library (crates/exports, crates/exports_transposed, crates/exports_paused, crates/exports_stages, crates/exports_bytes):
-//! its exported functions, and a job put to them.
+//! The proved library (crates/exports, exports_transposed, exports_paused, exports_stages, and on bytes exports_bytes,
+//! exports_transposed_bytes, exports_paused_bytes): its exported functions, and a job put to them.
 
 #[cfg(feature = "bytes")]
 mod bytes;
@@ -9,7 +9,7 @@ pub mod stages;
 mod transposed;
 
 #[cfg(feature = "bytes")]
-pub use bytes::answer as answer_on_bytes;
+pub use bytes::{answer as answer_on_bytes, matrix as matrix_on_bytes};
 pub use slices::{call, check, join};
 pub use transposed::check as check_transposed;
 

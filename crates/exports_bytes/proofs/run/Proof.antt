@@ -3,7 +3,7 @@ use borrow.Author.Needs.{needs}
 use Rattle.general_operator.specs.Csr.{csr}
 use Rattle.generator_action.specs.Mass.{given}
 use Rattle.generator_action.specs.Generator.{forward}
-use Rattle.exports_bytes.specs.Inner.{called}
+use Rattle.byte_calls.specs.Inner.{called}
 use Rattle.exports_bytes.proofs.Reply.{packing}
 use Rattle.exports_bytes.proofs.run.Statement.{statement}
 use Rattle.exports_bytes.proofs.run.Tie as tie
@@ -11,7 +11,7 @@ use Rattle.exports_bytes.proofs.run.Tie as tie
 returns : tie.Need-returns
 returns c =
     let a = c .before .before .before .before .before .before .before .before .before .before .before .before .before .before .before .before .before .before .before .before .before .before .before .before .before .before .args in
-    packing (a .out .now) (a .work .now) (called (a .call) (forward (csr (a .n) (a .starts .now) (a .cols .now) (a .vals .now)) (given (a .with-mass) (a .mass .now))) (a .tau) (a .k) (a .v .now) (a .out-room .now) (a .work-room .now))
+    packing (a .out .now) (a .work .now) (called (a .call) (forward (csr (a .n) (a .starts .now) (a .cols .now) (a .vals .now)) (given (a .with-mass) (a .mass .now))) (a .tau) (a .k) (a .v .now) (a .out-array .now) (a .work-array .now))
     (c .before .before .before .before .before .before .before .before .before .before .before .before .before .before .solve .ensures) (c .before .before .before .before .before .before .before .pack-doubles .ensures) (c .before .before .pack-doubles2 .ensures)
 
 pub run-spec : {M : Type 1} → statement M

@@ -2,7 +2,7 @@
 use borrow.Author.Needs.{needs}
 use Rattle.phi_krylov.proofs.Dispatch.{answered}
 use Rattle.answers.specs.Told.{taylor-numbers, krylov-numbers}
-use Rattle.exports_bytes.specs.Inner.{told, called}
+use Rattle.byte_calls.specs.Inner.{told, called}
 use Rattle.exports_bytes.proofs.solve.Statement.{statement}
 use Rattle.exports_bytes.proofs.solve.Tie as tie
 

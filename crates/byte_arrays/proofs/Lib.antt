@@ -1,0 +1,5 @@
+pub mod Alike
+pub mod Parts
+pub mod Bytes
+pub mod Cuts
+pub mod Forward

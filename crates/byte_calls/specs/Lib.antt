@@ -1,0 +1,2 @@
+-- The four calls as one, for the exports on bytes.
+pub mod Inner

@@ -1,0 +1,3 @@
+-- What the exported functions on bytes and on the transposed matrix hand back.
+pub mod Replies
+pub mod Inner
