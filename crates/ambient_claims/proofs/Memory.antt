@@ -18,7 +18,7 @@ use Rattle.ambient_checks.specs.Log.{Log, records-of}
 use Rattle.ambient.specs.declared.AmbientAnswer.{AmbientAnswer}
 use Rattle.ambient.specs.declared.AmbientAnswer.the-variants.{Refusal, NotANumber, Logged}
 use Rattle.ambient.specs.Ambient.{ambient-checks, Ended, ended, Results, places-of, Logging, written, unless-log-refused, ambient}
-use Rattle.ambient.proofs.OneRecord.{clear-more}
+use Rattle.ambient_record.proofs.OneRecord.{clear-more}
 use Rattle.ambient_claims.specs.Ran.{record-need, Ran, NanAt, RefusedAt}
 use Rattle.ambient_claims.proofs.Answers.{whole, refused-at, number-in}
 

@@ -29,7 +29,8 @@ use Rattle.ambient_checks.specs.Log.{Log, records-of, Places, field-checks, log
 use Rattle.ambient_checks.proofs.Checks.{Logged, log-known}
 use Rattle.ambient.specs.declared.AmbientAnswer.{AmbientAnswer}
 use Rattle.ambient.specs.declared.AmbientAnswer.the-variants as answer
-use Rattle.ambient.specs.Ambient.{wider, ambient-checks, Results, places-of, Logging, written, ended, unless-log-refused, ambient}
+use Rattle.ambient_record.specs.Record.{wider}
+use Rattle.ambient.specs.Ambient.{ambient-checks, Results, places-of, Logging, written, ended, unless-log-refused, ambient}
 use Rattle.ambient_claims.specs.Ran.{record-need, Ran, RefusedAt}
 use Rattle.ambient_claims.proofs.Answers.{whole, Leaves, refused-at, at-refused-leaves, refusal-is, number-in}
 use Rattle.ambient_claims.proofs.Memory.{room-ran}

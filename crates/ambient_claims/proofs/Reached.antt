@@ -18,7 +18,8 @@ use Rattle.phi_action.specs.declared.TaylorAnswer.{TaylorAnswer}
 use Rattle.phi_action.specs.declared.TaylorAnswer.the-variants as taylor
 use Rattle.ambient_checks.specs.Log.{Log, records-of}
 use Rattle.ambient.specs.declared.AmbientAnswer.the-variants.{Refusal, NotANumber, Logged}
-use Rattle.ambient.specs.Ambient.{Progress, Ended, ended, shown, settle, record-call, record-step, begun}
+use Rattle.ambient.specs.Ambient.{Progress, Ended, ended, shown, settle, record-step, begun}
+use Rattle.ambient_record.specs.Record.{record-call}
 use Rattle.stages_claims.proofs.Walks.{next, walk-next}
 use Rattle.ambient_claims.specs.Ran.{Gave, record-need, vectors-at, call-at, temperature-at, Run, Next, Ran}
 use Rattle.ambient_claims.proofs.Single.{Passed, refused-record, passed-record, ran-sound}

@@ -30,8 +30,8 @@ use Rattle.combination.proofs.Admitted.{sweeps-known, enough-known}
 use Rattle.phi_action.specs.Calls.{Fields, after-plan, soaked, combination-checks, combination-run, phi-combination}
 use Rattle.phi_action.specs.declared.TaylorAnswer.{TaylorAnswer}
 use Rattle.phi_action.specs.declared.TaylorAnswer.the-variants as taylor
-use Rattle.ambient.specs.Ambient.{wider, record-call}
-use Rattle.ambient.proofs.OneRecord.{checks-wider}
+use Rattle.ambient_record.specs.Record.{wider, record-call}
+use Rattle.ambient_record.proofs.OneRecord.{checks-wider}
 use Rattle.ambient_claims.specs.Ran.{Gave, record-need}
 
 module _ (g : Generator) (tau level : Float) (f load o m : List Float) where

@@ -42,8 +42,8 @@ use Rattle.phi_action.specs.declared.TaylorAnswer.{TaylorAnswer}
 use Rattle.phi_action.specs.declared.TaylorAnswer.the-variants as taylor
 use Rattle.phi_action.proofs.Jobs.{planned}
 use Rattle.ambient_checks.specs.Inner.{early-checks, record-job}
-use Rattle.ambient.specs.Ambient.{wider, record-call}
-use Rattle.ambient.specs.Inner.{record-end}
+use Rattle.ambient_record.specs.Record.{wider, record-call}
+use Rattle.ambient_record.specs.Inner.{record-end}
 
 pub spliced-long : (p : ℕ) (xs w₀ : List Float) {w₁ : List Float} → w₁ ≡ splice p xs w₀ → length w₁ ≡ length w₀
 spliced-long p xs w₀ e = ap length e ∙ length-splice p xs w₀
