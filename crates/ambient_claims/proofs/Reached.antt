@@ -113,6 +113,21 @@ module _ (g : Generator) (log : Log) (start load : List Float) (node : ℕ) (out
           go (nan a b c) = absurd (omega (arith, true-not (sym b ∙ e)))
           go (result a b c) = c
 
+  -- a record has a result exactly where its call gave one, n doubles more were there, and the temperature is no NaN
+  pub result-only : (i : ℕ) (p q : Progress) → record-step g log load node i p ≡ on q → Run g log start load node output memory i (p .field) (p .output) (p .memory) × ((isNan (temperature i p) ≡ false) × (q ≡ after i p))
+  result-only i p q e = go (outcome i p)
+    where
+      differ : {x : Ended} {y : Progress} → _≡_ {A = Turn Progress Ended} (out x) (on y) → zero ≡ 1
+      differ e = cc
+
+      same : {x y : Progress} → _≡_ {A = Turn Progress Ended} (on x) (on y) → y ≡ x
+      same e = cc
+
+      go : Outcome i p → Run g log start load node output memory i (p .field) (p .output) (p .memory) × ((isNan (temperature i p) ≡ false) × (q ≡ after i p))
+      go (refused k x a b) = absurd (omega (arith, differ (sym b ∙ e)))
+      go (nan a b c) = absurd (omega (arith, differ (sym c ∙ e)))
+      go (result a b c) = (a, (b, same (sym c ∙ e)))
+
   -- ---- after i records with results
   abbrev pub RanTo : ℕ → Progress → Type 0
   RanTo i p = Ran g log start load node output memory i (p .field) (p .output) (p .memory) (p .temperatures)
