@@ -13,7 +13,7 @@ use lib.ListN.{length, set, take, length-set}
 use lib.Seq.{take-suc, take-set-le, getD-set-same}
 use lib.Ieee.{Float, nan, isNan}
 use borrow.Author.Tests.{ne-eqb}
-use Rattle.lists.specs.Walk.{Turn, on, out, walk}
+use Rattle.lists.specs.Walk.{Turn, on, walk}
 use Rattle.lists.specs.Window.{window, splice}
 use Rattle.lists.proofs.Walk.{Left, left-out, left-none}
 use Rattle.lists.proofs.Window.{length-window, splice-snoc}

@@ -9,7 +9,6 @@ use Rattle.doubles.specs.F64.{bits, nat, 1f, +0, +∞}
 use Rattle.general_operator.specs.Csr.{Csr, csr}
 use Rattle.generator_action.specs.Generator.{forward}
 use Rattle.ambient_checks.specs.Inner.{log-of}
-use Rattle.ambient.specs.declared.AmbientAnswer.{AmbientAnswer}
 use Rattle.ambient.specs.declared.AmbientAnswer.the-variants.{Refusal, NotANumber, Logged}
 use Rattle.ambient.specs.Ambient.{Logging, ambient, open-Ambient}
 use Rattle.ambient.specs.Inner.{results, logging}

@@ -2,7 +2,7 @@
 use mathlib.Core.Path.{_≡_, refl, sym, ap, _∙_}
 use mathlib.Core.Logic.{inl, inr}
 use mathlib.Core.List.{List, [], _++_}
-use Prim.Native.Nat.{ℕ, _+_, _-_, _*_, _≤_, _<_}
+use Prim.Native.Nat.{ℕ, _+_, _-_, _*_, _≤_}
 use native.Mathlib.Omega.{arith}
 use native.Mathlib.Nat.{one-mul}
 use lib.Dec.{ltb}
@@ -30,7 +30,7 @@ use Rattle.phi_shift.specs.Plan.{sweep-plan}
 use Rattle.combination.specs.Combination.{further, eta-of, combination-operator, combination-start}
 use Rattle.combination.specs.Checks.{count-checks, plan-checks, length-checks, finite-checks, magnitude-checks, schedule-checks, memory-checks, vector-checks-by, vector-checks, sweep-checks, taylor-need}
 use Rattle.combination.specs.Call.{Call, ends, cleared}
-use Rattle.combination.specs.Inner.{Coupled, matrix-of, after-checks, combination-job}
+use Rattle.combination.specs.Inner.{Coupled, matrix-of, after-checks}
 use Rattle.combination.specs.declared.Job.{Job}
 use Rattle.combination.proofs.Admitted.{coupled-in, sweeps-known, length-start}
 use Rattle.combination.proofs.Ends.{refused-by, runs}
