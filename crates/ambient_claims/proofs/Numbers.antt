@@ -82,7 +82,7 @@ module _ (g : Generator) (log : Log) (start load : List Float) (W node : ℕ) (o
       (λ f. not-by 23 early (early-no-23 (h .unnumbered)) (sym f))
       (λ i o m xs s n c. not-by 23 _ (combination-no-number g h _ 30 2 _ _ _) (sym (c .refused)))
 
-  -- ---- 26
+  -- ---- 26: at record 1 alone, where all other checks of it pass
   module _ (plain : before 26 (g .checks) ≡ g .checks) where
     early-no-26 : before 26 early ≡ early
     unfolding before ambient-checks field-checks log-checks length-checks finite-checks
