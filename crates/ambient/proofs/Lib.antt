@@ -1,3 +1,2 @@
-pub mod OneRecord
 pub mod Turns
 pub mod Whole

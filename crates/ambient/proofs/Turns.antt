@@ -13,7 +13,7 @@ use lib.ListN.{length, set, take, length-set}
 use lib.Seq.{take-suc, take-set-le, getD-set-same}
 use lib.Ieee.{Float, nan, isNan}
 use borrow.Author.Tests.{ne-eqb}
-use Rattle.lists.specs.Walk.{Turn, on, out, walk}
+use Rattle.lists.specs.Walk.{Turn, on, walk}
 use Rattle.lists.specs.Window.{window, splice}
 use Rattle.lists.proofs.Walk.{Left, left-out, left-none}
 use Rattle.lists.proofs.Window.{length-window, splice-snoc}
@@ -23,12 +23,13 @@ use Rattle.combination.specs.Call.{Call, ends}
 use Rattle.phi_action.specs.declared.TaylorAnswer.{TaylorAnswer}
 use Rattle.phi_action.specs.declared.TaylorAnswer.the-variants as taylor
 use Rattle.phi_action.specs.declared.TaylorReport.{TaylorReport}
+use Rattle.ambient_record.specs.Record.{record-call}
 use Rattle.ambient_checks.specs.Log.{Log}
 use Rattle.ambient_checks.specs.Inner.{field-of}
 use Rattle.ambient.specs.declared.AmbientAnswer.{AmbientAnswer}
 use Rattle.ambient.specs.declared.AmbientAnswer.the-variants.{Refusal, NotANumber, Logged}
 use Rattle.ambient.proofs.AmbientAnswer.{the-type}
-use Rattle.ambient.specs.Ambient.{Progress, Ended, ended, shown, settle, record-call, record-step, concluded}
+use Rattle.ambient.specs.Ambient.{Progress, Ended, ended, shown, settle, record-step, concluded}
 use Rattle.ambient.specs.Inner.{turn-at, results-of, shown-in}
 
 -- a refusal and a NaN temperature are no result

@@ -1,5 +1,5 @@
 -- The whole: refused before any record, or the records and the extremes of their temperatures. Assumes nothing.
-use mathlib.Core.Path.{_≡_, refl, sym, ap, _∙_}
+use mathlib.Core.Path.{_≡_, refl, ap, _∙_}
 use mathlib.Core.List.{List, _++_}
 use Prim.Native.Nat.{ℕ, _≤_}
 use native.Mathlib.Omega.{arith}
@@ -10,7 +10,7 @@ use Rattle.lists.specs.Walk.{on, walk}
 use Rattle.lists.specs.Window.{window, splice}
 use Rattle.lists.proofs.Window.{length-splice}
 use Rattle.doubles.specs.F64.{maxNum, minNum}
-use Rattle.extremes.specs.Extremes.{extreme, largest, smallest}
+use Rattle.extremes.specs.Extremes.{largest, smallest}
 use Rattle.extremes.proofs.Windows.{extremes-of-front}
 use Rattle.checks.specs.First.{first}
 use Rattle.checks.specs.declared.Checked.{Checked}
@@ -23,10 +23,10 @@ use Rattle.combination.specs.Call.{ends}
 use Rattle.admission.proofs.Stored.{quotients-rows}
 use Rattle.ambient_checks.specs.Log.{Log, records-of, Places, field-checks, log-checks}
 use Rattle.ambient_checks.specs.Inner.{places}
-use Rattle.ambient_checks.proofs.Checks.{Fields, fields-known, Logged, log-known}
+use Rattle.ambient_checks.proofs.Checks.{fields-known, log-known}
 use Rattle.ambient.specs.declared.AmbientAnswer.{AmbientAnswer}
 use Rattle.ambient.specs.declared.AmbientAnswer.the-variants.{Refusal}
-use Rattle.ambient.specs.Ambient.{Ended, ended, record-step, ambient-checks, written, concluded, begun, unless-log-refused, ambient}
+use Rattle.ambient.specs.Ambient.{ended, record-step, ambient-checks, written, concluded, begun, unless-log-refused, ambient}
 use Rattle.ambient.specs.Inner.{results-of, shown-in, Logs, results, logging}
 
 -- ---- what the slices hold at the end

@@ -9,29 +9,18 @@ use Rattle.lists.specs.Loop.{tabulate}
 use Rattle.lists.specs.Walk.{Turn, on, out, walk}
 use Rattle.lists.specs.Window.{splice}
 use Rattle.doubles.specs.F64.{at}
-use Rattle.vectors.specs.Vectors.{scale}
 use Rattle.extremes.specs.Extremes.{largest, smallest, open-Extremes}
 use Rattle.checks.specs.First.{Check, first}
 use Rattle.checks.specs.declared.Checked.{Checked}
 use Rattle.checks.specs.declared.Checked.the-variants.{Sound, Refused}
 use Rattle.generator_action.specs.Generator.{Generator}
-use Rattle.expmv.specs.Select.{M-MAX}
 use Rattle.combination.specs.Call.{Call, ends}
-use Rattle.phi_action.specs.Calls.{phi-combination, open-Calls}
 use Rattle.phi_action.specs.declared.TaylorAnswer.{TaylorAnswer}
 use Rattle.phi_action.specs.declared.TaylorAnswer.the-variants as taylor
+use Rattle.ambient_record.specs.Record.{record-call, open-Record}
 use Rattle.ambient_checks.specs.Log.{Log, records-of, Places, field-checks, log-checks, open-Log}
 use Rattle.ambient.specs.declared.AmbientAnswer.{AmbientAnswer}
 use Rattle.ambient.specs.declared.AmbientAnswer.the-variants.{Refusal, NotANumber, Logged}
-
--- ---- one record
--- n doubles more of working memory
-abbrev pub wider : Generator → Generator
-wider g = record { checks = g .checks; matrix = g .matrix; stored = g .stored + g .matrix .n }
-
--- the Taylor combination of the field and of the load times the level, entry by entry; a caller naming no highest degree passes 30 (N7)
-unfoldable pub record-call : Generator → Float → Float → List Float → List Float → List Float → List Float → Call TaylorAnswer
-record-call g duration level field load output memory = phi-combination (wider g) duration M-MAX 2 (field ++ scale level load) output memory
 
 -- ---- the log
 -- before a record: the field, what the output and the working memory hold, and the temperatures so far
@@ -118,5 +107,5 @@ ambient g log field load W node output memory r =
 
 -- to compute: a line `unfolding open-Ambient` opens every definition of this file and of those below it
 unfoldable pub open-Ambient : Unit {0}
-unfolding record-call shown settle record-step ambient-checks written concluded unless-log-refused ambient walk splice tabulate scale open-Extremes open-Log open-Calls
+unfolding shown settle record-step ambient-checks written concluded unless-log-refused ambient walk splice tabulate open-Extremes open-Log open-Record
 open-Ambient = tt

@@ -2,24 +2,14 @@
 -- Definitions only.
 use mathlib.Core.List.{List}
 use mathlib.Core.Path.{_≡_}
-use Prim.Native.Nat.{ℕ, _+_, _-_, _≤_, _<_}
+use Prim.Native.Nat.{ℕ, _-_, _≤_, _<_}
 use lib.Ieee.{Float}
 use Rattle.lists.specs.Walk.{Turn, on, out}
-use Rattle.lists.specs.Window.{window, splice}
-use Rattle.general_operator.specs.Csr.{Csr}
-use Rattle.combination.specs.Call.{Call, ends, cleared}
-use Rattle.admission.specs.declared.Job.{Job}
-use Rattle.phi_action_helpers.specs.declared.SweepPlan.{SweepPlan}
-use Rattle.phi_action.specs.Calls.{Fields, report}
-use Rattle.phi_action.specs.Inner.{plan-by}
-use Rattle.phi_action.specs.declared.TaylorAnswer.{TaylorAnswer}
+use Rattle.lists.specs.Window.{window}
+use Rattle.combination.specs.Call.{ends}
 use Rattle.ambient.specs.Ambient.{Progress, Ended, ended, Results, Logging}
 use Rattle.ambient.specs.declared.AmbientAnswer.{AmbientAnswer}
 use Rattle.ambient.specs.declared.AmbientAnswer.the-variants.{Refusal, NotANumber, Logged}
-
--- how a record that passed ends: n doubles more than its combination needed are cleared
-abbrev pub record-end : Job → Csr → (SweepPlan → Fields) → List Float → Call TaylorAnswer
-record-end j q run memory = ends (report (plan-by j q) (run (plan-by j q) .applied)) (run (plan-by j q) .fields) (cleared (j .need + j .g .n) memory)
 
 -- after some records, all with a result so far where the answer is Logged
 unfoldable pub turn-at : AmbientAnswer → List Float → List Float → List Float → List Float → Turn Progress Ended

@@ -1,18 +1,17 @@
 -- What the checks of field, load and log leave. Assumes nothing.
-use mathlib.Core.Path.{_≡_, refl, sym, _∙_}
-use mathlib.Core.List.{List, _∷_, _++_}
+use mathlib.Core.Path.{_≡_, refl}
+use mathlib.Core.List.{List}
 use Prim.Native.Nat.{ℕ, zero, suc, _≤_, _<_}
 use native.Mathlib.Omega.{arith}
-use lib.Dec.{eqb, ltb, leb}
+use lib.Dec.{eqb, ltb}
 use lib.ListN.{length}
 use lib.Ieee.{Float}
 use borrow.Author.Tests.{eqb-true, eqb-false, not-false, ltb-false, leb-false}
 use Rattle.checks.specs.First.{first}
-use Rattle.checks.specs.declared.Checked.{Checked}
 use Rattle.checks.specs.declared.Checked.the-variants.{Sound}
 use Rattle.checks.proofs.First.{sound-cons, sound-append}
 use Rattle.general_operator.proofs.Sound.{or-false}
-use Rattle.combination.specs.Checks.{length-checks, finite-checks}
+use Rattle.combination.specs.Checks.{length-checks}
 use Rattle.ambient_checks.specs.Log.{Log, records-of, Places, field-checks, log-checks}
 
 -- ---- 15 to 17

@@ -2,7 +2,7 @@
 use mathlib.Core.Path.{_≡_, refl, sym, ap, _∙_}
 use mathlib.Core.Bool.{true, false}
 use mathlib.Core.List.{List, [], _∷_, _++_}
-use Prim.Native.Nat.{ℕ, _*_, _≤_, _<_}
+use Prim.Native.Nat.{ℕ, _≤_, _<_}
 use native.Mathlib.Omega.{arith}
 use native.Mathlib.Nat.{zero-mul}
 use lib.ListN.{length}
@@ -16,14 +16,12 @@ use Rattle.power.specs.Power.{times}
 use Rattle.vectors.specs.Vectors.{scale}
 use Rattle.vectors.proofs.Laws.{length-scale, scale-at}
 use Rattle.pow2.specs.Pow2.{sup}
-use Rattle.checks.specs.First.{Check, first}
-use Rattle.checks.specs.declared.Checked.{Checked}
+use Rattle.checks.specs.First.{first}
 use Rattle.checks.specs.declared.Checked.the-variants.{Sound, Refused}
 use Rattle.checks.proofs.First.{passes-find, stops-find, ends-sound}
 use Rattle.combination.specs.Combination.{vector, gain, weighed, magnitude}
 use Rattle.combination.specs.Checks.{not-finite-at, finite-checks}
 use Rattle.weighted_columns.specs.Inner.{powers-of}
-use Rattle.weighted_columns.specs.declared.Powers.{Powers}
 use Rattle.combination.proofs.Further.{finite-behind}
 
 -- ---- 17

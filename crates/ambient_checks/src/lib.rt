@@ -1,18 +1,16 @@
 // The checks of a soak under a changing ambient level: of field, load and log, and of one record. The load times the level is computed value by value,
 // so that nothing is written before a record has passed.
-use admission::Job;
 use checks::Checked;
-use generator_action::Shape;
+use admission::Job;
 use weighted_columns::Powers;
+use generator_action::Shape;
 ghost use mathlib.Core.Path.{_≡_};
 ghost use mathlib.Core.Bool.{not, _||_};
-ghost use mathlib.Core.List.{_++_};
 ghost use Prim.Native.Nat.{_+_, _-_, _≤_, _<_};
 ghost use lib.Dec.{eqb, ltb, leb};
 ghost use lib.ListN.{length};
 ghost use Rattle.lists.specs.Find.{find};
 ghost use Rattle.lists.specs.Window.{splice};
-ghost use Rattle.doubles.specs.F64.{_⊗_, at};
 ghost use Rattle.vectors.specs.Vectors.{scale};
 ghost use Rattle.pow2.specs.Pow2.{sup};
 ghost use Rattle.checks.specs.First.{first};

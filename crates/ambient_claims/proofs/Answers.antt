@@ -1,14 +1,13 @@
 -- A soak under a changing ambient level answers as its single calls in a row do. Assumes nothing.
 use mathlib.Core.Path.{_≡_, refl, sym, ap, _∙_}
 use mathlib.Core.Bool.{true}
-use mathlib.Core.List.{List, [], _∷_, _++_}
-use Prim.Native.Nat.{ℕ, zero, suc, _+_, _-_, _≤_, _<_}
+use mathlib.Core.List.{List}
+use Prim.Native.Nat.{ℕ, zero, suc, _+_, _-_, _<_}
 use native.Mathlib.Omega.{arith}
-use lib.ListN.{length, length-append}
+use lib.ListN.{length}
 use lib.Ieee.{Float, isNan}
 use Rattle.lists.specs.Walk.{Turn, on, out}
 use Rattle.checks.specs.First.{first}
-use Rattle.checks.specs.declared.Checked.{Checked}
 use Rattle.checks.specs.declared.Checked.the-variants.{Sound, Refused}
 use Rattle.generator_action.specs.Generator.{Generator}
 use Rattle.combination.specs.Call.{Call, ends, cleared}
@@ -17,7 +16,7 @@ use Rattle.ambient.specs.declared.AmbientAnswer.{AmbientAnswer}
 use Rattle.ambient.specs.declared.AmbientAnswer.the-variants.{Refusal, NotANumber, Logged}
 use Rattle.ambient.specs.Ambient.{Progress, Ended, ended, record-step, begun, concluded, ambient-checks, Results, places-of, Logging, written, unless-log-refused, ambient}
 use Rattle.stages_claims.proofs.Walks.{next, walk-next, stays, EndedAt, ended-at}
-use Rattle.ambient_claims.specs.Ran.{record-need, Run, Ran, Complete, NanAt, RefusedAt}
+use Rattle.ambient_claims.specs.Ran.{record-need, Run, Complete, NanAt, RefusedAt}
 use Rattle.ambient_claims.proofs.Reached.{stands, call, temperature, checked, RanTo, Outcome, refused, nan, result, outcome, refused-step, nan-step, reached, standing, back}
 
 -- ---- answers told apart

@@ -1,7 +1,7 @@
 -- Soaks under a changing ambient level, computed. Assumes nothing.
 use mathlib.Core.Path.{_≡_, refl}
 use mathlib.Core.List.{List, [], _∷_, _++_}
-use mathlib.Core.Option.{none}
+use mathlib.Core.Option.{none, some}
 use Prim.Native.Nat.{ℕ}
 use lib.ListN.{replicate}
 use lib.Ieee.{Float, nan}
@@ -9,7 +9,6 @@ use Rattle.doubles.specs.F64.{bits, nat, 1f, +0, +∞}
 use Rattle.general_operator.specs.Csr.{Csr, csr}
 use Rattle.generator_action.specs.Generator.{forward}
 use Rattle.ambient_checks.specs.Inner.{log-of}
-use Rattle.ambient.specs.declared.AmbientAnswer.{AmbientAnswer}
 use Rattle.ambient.specs.declared.AmbientAnswer.the-variants.{Refusal, NotANumber, Logged}
 use Rattle.ambient.specs.Ambient.{Logging, ambient, open-Ambient}
 use Rattle.ambient.specs.Inner.{results, logging}
@@ -85,6 +84,20 @@ short-memory : ambient (forward empty none) (log-of (1f ∷ []) (1f ∷ [])) (+0
     ≡ logging (Refusal 26 nan 1) (nat 7 ∷ []) (nines 5) sevens sevens sevens
 unfolding open-Ambient
 short-memory = refl
+
+-- with a mass the entries are needed too: 4 + 2 + 1 doubles
+abbrev one-entry : Csr
+one-entry = csr 1 (0 ∷ 1 ∷ []) (0 ∷ []) (1f ∷ [])
+
+short-of-entries : ambient (forward one-entry (some (nat 2 ∷ []))) (log-of (1f ∷ []) (1f ∷ [])) (+0 ∷ []) (1f ∷ []) 1 0 (nat 7 ∷ []) (nines 6) (results sevens sevens sevens)
+    ≡ logging (Refusal 26 nan 1) (nat 7 ∷ []) (nines 6) sevens sevens sevens
+unfolding open-Ambient
+short-of-entries = refl
+
+enough-for-entries : ambient (forward one-entry (some (nat 2 ∷ []))) (log-of (+0 ∷ []) (1f ∷ [])) (1f ∷ []) (1f ∷ []) 1 0 (nat 7 ∷ []) (nines 8) (results sevens sevens sevens)
+    ≡ logging Logged (1f ∷ []) (replicate 7 +0 ++ nines 1) (1f ∷ nat 7 ∷ []) (1f ∷ nat 7 ∷ []) (1f ∷ nat 7 ∷ [])
+unfolding open-Ambient
+enough-for-entries = refl
 
 -- a negative duration at record 2: the field of record 1
 negative-time : ambient (forward empty none) (log-of (1f ∷ -1 ∷ []) (1f ∷ 1f ∷ [])) (+0 ∷ []) (1f ∷ []) 1 0 (nat 7 ∷ []) (nines 7) (results sevens sevens sevens)

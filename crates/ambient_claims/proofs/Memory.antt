@@ -6,21 +6,20 @@ use native.Mathlib.Omega.{arith}
 use lib.ListN.{length, replicate}
 use lib.Ieee.{Float}
 use Rattle.lists.specs.Loop.{tabulate}
-use Rattle.lists.specs.Window.{splice}
 use Rattle.lists.proofs.Window.{length-splice, splice-nil}
 use Rattle.doubles.specs.F64.{+0}
 use Rattle.checks.specs.First.{first}
 use Rattle.checks.specs.declared.Checked.{Checked}
 use Rattle.checks.specs.declared.Checked.the-variants.{Sound, Refused}
 use Rattle.generator_action.specs.Generator.{Generator}
-use Rattle.combination.specs.Call.{Call, ends, cleared}
-use Rattle.ambient_checks.specs.Log.{Log, records-of}
+use Rattle.combination.specs.Call.{ends, cleared}
+use Rattle.ambient_checks.specs.Log.{Log}
 use Rattle.ambient.specs.declared.AmbientAnswer.{AmbientAnswer}
-use Rattle.ambient.specs.declared.AmbientAnswer.the-variants.{Refusal, NotANumber, Logged}
-use Rattle.ambient.specs.Ambient.{ambient-checks, Ended, ended, Results, places-of, Logging, written, unless-log-refused, ambient}
-use Rattle.ambient.proofs.OneRecord.{clear-more}
+use Rattle.ambient.specs.declared.AmbientAnswer.the-variants.{Refusal}
+use Rattle.ambient.specs.Ambient.{ambient-checks, ended, Results, places-of, Logging, written, unless-log-refused, ambient}
+use Rattle.ambient_record.proofs.OneRecord.{clear-more}
 use Rattle.ambient_claims.specs.Ran.{record-need, Ran, NanAt, RefusedAt}
-use Rattle.ambient_claims.proofs.Answers.{whole, refused-at, number-in}
+use Rattle.ambient_claims.proofs.Answers.{whole, refused-at}
 
 module _ (g : Generator) (log : Log) (start load : List Float) (node : ℕ) (output memory : List Float) where
   -- ---- after one record with a result or more it is cleared as far as a record needs

@@ -3,7 +3,7 @@ use mathlib.Core.Path.{_≡_, refl, sym, ap, _∙_}
 use mathlib.Core.Bool.{Bool, true, false}
 use mathlib.Core.Option.{none, some}
 use mathlib.Core.List.{List, [], _++_}
-use Prim.Native.Nat.{ℕ, zero, suc, _+_, _-_, _*_, _≤_, _<_}
+use Prim.Native.Nat.{ℕ, zero, suc, _+_, _-_, _*_, _<_}
 use native.Mathlib.Omega.{arith}
 use lib.Dec.{ltb}
 use lib.ListN.{length}
@@ -21,17 +21,17 @@ use Rattle.general_operator.specs.Checks.{matrix-checks, shape-checks, row-chec
 use Rattle.generator_action.specs.Mass.{Mass, given, normalise, quotients, quotient-need, mass-checks, sum-checks, norm-checks, bound-checks, generator-checks}
 use Rattle.generator_action.specs.Generator.{Generator, forward}
 use Rattle.combination.specs.Combination.{further, eta-of}
-use Rattle.combination.specs.Call.{Call, ends}
+use Rattle.combination.specs.Call.{ends}
 use Rattle.combination.specs.Checks.{count-checks, time-checks, degree-checks, plan-checks, length-checks, finite-checks, magnitude-checks, schedule-checks, memory-checks, vector-checks-by, vector-checks, sweep-checks, taylor-need}
 use Rattle.phi_action.specs.Calls.{combination-checks}
 use Rattle.demand_3.proofs.Never23.{InRange, combination-no-number}
 use Rattle.ambient_checks.specs.Log.{Log, records-of, Places, field-checks, log-checks}
 use Rattle.ambient_checks.proofs.Checks.{Logged, log-known}
-use Rattle.ambient.specs.declared.AmbientAnswer.{AmbientAnswer}
 use Rattle.ambient.specs.declared.AmbientAnswer.the-variants as answer
-use Rattle.ambient.specs.Ambient.{wider, ambient-checks, Results, places-of, Logging, written, ended, unless-log-refused, ambient}
+use Rattle.ambient_record.specs.Record.{wider}
+use Rattle.ambient.specs.Ambient.{ambient-checks, Results, places-of, Logging, written, unless-log-refused, ambient}
 use Rattle.ambient_claims.specs.Ran.{record-need, Ran, RefusedAt}
-use Rattle.ambient_claims.proofs.Answers.{whole, Leaves, refused-at, at-refused-leaves, refusal-is, number-in}
+use Rattle.ambient_claims.proofs.Answers.{whole, refused-at, at-refused-leaves, refusal-is}
 use Rattle.ambient_claims.proofs.Memory.{room-ran}
 
 -- ---- 38 to 40 pass exactly where W, the node, the records and the slices are as document 02 wants them
@@ -82,7 +82,7 @@ module _ (g : Generator) (log : Log) (start load : List Float) (W node : ℕ) (o
       (λ f. not-by 23 early (early-no-23 (h .unnumbered)) (sym f))
       (λ i o m xs s n c. not-by 23 _ (combination-no-number g h _ 30 2 _ _ _) (sym (c .refused)))
 
-  -- ---- 26
+  -- ---- 26: at record 1 alone, where all other checks of it pass
   module _ (plain : before 26 (g .checks) ≡ g .checks) where
     early-no-26 : before 26 early ≡ early
     unfolding before ambient-checks field-checks log-checks length-checks finite-checks

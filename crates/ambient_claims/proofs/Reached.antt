@@ -1,8 +1,8 @@
 -- The records of a log one after the other: what stands after i of them. Assumes nothing.
-use mathlib.Core.Path.{_≡_, refl, sym, ap, _∙_, subst}
+use mathlib.Core.Path.{_≡_, refl, sym, ap, _∙_}
 use mathlib.Core.Bool.{Bool, true, false}
 use mathlib.Core.List.{List, [], _∷_, _++_}
-use Prim.Native.Nat.{ℕ, zero, suc, _+_, _-_, _≤_}
+use Prim.Native.Nat.{ℕ, zero, suc, _+_, _-_}
 use native.Mathlib.Omega.{arith}
 use lib.ListN.{length}
 use lib.Ieee.{Float, isNan}
@@ -16,11 +16,12 @@ use Rattle.combination.specs.Call.{Call, ends, cleared}
 use Rattle.phi_action.specs.Calls.{combination-checks}
 use Rattle.phi_action.specs.declared.TaylorAnswer.{TaylorAnswer}
 use Rattle.phi_action.specs.declared.TaylorAnswer.the-variants as taylor
-use Rattle.ambient_checks.specs.Log.{Log, records-of}
-use Rattle.ambient.specs.declared.AmbientAnswer.the-variants.{Refusal, NotANumber, Logged}
-use Rattle.ambient.specs.Ambient.{Progress, Ended, ended, shown, settle, record-call, record-step, begun}
+use Rattle.ambient_checks.specs.Log.{Log}
+use Rattle.ambient.specs.declared.AmbientAnswer.the-variants.{Refusal, NotANumber}
+use Rattle.ambient.specs.Ambient.{Progress, Ended, ended, shown, settle, record-step, begun}
+use Rattle.ambient_record.specs.Record.{record-call}
 use Rattle.stages_claims.proofs.Walks.{next, walk-next}
-use Rattle.ambient_claims.specs.Ran.{Gave, record-need, vectors-at, call-at, temperature-at, Run, Next, Ran}
+use Rattle.ambient_claims.specs.Ran.{Gave, record-need, vectors-at, call-at, Run, Next, Ran}
 use Rattle.ambient_claims.proofs.Single.{Passed, refused-record, passed-record, ran-sound}
 
 module _ (g : Generator) (log : Log) (start load : List Float) (node : ℕ) (output memory : List Float) where
@@ -111,6 +112,21 @@ module _ (g : Generator) (log : Log) (start load : List Float) (node : ℕ) (out
           go (refused k x a b) = absurd (omega (arith, refused-not (sound ∙ a)))
           go (nan a b c) = absurd (omega (arith, true-not (sym b ∙ e)))
           go (result a b c) = c
+
+  -- a record has a result exactly where its call gave one, n doubles more were there, and the temperature is no NaN
+  pub result-only : (i : ℕ) (p q : Progress) → record-step g log load node i p ≡ on q → Run g log start load node output memory i (p .field) (p .output) (p .memory) × ((isNan (temperature i p) ≡ false) × (q ≡ after i p))
+  result-only i p q e = go (outcome i p)
+    where
+      differ : {x : Ended} {y : Progress} → _≡_ {A = Turn Progress Ended} (out x) (on y) → zero ≡ 1
+      differ e = cc
+
+      same : {x y : Progress} → _≡_ {A = Turn Progress Ended} (on x) (on y) → y ≡ x
+      same e = cc
+
+      go : Outcome i p → Run g log start load node output memory i (p .field) (p .output) (p .memory) × ((isNan (temperature i p) ≡ false) × (q ≡ after i p))
+      go (refused k x a b) = absurd (omega (arith, differ (sym b ∙ e)))
+      go (nan a b c) = absurd (omega (arith, differ (sym c ∙ e)))
+      go (result a b c) = (a, (b, same (sym c ∙ e)))
 
   -- ---- after i records with results
   abbrev pub RanTo : ℕ → Progress → Type 0

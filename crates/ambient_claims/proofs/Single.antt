@@ -1,37 +1,33 @@
 -- A record and its single call. Assumes nothing.
 use mathlib.Core.Path.{_≡_, refl, sym, ap, _∙_, subst}
-use mathlib.Core.Bool.{Bool, true, false}
-use mathlib.Core.List.{List, [], _∷_, _++_}
-use Prim.Native.Nat.{ℕ, zero, suc, _+_, _-_, _*_, _≤_}
+use mathlib.Core.List.{List, [], _++_}
+use Prim.Native.Nat.{ℕ, _+_, _-_, _≤_}
 use native.Mathlib.Omega.{arith}
 use lib.ListN.{length}
-use lib.Ieee.{Float, isNan}
+use lib.Ieee.{Float}
 use borrow.Author.Tests.{le-ltb}
-use Rattle.lists.specs.Walk.{Turn, on, out}
-use Rattle.doubles.specs.F64.{at}
 use Rattle.vectors.specs.Vectors.{scale}
 use Rattle.checks.specs.First.{Check, first}
 use Rattle.checks.specs.declared.Checked.{Checked}
 use Rattle.checks.specs.declared.Checked.the-variants.{Sound, Refused}
 use Rattle.checks.proofs.First.{sound-append, sound-on, passes, ends-sound}
-use Rattle.general_operator.specs.Csr.{Csr, row-sum-norm}
+use Rattle.general_operator.specs.Csr.{row-sum-norm}
 use Rattle.generator_action.specs.Generator.{Generator}
-use Rattle.csr_shift.specs.Shift.{negated-csr-shift}
 use Rattle.expmv.specs.Select.{M-MAX}
 use Rattle.phi_action_helpers.specs.declared.SweepPlan.{SweepPlan}
-use Rattle.phi_shift.specs.Plan.{with-shift, sweep-plan}
+use Rattle.phi_shift.specs.Plan.{sweep-plan}
 use Rattle.phi_shift.specs.declared.PlanAnswer.{PlanAnswer}
-use Rattle.phi_shift.specs.declared.PlanAnswer.the-variants.{NoPlan, Plan}
+use Rattle.phi_shift.specs.declared.PlanAnswer.the-variants.{Plan}
 use Rattle.phi_shift.proofs.Ways as plan-ways
 use Rattle.combination.specs.Combination.{further, eta-of, combination-operator, combination-start}
 use Rattle.combination.specs.Call.{Call, ends, unless-refused, cleared}
 use Rattle.combination.specs.Checks.{plan-checks, vector-checks, magnitude-checks, schedule-checks, memory-checks, sweep-checks, taylor-need}
-use Rattle.admission.proofs.Admitted.{sweeps-known, enough-known}
+use Rattle.admission.proofs.Admitted.{sweeps-known}
 use Rattle.phi_action.specs.Calls.{Fields, after-plan, soaked, combination-checks, combination-run, phi-combination}
 use Rattle.phi_action.specs.declared.TaylorAnswer.{TaylorAnswer}
 use Rattle.phi_action.specs.declared.TaylorAnswer.the-variants as taylor
-use Rattle.ambient.specs.Ambient.{wider, record-call}
-use Rattle.ambient.proofs.OneRecord.{checks-wider}
+use Rattle.ambient_record.specs.Record.{wider, record-call}
+use Rattle.ambient_record.proofs.OneRecord.{checks-wider}
 use Rattle.ambient_claims.specs.Ran.{Gave, record-need}
 
 module _ (g : Generator) (tau level : Float) (f load o m : List Float) where

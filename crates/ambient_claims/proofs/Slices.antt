@@ -1,6 +1,6 @@
 -- The three slices at the end: temperatures, extremes of their windows, and places without a result. Assumes nothing.
-use mathlib.Core.Path.{_≡_, refl, sym, ap, _∙_, subst}
-use mathlib.Core.Bool.{Bool, true, false, not}
+use mathlib.Core.Path.{_≡_, sym, ap, _∙_, subst}
+use mathlib.Core.Bool.{true, false, not}
 use mathlib.Core.Logic.{_⊎_, inl, inr, ⊎-elim}
 use mathlib.Core.List.{List, [], _∷_, _++_}
 use Prim.Native.Nat.{ℕ, zero, suc, _+_, _-_, _≤_, _<_}
@@ -21,14 +21,14 @@ use Rattle.checks.specs.First.{first}
 use Rattle.checks.specs.declared.Checked.the-variants.{Sound}
 use Rattle.checks.proofs.First.{sound-append}
 use Rattle.generator_action.specs.Generator.{Generator}
-use Rattle.ambient_checks.specs.Log.{Log, records-of, Places, field-checks, log-checks}
+use Rattle.ambient_checks.specs.Log.{Log, records-of, field-checks}
 use Rattle.ambient_checks.proofs.Checks.{log-known}
 use Rattle.ambient.specs.declared.AmbientAnswer.{AmbientAnswer}
-use Rattle.ambient.specs.declared.AmbientAnswer.the-variants.{Refusal, NotANumber, Logged}
-use Rattle.ambient.specs.Ambient.{ambient-checks, Ended, ended, Results, places-of, Logging, written}
+use Rattle.ambient.specs.declared.AmbientAnswer.the-variants.{Logged}
+use Rattle.ambient.specs.Ambient.{ambient-checks, ended, Results, places-of, Logging, written}
 use Rattle.ambient.specs.Inner.{results-of}
 use Rattle.ambient_claims.specs.Ran.{Ran}
-use Rattle.ambient_claims.specs.Claims.{InWindow, Hit, Windowed, But}
+use Rattle.ambient_claims.specs.Claims.{Hit, Windowed, But}
 use Rattle.ambient_claims.proofs.Answers.{whole, End, all, at-nan, at-refusal, end, leaves}
 
 -- ---- of i records with results there are i temperatures, none of them NaN

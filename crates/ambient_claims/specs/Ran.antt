@@ -7,8 +7,8 @@ use lib.ListN.{length}
 use lib.Ieee.{Float, isNan}
 use Rattle.doubles.specs.F64.{at}
 use Rattle.vectors.specs.Vectors.{scale}
-use Rattle.checks.specs.First.{Check, first}
-use Rattle.checks.specs.declared.Checked.the-variants.{Sound, Refused}
+use Rattle.checks.specs.First.{first}
+use Rattle.checks.specs.declared.Checked.the-variants.{Refused}
 use Rattle.generator_action.specs.Generator.{Generator}
 use Rattle.combination.specs.Call.{Call, cleared}
 use Rattle.phi_action.specs.Calls.{combination-checks, phi-combination}

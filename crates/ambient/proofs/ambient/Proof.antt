@@ -1,12 +1,10 @@
 -- `ambient::ambient` meets its contract. Assumes nothing.
 use borrow.Author.Needs.{needs}
 use native.Mathlib.Omega.{arith}
-use mathlib.Core.Path.{_≡_, refl, sym, ap, _∙_}
+use mathlib.Core.Path.{_≡_, refl, sym, _∙_}
 use mathlib.Core.List.{_++_}
-use Prim.Native.Nat.{_≤_}
 use lib.ListN.{length}
 use Rattle.checks.specs.First.{first}
-use Rattle.checks.specs.declared.Checked.{Checked}
 use Rattle.checks.specs.declared.Checked.the-variants.{Sound}
 use Rattle.checks.proofs.First.{sound-append}
 use Rattle.checks.proofs.First as checks

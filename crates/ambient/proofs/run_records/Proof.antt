@@ -3,7 +3,7 @@ use borrow.Author.Needs.{needs}
 use native.Mathlib.Omega.{arith}
 use mathlib.Core.Path.{_≡_, refl, sym, ap, _∙_}
 use mathlib.Core.List.{List}
-use Prim.Native.Nat.{ℕ, _+_, _-_, _≤_, _<_}
+use Prim.Native.Nat.{ℕ, _-_, _≤_, _<_}
 use lib.Dec.{eqb}
 use lib.ListN.{length}
 use lib.Ieee.{Float}
@@ -18,8 +18,9 @@ use Rattle.generator_action.specs.Generator.{Generator, forward}
 use Rattle.combination.specs.Call.{Call}
 use Rattle.admission.proofs.Stored.{forward-is}
 use Rattle.phi_action.specs.declared.TaylorAnswer.{TaylorAnswer}
+use Rattle.ambient_record.specs.Record.{record-call}
 use Rattle.ambient_checks.specs.Inner.{log-of, field-of}
-use Rattle.ambient.specs.Ambient.{record-call, record-step, begun}
+use Rattle.ambient.specs.Ambient.{record-step, begun}
 use Rattle.ambient.specs.Inner.{turn-at, results-of, shown-in}
 use Rattle.ambient.proofs.Turns.{not-logged, shown-logged, step-is, turn-on, ended-early, ended-last, same-results}
 use Rattle.ambient.proofs.run_records.Statement.{statement}

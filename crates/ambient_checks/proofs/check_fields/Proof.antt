@@ -1,6 +1,5 @@
 -- `ambient_checks::check_fields` meets its contract. Assumes nothing.
 use borrow.Author.Needs.{needs}
-use mathlib.Core.Path.{refl}
 use Rattle.checks.proofs.First.{refused-up, sound-on, passes, stops, not-eq, not-ne}
 use Rattle.combination.specs.Checks.{finite-checks}
 use Rattle.ambient_checks.specs.Log.{field-checks}

@@ -1,7 +1,7 @@
 -- `ambient_checks::first_bad_product` meets its contract. Assumes nothing.
 use native.Mathlib.Omega.{arith}
 use Prim.Native.Nat.{_-_, _≤_}
-use mathlib.Core.Path.{_≡_, sym, ap, _∙_}
+use mathlib.Core.Path.{sym, ap, _∙_}
 use mathlib.Core.Bool.{not}
 use Rattle.lists.proofs.Find.{Passed, passed-start, passed-next, found-at, found-none}
 use Rattle.doubles.specs.F64.{is-finite}

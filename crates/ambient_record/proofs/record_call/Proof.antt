@@ -1,6 +1,5 @@
--- `ambient::record_call` meets its contract. Assumes nothing.
+-- `ambient_record::record_call` meets its contract. Assumes nothing.
 use borrow.Author.Needs.{needs}
-use native.Mathlib.Omega.{arith}
 use mathlib.Core.Path.{_≡_, sym, ap, _∙_}
 use mathlib.Core.Bool.{Bool, true, false}
 use mathlib.Core.List.{List}
@@ -10,9 +9,9 @@ use lib.Ieee.{Float}
 use Rattle.checks.proofs.First.{passed-up}
 use Rattle.vectors.proofs.Laws.{length-scale}
 use Rattle.ambient_checks.specs.Inner.{field-of}
-use Rattle.ambient.proofs.OneRecord.{spliced-long, record-refused, record-not-admitted, record-fits, record-runs, record-is}
-use Rattle.ambient.proofs.record_call.Statement.{statement}
-use Rattle.ambient.proofs.record_call.Tie as tie
+use Rattle.ambient_record.proofs.OneRecord.{spliced-long, record-refused, record-not-admitted, record-fits, record-runs, record-is}
+use Rattle.ambient_record.proofs.record_call.Statement.{statement}
+use Rattle.ambient_record.proofs.record_call.Tie as tie
 
 -- w_0 has n values, be it the first field or the output's
 either : (b : Bool) (n : ℕ) (field out : List Float) → length field ≡ n → length out ≡ n → length (field-of b field out) ≡ n

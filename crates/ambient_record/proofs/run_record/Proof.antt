@@ -1,4 +1,4 @@
--- `ambient::run_record` meets its contract. Assumes nothing.
+-- `ambient_record::run_record` meets its contract. Assumes nothing.
 use borrow.Author.Needs.{needs}
 use native.Mathlib.Omega.{arith}
 use Prim.Native.Nat.{_+_}
@@ -13,9 +13,9 @@ use Rattle.admission.specs.Inner.{matrix-of}
 use Rattle.phi_action.specs.Calls.{soaked}
 use Rattle.phi_action.specs.Inner.{operator-by}
 use Rattle.phi_action.proofs.Jobs.{ready, lined, bounded, done}
-use Rattle.ambient.proofs.OneRecord.{spliced-long, ended-wider}
-use Rattle.ambient.proofs.run_record.Statement.{statement}
-use Rattle.ambient.proofs.run_record.Tie as tie
+use Rattle.ambient_record.proofs.OneRecord.{spliced-long, ended-wider}
+use Rattle.ambient_record.proofs.run_record.Statement.{statement}
+use Rattle.ambient_record.proofs.run_record.Tie as tie
 
 run-sweeps-requires : tie.Need-run-sweeps-requires
 run-sweeps-requires c κs =

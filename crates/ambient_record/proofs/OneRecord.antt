@@ -2,7 +2,7 @@
 use mathlib.Core.Path.{_≡_, refl, sym, ap, _∙_}
 use mathlib.Core.Logic.{inl, inr}
 use mathlib.Core.List.{List, [], _++_}
-use Prim.Native.Nat.{ℕ, _+_, _-_, _*_, _≤_, _<_}
+use Prim.Native.Nat.{ℕ, _+_, _-_, _*_, _≤_}
 use native.Mathlib.Omega.{arith}
 use native.Mathlib.Nat.{one-mul}
 use lib.Dec.{ltb}
@@ -30,7 +30,7 @@ use Rattle.phi_shift.specs.Plan.{sweep-plan}
 use Rattle.combination.specs.Combination.{further, eta-of, combination-operator, combination-start}
 use Rattle.combination.specs.Checks.{count-checks, plan-checks, length-checks, finite-checks, magnitude-checks, schedule-checks, memory-checks, vector-checks-by, vector-checks, sweep-checks, taylor-need}
 use Rattle.combination.specs.Call.{Call, ends, cleared}
-use Rattle.admission.specs.Inner.{Coupled, matrix-of, after-checks, combination-job}
+use Rattle.admission.specs.Inner.{Coupled, matrix-of, after-checks}
 use Rattle.admission.specs.declared.Job.{Job}
 use Rattle.admission.proofs.Admitted.{coupled-in, sweeps-known, length-start}
 use Rattle.combination.proofs.Ends.{refused-by, runs}
@@ -42,8 +42,8 @@ use Rattle.phi_action.specs.declared.TaylorAnswer.{TaylorAnswer}
 use Rattle.phi_action.specs.declared.TaylorAnswer.the-variants as taylor
 use Rattle.phi_action.proofs.Jobs.{planned}
 use Rattle.ambient_checks.specs.Inner.{early-checks, record-job}
-use Rattle.ambient.specs.Ambient.{wider, record-call}
-use Rattle.ambient.specs.Inner.{record-end}
+use Rattle.ambient_record.specs.Record.{wider, record-call}
+use Rattle.ambient_record.specs.Inner.{record-end}
 
 pub spliced-long : (p : ℕ) (xs w₀ : List Float) {w₁ : List Float} → w₁ ≡ splice p xs w₀ → length w₁ ≡ length w₀
 spliced-long p xs w₀ e = ap length e ∙ length-splice p xs w₀
