@@ -1,6 +1,7 @@
-//! The proved library (crates/exports, crates/exports_transposed, crates/exports_paused, crates/exports_stages, crates/exports_bytes):
-//! its exported functions, and a job put to them.
+//! The proved library (crates/exports, crates/exports_transposed, crates/exports_paused, crates/exports_stages, crates/exports_ambient,
+//! crates/exports_bytes): its exported functions, and a job put to them.
 
+pub mod ambient;
 #[cfg(feature = "bytes")]
 mod bytes;
 pub mod paused;
