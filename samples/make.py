@@ -5,7 +5,8 @@
                                 there is one, spacer.json, cells.txt and parts.txt for the pictures, and arguments, the words that
                                 soak wants; where there is a mount also mount.mtx, and the words name joined.mtx, which soak join
                                 is to make of the two; where there are phases also stages.csv, a schedule, with the vectors that it
-                                names; prints the folders
+                                names; where a day is logged also room.csv, its records, with losses.txt, what the level multiplies,
+                                midnight.txt, the field at its start, and log-arguments; prints the folders
 
 A barrel is a body of revolution, tiled by parts that are rings or discs; a part is divided into cells. Lengths are whole micrometres
 here, so that cells which touch are found by equal numbers, and metres in every formula. All else is in SI units.
@@ -77,6 +78,15 @@ class Phase:
 
 
 @dataclass(frozen=True)
+class Day:
+    """A logged day without light or lamp: a record every so many seconds, and a cell to look at, on the axis in the middle of a part."""
+
+    every: int
+    window: int  # records
+    part: str
+
+
+@dataclass(frozen=True)
 class Barrel:
     name: str
     parts: tuple
@@ -84,6 +94,7 @@ class Barrel:
     start: float  # K above the room, everywhere
     mount: Mount = None
     phases: tuple = ()
+    day: Day = None
 
 
 @dataclass(frozen=True)
@@ -253,6 +264,47 @@ def write_schedule(place, barrel, cells):
                 write_vector(place(vectors), f"power of {phase.name} divided by heat capacity in K/s", numbers)
 
 
+def room(hour):
+    """The air of a workshop in winter, in K above 20 degrees: the heating is off at night and comes on at 6, sun and people warm the day, and
+    from 12:30 to 13:00 the door stands open."""
+    if hour < 6:
+        return -1.0 - 0.5 * hour
+    if hour < 8:
+        return -4.0 + 2.25 * (hour - 6)
+    if hour < 18:
+        warm = 0.5 + 1.5 * math.sin(math.pi * (hour - 8) / 10)
+        return warm - 6.0 if 12.5 <= hour < 13 else warm
+    return 0.5 - 0.25 * (hour - 18)
+
+
+def day_node(barrel, cells):
+    """The row, from 1, of the part's cell on the axis nearest to its middle."""
+    (part,) = [part for part in barrel.parts if part.name == barrel.day.part]
+    middle = sum(part.z) / 2
+    axis = [i for i, cell in enumerate(cells) if cell.part is part and cell.r[0] == 0]
+    return 1 + min(axis, key=lambda i: abs(sum(cells[i].z) / 2 - middle))
+
+
+def write_day(place, barrel, cells, capacity):
+    """The records of a day, each with the room's temperature in its middle, to three digits as a logger gives them."""
+    day = barrel.day
+    if day is None:
+        return
+    with open(place("room.csv"), "w") as file:
+        file.write("# the room from midnight on: seconds, and K above 20 degrees\nduration,level\n")
+        for begin in range(0, 86400, day.every):
+            file.write(f"{day.every},{room((begin + day.every / 2) / 3600):.3f}\n")
+    into = [0.0] * len(cells)
+    for i, g in losses(cells):
+        into[i] += g
+    write_vector(place("losses.txt"), "conductances to the room divided by heat capacity in 1/s", [g / c for g, c in zip(into, capacity)])
+    write_vector(place("midnight.txt"), "temperatures at midnight in K above 20 degrees: the room's", [room(0)] * len(cells))
+    words = ["conductance.mtx", "--mass", "capacity.txt", "--field", "midnight.txt", "--load", "losses.txt", "--records", "room.csv"]
+    words += ["--node", str(day_node(barrel, cells)), "--window", str(day.window)]
+    with open(place("log-arguments"), "w") as file:
+        file.write(" ".join(words) + "\n")
+
+
 def write_spacer(path, barrel, cells):
     """The spacer's cells, counted from 1, with their shares of its volume."""
     (part,) = [part for part in barrel.parts if part.name == "spacer"]
@@ -294,6 +346,7 @@ def write_barrel(folder, barrel):
             write_vector(place(name), comment, numbers)
             vectors.append(name)
     write_schedule(place, barrel, cells)
+    write_day(place, barrel, cells, capacity)
     write_spacer(place("spacer.json"), barrel, cells)
     write_boxes(place("cells.txt"), [(cell, []) for cell in cells])
     write_boxes(place("parts.txt"), [(part, [part.name]) for part in barrel.parts])
@@ -324,6 +377,8 @@ RELAY = Barrel(
     ),
     tau=1800.0,
     start=15.0,
+    # An hour of records every five minutes: how far the lens moved in it.
+    day=Day(300, 12, "first lens"),
 )
 
 COLLIMATOR = Barrel(

@@ -4,9 +4,10 @@
     samples/table.py FOLDER
 
 For each barrel it reads spacer.json (samples/make.py), and for each solver the report, SOLVER.json; for a soak in stages the field after each
-and what soak told of it, stages.log. Status 1 if the solvers differ by more than ALLOWED.
+and what soak told of it, stages.log; for a logged day its results, log.csv, and the field at its end, log.txt. Status 1 if the solvers differ by more than ALLOWED.
 """
 
+import csv
 import json
 import os
 import sys
@@ -63,6 +64,22 @@ def stages_of(folder, barrel):
         print(COLUMNS.format(*head, f"{phase.tau:g}", phase.solver, work, f"{max(field):.4f}", f"{mean:.4f}", f"{change * 1e6:+.4f}"))
 
 
+def day_of(folder, barrel):
+    """A line for the logged day: from where to where the cell went, how far at most within a window, and the field at the end."""
+    folder = os.path.join(folder, barrel.name)
+    with open(os.path.join(folder, "log.csv"), newline="") as file:
+        records = [{name: float(x) for name, x in record.items()} for record in csv.DictReader(file)]
+    capacity, field = numbers_of(folder, "capacity.txt"), numbers_of(folder, "log.txt")
+    change = spacer_change(os.path.join(folder, "spacer.json"), field)
+    mean = sum(c * t for c, t in zip(capacity, field)) / sum(capacity)
+    shown = [record["temperature"] for record in records]
+    moved = max(record["largest"] - record["smallest"] for record in records)
+    seconds = sum(record["duration"] for record in records)
+    hours = barrel.day.every * barrel.day.window / 3600
+    work = f"{len(records)} records, lens {min(shown):.2f} to {max(shown):.2f} K, {moved:.2f} K in {hours:g} h"
+    print(COLUMNS.format("under a log", "", "", f"{seconds:g}", "taylor", work, f"{max(field):.4f}", f"{mean:.4f}", f"{change * 1e6:+.4f}"))
+
+
 def main():
     if len(sys.argv) != 2:
         sys.exit(__doc__)
@@ -72,6 +89,8 @@ def main():
         worst = max(worst, rows_of(sys.argv[1], barrel))
         if barrel.phases:
             stages_of(sys.argv[1], barrel)
+        if barrel.day:
+            day_of(sys.argv[1], barrel)
     agree = worst <= ALLOWED
     print(f"taylor and krylov {'agree' if agree else 'DIFFER'}: at most {worst:.1e} K apart, {ALLOWED:g} K allowed")
     sys.exit(0 if agree else 1)

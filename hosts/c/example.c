@@ -158,6 +158,29 @@ static uint32_t schedule(double cooling, double *out, double *work, size_t work_
     return number;
 }
 
+/* A morning: the room, to which the last piece loses 0.1 W/K, has 18, 20, 17, 17.5 and 21 degrees, ten minutes each. The last piece is shown, with
+   its extremes in a window of three records. */
+static uint32_t morning(double last, double *out, double *work, size_t work_len)
+{
+    enum { RECORDS = 5 };
+    static const double load[N] = {0, 0, 0, 0.0125};
+    const double durations[RECORDS] = {600, 600, 600, 600, last}, levels[RECORDS] = {18, 20, 17, 17.5, 21};
+    double temperatures[RECORDS], largest[RECORDS], smallest[RECORDS], value;
+    uint32_t record;
+    uint32_t number = hazhendu_ambient(
+        N, starts, N + 1, cols, ENTRIES, vals, ENTRIES, true, mass, N, durations, RECORDS, levels, RECORDS, w, N, load, N, 3, N - 1, out, N, work,
+        work_len, temperatures, RECORDS, largest, RECORDS, smallest, RECORDS, &value, &record);
+    for (uint32_t i = 0; i < (record > 0 ? record - 1 : number == HAZHENDU_ACCEPTED ? RECORDS : 0); i++)
+        printf("  %.17g, in the window %.17g to %.17g\n", temperatures[i], smallest[i], largest[i]);
+    if (number != HAZHENDU_ACCEPTED)
+        printf("log: refused, number %u, double %g, record %u\n", number, value, record);
+    else if (record > 0)
+        printf("log: the temperature after record %u is not a number\n", record);
+    else
+        printf("log: done\n");
+    return number;
+}
+
 /* The same job by either solver must give what that solver's own call gave. */
 static bool same_by_choice(bool krylov, const double *field, double *work, size_t work_len)
 {
@@ -219,6 +242,15 @@ int main(void)
         return 1;
     print_field(krylov);
     if (schedule(-1, krylov, work, stages_work) != HAZHENDU_TAU_RANGE)
+        return 1;
+    print_field(krylov);
+
+    printf("a log of five records under a changing level; and with a duration that is negative in the last: what is left is the field of the fourth\n");
+    size_t ambient_work = hazhendu_ambient_work(N, ENTRIES, true);
+    if (ambient_work > WORK || morning(600, krylov, work, ambient_work) != HAZHENDU_ACCEPTED)
+        return 1;
+    print_field(krylov);
+    if (morning(-1, krylov, work, ambient_work) != HAZHENDU_TAU_RANGE)
         return 1;
     print_field(krylov);
 

@@ -2,8 +2,8 @@
  * Hazhendu: heat soak by phi-functions. The exported calls of the proved library for C and C++ on x86-64 Linux.
  *
  * `hosts/library` writes target/staticlib/libhazhendu.a, libhazhendu.so and hazhendu.pc for pkg-config; hosts/c/run shows how to link. Most
- * programs want the calls on structs at the end of this file: hazhendu_check, hazhendu_soak, hazhendu_soak_stages, hazhendu_run_start,
- * hazhendu_act and their likes.
+ * programs want the calls on structs at the end of this file: hazhendu_check, hazhendu_soak, hazhendu_soak_stages, hazhendu_soak_log,
+ * hazhendu_run_start, hazhendu_act and their likes.
  *
  *
  * WHAT IS COMPUTED
@@ -24,6 +24,8 @@
  *                                                                at in between, and a new tol where one is wanted
  *   hazhendu_stages:                                             1 to 64 combinations in a row over one matrix, the field of one being w_0 of the
  *                                                                next: warm-up, hold and cool-down
+ *   hazhendu_ambient:                                            1 to 100,000 Taylor combinations in a row under an ambient level that a logger
+ *                                                                gives, with one node's temperature after each and its extremes in a window
  *
  * phi_0 is the exponential, and phi_k(z) = (phi_{k-1}(z) - 1/(k-1)!) / z. For heat, C dT/dt = -A T + q with T = T_0 at time 0, A in W/K,
  * the heat capacities C in J/K and the power q in W: the mass is C, w_0 = T_0, w_1 = q / C, and the sum is T at time tau. A power that
@@ -106,6 +108,28 @@
  * reached: 12, 14, of Taylor 33, 15 and 16, then the rest of the single call's. 16 is told for a start that is not n long, at stage 1, with
  * its length; and, with the length of further, at the first stage that further is too short for, or at the last one if it is too long.
  *
+ * of a soak under a changing ambient level. A record is a duration and a level; how many records there are is the length of durations:
+ *
+ *   durations,            the time of each record, as tau
+ *   durations_len
+ *   levels, levels_len    its ambient level, as many: w_1 of record i + 1 is load times levels[i], entry by entry, each product rounded once
+ *   field, field_len      w_0 of record 1, n numbers; w_0 of a later record is the field after the one before it
+ *   load, load_len        what the level multiplies, n numbers: with a mass, the part of each row's power at the level 1 divided by its mass
+ *   window                W, 1 to 1,024: the extremes are those among the last W temperatures, fewer at the start
+ *   node                  whose temperature is shown, a row from 0, below n
+ *   out, out_len          n numbers: the field after the last record is written here
+ *   work, work_len        at least hazhendu_ambient_work, 4n + 2 and with a mass one for each entry: n more than a record's combination needs
+ *   temperatures,         places for the results, at least as many as records in each of the three: the node's temperature after each record,
+ *   temperatures_len,     the largest and the smallest among the last W of these. A temperature of -0 or an infinite one is a result as it is;
+ *   largest, largest_len, an extreme of 0 is +0
+ *   smallest,
+ *   smallest_len
+ *
+ * Each record is what hazhendu_phi_combination makes of w_0 and w_1 with degree 30, to the bit, and is checked so when it is reached: 14 for its
+ * duration, 17 for the field before it, then for load times its level, 21, 22, 24, 25 and 26. A temperature that is NaN ends the work without
+ * a refusal: THE RESULT IS THEN 0, value is NaN, AND record IS ABOVE 0. Done is what has the result 0 and record 0. A NaN in another row
+ * ends nothing by itself; the next record is refused by 17.
+ *
  * of a join:
  *
  *   n_a, starts_a, ..     the barrel, as n, starts, cols and vals above; in each row the columns rise strictly
@@ -121,8 +145,11 @@
  *                         tol (the sum over the substeps, each with at least its round-off, (tau norm + 2) * 2^-52 of the state's norm: it
  *                         may exceed tol, and is mostly far above the actual error), or the norm of a matrix that is checked, or 0 of a join;
  *                         of a paused run its estimated error, which is of the scaled start until a substep ends the run with a result (the reader
- *                         hazhendu_run_estimate sees to it), 0 of its start; 0 of a soak in stages; refused: the refusal's double
+ *                         hazhendu_run_estimate sees to it), 0 of its start; 0 of a soak in stages and of one under a changing level, of the latter NaN
+ *                         where a temperature is NaN; refused: the refusal's double
  *   stage                 a soak in stages: which one is refused, from 1; 0 where none was reached (1 to 11 and 37) or all are accepted
+ *   record                a soak under a changing level: which record is refused, from 1, or after which one the node's temperature is NaN, the
+ *                         result being 0; 0 where none was reached (1 to 11, 15 to 17 and 38 to 40) or all have results
  *   row                   the first row whose sum is the norm, from 0; 0 if the matrix is refused
  *   entries               how many entries the result of a join has; 0 if it is refused
  *   s, plan_m             Taylor's plan: sweeps, and the degree to which each goes
@@ -141,9 +168,10 @@
  *
  * - A slice is a pointer and the number of its elements. The pointer must not be null and must be aligned for its element type, even if
  *   the length is 0; all elements of the length must be readable, those of out, work, the buffers for
- *   a transposed matrix, the field and state of a paused run and the result of a join writable too.
- * - out, work, the buffers, field, numbers, counts, the result of a join and the places of the numbers told must overlap neither each other
- *   nor anything else that is handed in.
+ *   a transposed matrix, the field and state of a paused run, the results of a soak under a changing level and the result of a join writable
+ *   too.
+ * - out, work, the buffers, field and state of a paused run, temperatures, largest, smallest, the result of a join and the places of the
+ *   numbers told must overlap neither each other nor anything else that is handed in.
  * - with_mass, with_tol and krylov are 0 or 1.
  * - The floating-point environment is the one that a program begins with: rounding to nearest, no flush to zero, denormals not taken as
  *   zero, no exception unmasked. A program or a library built with -ffast-math changes it, and then answers differ and a subnormal mass is
@@ -151,8 +179,8 @@
  *
  * Nothing else is asked: every input gets a result or a refusal, and no call allocates, stops the program or keeps anything. Calls in
  * several threads do not disturb each other. A call tells nothing before its end, and may take long (the process can be stopped at any time): Taylor makes s * m products with G,
- * Krylov at most (M + 1) * max_substeps, a step of a paused run at most M + 1, a soak in stages the sum over its stages. A join goes over both
- * matrices a few times.
+ * Krylov at most (M + 1) * max_substeps, a step of a paused run at most M + 1, a soak in stages the sum over its stages, one under a
+ * changing level s * m for each record. A join goes over both matrices a few times.
  *
  *
  * WHAT A CALL CHANGES
@@ -172,6 +200,11 @@
  *                      stage, or at stage 1 by 12 to 26 or 33: nothing is changed. Refused so at a later stage: out is the field of the stage
  *                      before it, the largest need of the stages before it of work holds +0, the rest of work is unchanged. Refused by
  *                      27 to 29: as that stage's single call leaves it
+ *   ambient            done: out is the field after the last record, the needed length of work holds +0. Ended by NaN after record i: out is
+ *                      the field after that record, the needed length of work holds +0. Refused before any record, or at record 1: nothing
+ *                      is changed. Refused at a later one: out is the field after the record before it, the needed length of work holds +0.
+ *                      temperatures, largest and smallest have a number for each record before the one that is named, or for all; their
+ *                      other places, and work beyond its needed length, are unchanged
  *   join, accepted     the fronts of starts, cols and vals are the result, places beyond it are unchanged
  *   join, refused      nothing is changed
  */
@@ -197,15 +230,19 @@ enum {
     HAZHENDU_MAX_DIMENSION = 128,
     HAZHENDU_MAX_SUBSTEPS = 1000000,
     HAZHENDU_MAX_DEGREE = 30,
-    HAZHENDU_MAX_STAGES = 64
+    HAZHENDU_MAX_STAGES = 64,
+    HAZHENDU_MAX_RECORDS = 100000,
+    HAZHENDU_MAX_WINDOW = 1024
 };
 
 /* Why a job or a join is refused, and the double reported with it. The checks of a job run in number order, but for 33 directly after 14;
    those of a transposed call are 1 to 6, with a mass 7 to 10, without one 9 and 11, then 30, then 11 for a column (of the transposed
    matrix a row), then those of the job. A start has those of Krylov's whole call, then 26 for field, numbers or counts of another length.
    A step has 31 first, then those of Krylov's whole call with the tol in force, the run's m and limit, a second 16 behind the first and the
-   start's scaling in 22, then 26 for field. A soak in stages has 1 to 11, then 37, then those of each stage when it is reached. Those
-   of a join are 1 to 6 and 11 of the barrel, then of the mount, 34, 35 and 36, then 3 and 6 of the result. The first that holds is told. */
+   start's scaling in 22, then 26 for field. A soak in stages has 1 to 11, then 37, then those of each stage when it is reached. One
+   under a changing level has 1 to 11, 15, 16 for field, then load, 17 for field, then load, 38 to 40, then those of each record when it is
+   reached: 14, 17, 21, 22, 24 to 26. Those of a join are 1 to 6 and 11 of the barrel, then of the mount, 34, 35 and 36, then 3 and 6 of the
+   result. The first that holds is told. */
 enum hazhendu_refusal {
     HAZHENDU_ACCEPTED = 0,
 
@@ -231,8 +268,11 @@ enum hazhendu_refusal {
     HAZHENDU_OUTPUT_LENGTH = 15,       /* out is not n or (p + 1) * n long                      length of out */
     HAZHENDU_VECTOR_LENGTH = 16,       /* w is not count * n long, or v not n; a step: n or
                                           count is another than the start's; stages: start is
-                                          not n long, further short or too long                 length of w, v, start or further */
-    HAZHENDU_VECTOR_NOT_FINITE = 17,   /* a number in w or v is infinite or NaN                 the number */
+                                          not n long, further short or too long; ambient:
+                                          field or load is not n long                           length of w, v, start, further, field or load */
+    HAZHENDU_VECTOR_NOT_FINITE = 17,   /* a number in w or v is infinite or NaN; ambient: in
+                                          field or load, at a record in the field before it or
+                                          in load times its level                               the number */
     HAZHENDU_TOL_RANGE = 18,           /* tol not strictly between 0 and 1                      tol */
     HAZHENDU_NO_SUBSTEPS = 19,         /* max_substeps is 0                                     0 */
     HAZHENDU_OPTION_TOO_LARGE = 20,    /* M above 128 or max_substeps above 1,000,000           NaN */
@@ -269,7 +309,13 @@ enum hazhendu_refusal {
     HAZHENDU_JOIN_LENGTH = 36,         /* starts, cols or vals is shorter than the result       NaN */
 
     /* a soak in stages: met directly behind 1 to 11 */
-    HAZHENDU_STAGE_COUNT = 37          /* not 1 to 64 stages, or the lists differ in length     NaN */
+    HAZHENDU_STAGE_COUNT = 37,         /* not 1 to 64 stages, or the lists differ in length     NaN */
+
+    /* a soak under a changing level: met behind 17 for field and load, before any record; nothing is changed */
+    HAZHENDU_WINDOW_OR_NODE = 38,      /* window not 1 to 1,024, or node not below n            NaN */
+    HAZHENDU_RECORD_COUNT = 39,        /* not 1 to 100,000 records, or levels not as many       NaN */
+    HAZHENDU_RESULTS_LENGTH = 40       /* temperatures, largest or smallest holds fewer places
+                                          than there are records                                NaN */
 };
 
 /* ---- working memory, in doubles. 0 for jobs that are refused before the memory is looked at (n, entries, count or m too high). */
@@ -324,6 +370,13 @@ static inline size_t hazhendu_stages_work(
         largest = need > largest ? need : largest;
     }
     return largest;
+}
+
+/* For hazhendu_ambient: n more than the combination of a record needs. */
+static inline size_t hazhendu_ambient_work(size_t n, size_t entries, bool with_mass)
+{
+    size_t need = hazhendu_taylor_work(n, entries, with_mass, 2);
+    return need == 0 ? 0 : need + n;
 }
 
 /* The scaled field of a paused run. */
@@ -509,6 +562,26 @@ uint32_t hazhendu_stages(
     double *out, size_t out_len,
     double *work, size_t work_len,
     double *value, uint32_t *stage, uint64_t *applications, uint64_t *substeps, uint64_t *rejected);
+
+/* ---- a soak under a changing ambient level: up to 100,000 records. The result is 0 where all have results and where a temperature is NaN: these
+   two differ in record, which is 0 of the first and the record, from 1, of the second. */
+uint32_t hazhendu_ambient(
+    size_t n,
+    const uint32_t *starts, size_t starts_len,
+    const uint32_t *cols, size_t cols_len,
+    const double *vals, size_t vals_len,
+    bool with_mass, const double *mass, size_t mass_len,
+    const double *durations, size_t durations_len,
+    const double *levels, size_t levels_len,
+    const double *field, size_t field_len,
+    const double *load, size_t load_len,
+    size_t window, size_t node,
+    double *out, size_t out_len,
+    double *work, size_t work_len,
+    double *temperatures, size_t temperatures_len,
+    double *largest, size_t largest_len,
+    double *smallest, size_t smallest_len,
+    double *value, uint32_t *record);
 
 /* ---- the transposed matrix, over lent buffers. Working memory is needed as for the call on the matrix itself. */
 
@@ -791,6 +864,50 @@ static inline uint32_t hazhendu_soak_stages(const struct hazhendu_matrix *a, con
         a->n, hazhendu_doubles(further), further_len, out, a->n, work, work_len, &told->value, &told->stage, &told->applications, &told->substeps,
         &told->rejected);
     hazhendu_leave(saved);
+    return number;
+}
+
+/* A logger's records: their durations and levels, length numbers each. */
+struct hazhendu_log {
+    const double *durations, *levels;
+    size_t length;
+};
+
+/* Where the results of a log go, length places each, none of the pointers null: the node's temperature after each record, the largest and the
+   smallest among the last ones. */
+struct hazhendu_results {
+    double *temperatures, *largest, *smallest;
+    size_t length;
+};
+
+/* What a log told. results is how many records have a result: all, or those before the record that is named. */
+struct hazhendu_logged {
+    double value;
+    uint32_t record;
+    size_t results;
+    bool not_a_number; /* the temperature after that record is NaN, and the number is 0 */
+    bool field_left;   /* out holds a field: the last one, that after a NaN record, or that before a refused one */
+};
+
+/* Working memory, in doubles, of a log. */
+static inline size_t hazhendu_soak_log_work(const struct hazhendu_matrix *a)
+{
+    return hazhendu_ambient_work(a->n, a->entries, a->mass != NULL);
+}
+
+/* The records in order from field, with load times the level of each for w_1; field, load and out are n long. 0 is told where a temperature is
+   NaN too: see not_a_number. */
+static inline uint32_t hazhendu_soak_log(const struct hazhendu_matrix *a, const struct hazhendu_log *log, const double *field, const double *load,
+    size_t window, size_t node, double *out, double *work, size_t work_len, const struct hazhendu_results *results, struct hazhendu_logged *told)
+{
+    uint32_t saved = hazhendu_enter(), number;
+    number = hazhendu_ambient(HAZHENDU_MATRIX(a), hazhendu_doubles(log->durations), log->length, hazhendu_doubles(log->levels), log->length, field,
+        a->n, load, a->n, window, node, out, a->n, work, work_len, results->temperatures, results->length, results->largest, results->length,
+        results->smallest, results->length, &told->value, &told->record);
+    hazhendu_leave(saved);
+    told->not_a_number = number == HAZHENDU_ACCEPTED && told->record > 0;
+    told->results = told->record > 0 ? told->record - 1 : number == HAZHENDU_ACCEPTED ? log->length : 0;
+    told->field_left = number == HAZHENDU_ACCEPTED || told->record > 1;
     return number;
 }
 

@@ -80,6 +80,12 @@ static inline const char *hazhendu_refusal_text(uint32_t number)
         return "a slice for the result of a join is too short";
     case 37:
         return "the schedule does not have 1 to 64 stages, or its lists differ in length";
+    case 38:
+        return "the window is not 1 to 1,024 records, or the node is not a row of the matrix";
+    case 39:
+        return "the log does not have 1 to 100,000 records, or durations and levels differ in number";
+    case 40:
+        return "a slice for the results of a log has fewer places than there are records";
     default:
         return "a number that the library does not have";
     }
@@ -160,6 +166,12 @@ static inline const char *hazhendu_refusal_value(uint32_t number)
     case 36:
         return "";
     case 37:
+        return "";
+    case 38:
+        return "";
+    case 39:
+        return "";
+    case 40:
         return "";
     default:
         return "";
@@ -242,6 +254,12 @@ static inline const char *hazhendu_refusal_change(uint32_t number)
         return "lend n + 1 row starts, and columns and entries for every place that barrel or mount holds";
     case 37:
         return "give 1 to 64 stages, and a number for each stage in every list; a longer schedule goes on from the field of the one before";
+    case 38:
+        return "take a window of 1 to 1,024 records, and for the node a row of the matrix";
+    case 39:
+        return "give 1 to 100,000 records, each with a duration and a level; a longer log goes on from the field of the one before";
+    case 40:
+        return "lend as many temperatures, largest and smallest as there are records";
     default:
         return "check that header and library belong together";
     }

@@ -116,6 +116,52 @@ static void staged(void)
     expect(hazhendu_soak_stages(&a, stages, HAZHENDU_MAX_STAGES + 1, w, NULL, out, work, WORK, &told) == HAZHENDU_STAGE_COUNT, "65 stages");
 }
 
+/* A log is soaks in a row with load times level for w_1; its extremes; a refusal, a NaN, and what they leave. */
+static void logged(void)
+{
+    enum { RECORDS = 4 };
+    static const double durations[RECORDS] = {30, 10, 0, 60}, levels[RECORDS] = {1, -0.5, 2, 0.25};
+    double shown[3][RECORDS], vectors[COUNT * N], highest, lowest;
+    struct hazhendu_log log = {durations, levels, RECORDS};
+    struct hazhendu_results results = {shown[0], shown[1], shown[2], RECORDS};
+    struct hazhendu_options options = hazhendu_by_taylor();
+    struct hazhendu_report report;
+    struct hazhendu_logged told;
+    size_t need = hazhendu_soak_log_work(&a);
+    expect(need == 4 * N + 2 + ENTRIES && need == hazhendu_work(&a, 2, &options) + N, "hazhendu_soak_log_work");
+    expect(hazhendu_soak_log(&a, &log, w, w + N, 2, 1, out, work, need, &results, &told) == 0, "hazhendu_soak_log");
+    expect(told.value == 0 && told.record == 0 && told.results == RECORDS && !told.not_a_number && told.field_left, "what it tells");
+    memcpy(again, w, N * sizeof *w);
+    for (size_t i = 0; i < RECORDS; i++) {
+        memcpy(vectors, again, N * sizeof *again);
+        for (size_t k = 0; k < N; k++)
+            vectors[N + k] = w[N + k] * levels[i];
+        expect(hazhendu_soak(&a, durations[i], COUNT, vectors, &options, again, work, WORK, &report) == 0, "a soak of its own");
+        highest = i > 0 && shown[0][i - 1] > again[1] ? shown[0][i - 1] : again[1];
+        lowest = i > 0 && shown[0][i - 1] < again[1] ? shown[0][i - 1] : again[1];
+        expect(shown[0][i] == again[1] && shown[1][i] == highest && shown[2][i] == lowest, "temperature and extremes");
+    }
+    expect(memcmp(out, again, N * sizeof *out) == 0, "the field is that of soaks in a row");
+
+    expect(hazhendu_soak_log(&a, &log, w, w + N, 0, 1, out, work, WORK, &results, &told) == HAZHENDU_WINDOW_OR_NODE, "no window");
+    expect(told.record == 0 && told.results == 0 && !told.field_left, "nothing is left");
+    expect(hazhendu_soak_log(&a, &log, w, w + N, 1, N, out, work, WORK, &results, &told) == HAZHENDU_WINDOW_OR_NODE, "no such node");
+    results.length = RECORDS - 1;
+    expect(hazhendu_soak_log(&a, &log, w, w + N, 1, 1, out, work, WORK, &results, &told) == HAZHENDU_RESULTS_LENGTH, "three places");
+    log.length = 0;
+    expect(hazhendu_soak_log(&a, &log, w, w + N, 1, 1, out, work, WORK, &results, &told) == HAZHENDU_RECORD_COUNT, "no record");
+
+    /* 2 T - 2 T in one row, T being 2^1023: infinite minus infinite. The result is 0, and the record says that it is no end. */
+    static const uint32_t cancels_starts[2] = {0, 2}, cancels_cols[2] = {0, 0};
+    static const double cancels_vals[2] = {2, -2}, most = 0x1p1023, none = 0, one = 1;
+    const struct hazhendu_matrix cancels = {1, 2, cancels_starts, cancels_cols, cancels_vals, NULL};
+    log.durations = log.levels = &one;
+    log.length = 1;
+    shown[0][0] = 7;
+    expect(hazhendu_soak_log(&cancels, &log, &most, &none, 1, 0, out, work, WORK, &results, &told) == 0, "a NaN is no refusal");
+    expect(told.record == 1 && told.not_a_number && told.results == 0 && told.field_left && shown[0][0] == 7, "what it tells");
+}
+
 static void others(void)
 {
     struct hazhendu_report report;
@@ -146,6 +192,7 @@ static void in_environment(uint32_t state, const char *what)
     others();
     runs();
     staged();
+    logged();
     expect((_mm_getcsr() & ~(unsigned)HAZHENDU_EXCEPTION_FLAGS) == state, "the environment is put back");
     _mm_setcsr(before);
 }
@@ -155,6 +202,7 @@ int main(void)
     soaks();
     runs();
     staged();
+    logged();
     others();
     in_environment(0x5f80, "rounding up");
     in_environment(0x9fc0, "flush to zero");

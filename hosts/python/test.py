@@ -265,6 +265,97 @@ class Stages(unittest.TestCase):
                 hazhendu.stages(self.a, [stage], self.start)
 
 
+class Repeated(unittest.TestCase):
+    def test_columns_that_repeat_add_up_and_stay(self):
+        a = sparse.csr_matrix((np.array([0.25, 0.25, -0.5, -0.5, 0.6]), np.array([0, 0, 1, 0, 1]), np.array([0, 3, 5])), shape=(2, 2))
+        added = np.array([[0.5, -0.5], [-0.5, 0.6]])
+        soaked = hazhendu.soak(a, 2.0, [[20.0, 18.0]])
+        np.testing.assert_allclose(soaked.field, hazhendu.soak(added, 2.0, [[20.0, 18.0]]).field, rtol=1e-14)
+        self.assertEqual((a.nnz, a.data.tolist()), (5, [0.25, 0.25, -0.5, -0.5, 0.6]))
+
+
+class Logs(unittest.TestCase):
+    def setUp(self):
+        self.a, self.mass = plate(5)
+        self.field, self.load = np.cos(np.arange(25.0)), 0.01 * np.arange(25.0)
+        self.durations, self.levels = np.array([3.0, 0.0, 10.0, 1.0, 20.0]), np.array([1.0, -2.0, 0.0, 30.0, 5.0])
+
+    def in_a_row(self):
+        """The field after each record as a soak of its own."""
+        field = self.field
+        for duration, level in zip(self.durations, self.levels):
+            field = hazhendu.soak(self.a, duration, [field, self.load * level], self.mass).field
+            yield field
+
+    def refused(self, durations=None, levels=None, field=None, load=None, window=2, node=7):
+        given = zip((durations, levels, field, load), (self.durations, self.levels, self.field, self.load))
+        with self.assertRaises(hazhendu.Refused) as caught:
+            hazhendu.ambient(self.a, *(usual if value is None else value for value, usual in given), window, node, self.mass)
+        return caught.exception
+
+    def test_records_are_soaks_in_a_row(self):
+        fields = list(self.in_a_row())
+        temperatures = [field[7] for field in fields]
+        for window in (1, 2, 3, 1024):
+            logged = hazhendu.ambient(self.a, self.durations, self.levels, self.field, self.load, window, 7, mass=self.mass)
+            np.testing.assert_array_equal(logged.field, fields[-1])
+            np.testing.assert_array_equal(logged.temperatures, temperatures)
+            last = [temperatures[max(0, i + 1 - window) : i + 1] for i in range(5)]
+            np.testing.assert_array_equal(logged.largest, [max(values) for values in last])
+            np.testing.assert_array_equal(logged.smallest, [min(values) for values in last])
+            self.assertIsNone(logged.not_a_number)
+
+    def test_refusals_name_the_record_and_keep_results(self):
+        first = next(self.in_a_row())
+        for durations, levels, number, value in (
+            ([3.0, -1.0, 1.0], self.levels[:3], 14, -1.0),
+            (self.durations[:3], [1.0, np.inf, 0.0], 17, None),
+        ):
+            refused = self.refused(durations, levels)
+            self.assertEqual((refused.number, refused.record, refused.stage), (number, 2, None))
+            self.assertTrue(value is None or refused.value == value)
+            np.testing.assert_array_equal(refused.state, first)
+            for shown in refused.results:
+                np.testing.assert_array_equal(shown, first[7:8])
+            self.assertIn(f"refused ({number}) at record 2: ", str(refused))
+            refused = self.refused(durations[1:], levels[1:])
+            self.assertEqual((refused.number, refused.record, refused.state), (number, 1, None))
+            self.assertEqual([shown.size for shown in refused.results], [0, 0, 0])
+        again = pickle.loads(pickle.dumps(refused))
+        self.assertEqual((again.record, str(again)), (1, str(refused)))
+
+    def test_what_is_refused_before_any_record(self):
+        wrong = (
+            ({"field": self.field[:24]}, 16, 24.0),
+            ({"load": np.ones(26)}, 16, 26.0),
+            ({"field": np.full(25, np.inf)}, 17, np.inf),
+            ({"load": np.full(25, -np.inf)}, 17, -np.inf),
+            ({"window": 0}, 38, None),
+            ({"window": 1025}, 38, None),
+            ({"node": 25}, 38, None),
+            ({"durations": [], "levels": []}, 39, None),
+            ({"levels": self.levels[:4]}, 39, None),
+            ({"durations": np.zeros(100_001), "levels": np.zeros(100_001)}, 39, None),
+        )
+        for given, number, value in wrong:
+            refused = self.refused(**given)
+            self.assertEqual((refused.number, refused.record, refused.state), (number, 0, None))
+            self.assertTrue(value is None or refused.value == value)
+        with self.assertRaises(ValueError):
+            hazhendu.ambient(self.a, self.durations, self.levels, self.field, self.load, 1, -1)
+
+    def test_nan_ends_the_work_and_zeros_are_positive(self):
+        cancels = sparse.csr_matrix((np.array([2.0, -2.0]), np.array([1, 1]), np.array([0, 0, 2])), shape=(2, 2))
+        with warnings.catch_warnings():
+            warnings.simplefilter("ignore")
+            logged = hazhendu.ambient(cancels, [1.0, 1.0, 1.0], [0.0, 1.0, 0.0], [1.0, 0.0], [0.0, 2.0**1023], 2, 1)
+        self.assertEqual((logged.not_a_number, logged.temperatures.tolist()), (3, [0.0, 2.0**1023]))
+        self.assertTrue(logged.field[0] == 1.0 and np.isnan(logged.field[1]))
+        logged = hazhendu.ambient(np.zeros((1, 1)), [1.0], [-1.0], [-0.0], [0.0], 1, 0)
+        self.assertTrue(np.signbit(logged.temperatures[0]))
+        self.assertFalse(np.signbit(logged.largest[0]) or np.signbit(logged.smallest[0]))
+
+
 class Refusals(unittest.TestCase):
     A = np.array([[0.5, -0.5], [-0.5, 0.6]])
 

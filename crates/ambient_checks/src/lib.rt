@@ -1,9 +1,9 @@
 // The checks of a soak under a changing ambient level: of field, load and log, and of one record. The load times the level is computed value by value,
 // so that nothing is written before a record has passed.
-use checks::Checked;
 use admission::Job;
-use weighted_columns::Powers;
+use checks::Checked;
 use generator_action::Shape;
+use weighted_columns::Powers;
 ghost use mathlib.Core.Path.{_≡_};
 ghost use mathlib.Core.Bool.{not, _||_};
 ghost use Prim.Native.Nat.{_+_, _-_, _≤_, _<_};

@@ -1,6 +1,6 @@
 // One record of a soak under a changing ambient level: the Taylor combination of the field and of the load times the level.
-use checks::Checked;
 use admission::Job;
+use checks::Checked;
 use generator_action::Shape;
 use phi_action::TaylorAnswer;
 use phi_action_helpers::SweepArgs;

@@ -2,6 +2,7 @@
 //! rectangles, with and without a mass, with a source. Both sides run in turn, round by round, and the best round of each
 //! counts. See README.md.
 
+mod ambient;
 mod join;
 mod memory;
 mod plate;
@@ -42,8 +43,9 @@ fn main() {
         Some("join") => join::table(),
         Some("steps") => steps::table(),
         Some("stages") => stages::table(),
+        Some("ambient") => ambient::table(),
         Some("transpose") => transpose::table(),
-        _ => eprintln!("usage: benchmark [rust [CALL [ROWS]]|scipy|join|steps|stages|transpose]"),
+        _ => eprintln!("usage: benchmark [rust [CALL [ROWS]]|scipy|join|steps|stages|ambient|transpose]"),
     }
 }
 

@@ -22,6 +22,7 @@
 //! the buffers [`START_MARK`] + i, [`COLUMN_MARK`] + i and `mark` (2^33 + i). In an answer `.` stands for an element that still
 //! holds its mark, and `*k` after one for k equal ones. The buffers stand at the end of a transposed job's answer.
 
+pub mod ambient;
 pub mod paused;
 pub mod stages;
 

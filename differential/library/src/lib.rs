@@ -1,6 +1,7 @@
-//! The proved library (crates/exports, exports_transposed, exports_paused, exports_stages, and on bytes exports_bytes,
-//! exports_transposed_bytes, exports_paused_bytes): its exported functions, and a job put to them.
+//! The proved library (crates/exports, exports_transposed, exports_paused, exports_stages, exports_ambient, and on bytes
+//! exports_bytes, exports_transposed_bytes, exports_paused_bytes): its exported functions, and a job put to them.
 
+pub mod ambient;
 #[cfg(feature = "bytes")]
 mod bytes;
 pub mod paused;

@@ -42,9 +42,11 @@ class Refused(Exception):
     state     after 27 to 29 the field after the last accepted substep, which is not the field at tau; of stages also the field of the stage
               before the one refused; else None
     stage     of stages which one, from 1, 0 where none was reached; else None
+    record    of ambient which one, from 1, 0 where none was reached; else None. state is then the field after the record before it
+    results   of ambient the temperatures, the largest and the smallest of the records before it, three arrays; else None
     """
 
-    def __init__(self, number, value, state=None, stage=None):
+    def __init__(self, number, value, state=None, stage=None, record=None, results=None):
         self.number = number
         self.value = value
         self.value_is = _text("value", number) or None
@@ -52,12 +54,14 @@ class Refused(Exception):
         self.change = _text("change", number)
         self.state = state
         self.stage = stage
+        self.record = record
+        self.results = results
         told = f" ({self.value_is}: {value!r})" if self.value_is else ""
-        place = f" at stage {stage}" if stage else ""
+        place = f" at stage {stage}" if stage else f" at record {record}" if record else ""
         super().__init__(f"refused ({number}){place}: {self.wrong}{told}; {self.change}")
 
     def __reduce__(self):
-        return Refused, (self.number, self.value, self.state, self.stage)
+        return Refused, (self.number, self.value, self.state, self.stage, self.record, self.results)
 
 
 @contextmanager

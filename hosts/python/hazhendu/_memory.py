@@ -7,6 +7,7 @@ import numpy as np
 from scipy import sparse
 
 MAX_ROWS, MAX_ENTRIES, MAX_VECTORS, MAX_INDEX, MAX_DIMENSION, MAX_DEGREE, MAX_STAGES = 1_000_000, 16_777_216, 4, 3, 128, 30, 64
+MAX_RECORDS = 100_000
 
 size = ctypes.c_size_t
 
@@ -95,6 +96,11 @@ def taylor_work(matrix, count):
     if not allowed(matrix, count):
         return 0
     return 3 * matrix.n + 2 * (count - 1) + (matrix.count() if matrix.mass else 0)
+
+
+def ambient_work(matrix):
+    need = taylor_work(matrix, 2)
+    return need + matrix.n if need else 0
 
 
 def krylov_work(matrix, count, m):

@@ -23,7 +23,7 @@ const fn meaning(number: u32, wrong: &'static str, value: &'static str, change: 
 }
 
 /// In the order of their numbers; 23 is not used.
-const MEANINGS: [Meaning; 35] = [
+const MEANINGS: [Meaning; 38] = [
     meaning(
         1,
         "the matrix has no rows, or there are not n + 1 row starts",
@@ -163,6 +163,24 @@ const MEANINGS: [Meaning; 35] = [
         "the schedule does not have 1 to 64 stages, or its lists differ in length",
         "",
         "give 1 to 64 stages, and a number for each stage in every list; a longer schedule goes on from the field of the one before",
+    ),
+    meaning(
+        38,
+        "the window is not 1 to 1,024 records, or the node is not a row of the matrix",
+        "",
+        "take a window of 1 to 1,024 records, and for the node a row of the matrix",
+    ),
+    meaning(
+        39,
+        "the log does not have 1 to 100,000 records, or durations and levels differ in number",
+        "",
+        "give 1 to 100,000 records, each with a duration and a level; a longer log goes on from the field of the one before",
+    ),
+    meaning(
+        40,
+        "a slice for the results of a log has fewer places than there are records",
+        "",
+        "lend as many temperatures, largest and smallest as there are records",
     ),
 ];
 

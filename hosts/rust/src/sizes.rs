@@ -15,6 +15,8 @@ pub const MAX_DIMENSION: usize = 128;
 pub const MAX_SUBSTEPS: usize = 1_000_000;
 pub const MAX_DEGREE: u32 = 30;
 pub const MAX_STAGES: usize = 64;
+pub const MAX_RECORDS: usize = 100_000;
+pub const MAX_WINDOW: usize = 1024;
 
 fn allowed(n: usize, entries: usize, count: usize) -> bool {
     n <= MAX_ROWS && entries <= MAX_ENTRIES && (1..=MAX_VECTORS).contains(&count)
@@ -61,6 +63,14 @@ pub fn stages_work(n: usize, entries: usize, with_mass: bool, schedule: &[Stage]
         return 0;
     }
     schedule.iter().map(|stage| work(n, entries, with_mass, stage.count, stage.solver)).max().unwrap_or(0)
+}
+
+/// Working memory of `ambient`: n doubles more than the combination of a record.
+pub fn ambient_work(n: usize, entries: usize, with_mass: bool) -> usize {
+    match taylor_work(n, entries, with_mass, 2) {
+        0 => 0,
+        need => need + n,
+    }
 }
 
 /// The scaled field of a paused run.

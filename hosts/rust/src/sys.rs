@@ -51,6 +51,11 @@ exported!(hazhendu_stages, taus: *const f64, taus_len: usize, counts: *const usi
     limits_len: usize, start: *const f64, start_len: usize, further: *const f64, further_len: usize, out: *mut f64, out_len: usize,
     work: *mut f64, work_len: usize, value: *mut f64, stage: *mut u32, applications: *mut u64, substeps: *mut u64, rejected: *mut u64);
 
+exported!(hazhendu_ambient, durations: *const f64, durations_len: usize, levels: *const f64, levels_len: usize, field: *const f64,
+    field_len: usize, load: *const f64, load_len: usize, window: usize, node: usize, out: *mut f64, out_len: usize, work: *mut f64,
+    work_len: usize, temperatures: *mut f64, temperatures_len: usize, largest: *mut f64, largest_len: usize, smallest: *mut f64,
+    smallest_len: usize, value: *mut f64, record: *mut u32);
+
 macro_rules! exported_transposed {
     ($name:ident, $($parameter:ident: $type:ty),+) => {
         exported!($name, t_starts: *mut u32, t_starts_len: usize, t_cols: *mut u32, t_cols_len: usize, t_vals: *mut f64, t_vals_len: usize,

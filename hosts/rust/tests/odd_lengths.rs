@@ -1,7 +1,7 @@
 //! No combination of lengths and sizes panics, and none allocates beyond the library's limits.
 
-use hazhendu::{check, combine, join, phi_action, phi_action_batched, sizes, stages};
-use hazhendu::{Error, KrylovOptions, Matrix, Paused, Solver, Stage, StageError, TaylorOptions};
+use hazhendu::{ambient, check, combine, join, phi_action, phi_action_batched, sizes, stages};
+use hazhendu::{AmbientError, Error, KrylovOptions, Log, Matrix, Paused, Solver, Stage, StageError, TaylorOptions};
 
 const ODD: [usize; 10] = [0, 1, 2, 3, 5, 129, 1_000_001, usize::MAX / 8, usize::MAX - 1, usize::MAX];
 
@@ -9,7 +9,7 @@ fn told<T>(answer: Result<T, Error>) {
     match answer {
         Ok(_) => {}
         Err(Error::Refused { refusal, .. }) => {
-            assert!((1..=29).contains(&refusal.number) && refusal.number != 23 || [34, 35].contains(&refusal.number))
+            assert!((1..=29).contains(&refusal.number) && refusal.number != 23 || [34, 35, 38, 39].contains(&refusal.number))
         }
         Err(Error::OutOfMemory { doubles }) => panic!("{doubles} doubles asked for"),
     }
@@ -19,6 +19,13 @@ fn plain(error: StageError) -> Error {
     match error {
         StageError::Refused { refusal, field, .. } => Error::Refused { refusal, state: field },
         StageError::OutOfMemory { doubles } => Error::OutOfMemory { doubles },
+    }
+}
+
+fn plain_log(error: AmbientError) -> Error {
+    match error {
+        AmbientError::Refused { refusal, field, .. } => Error::Refused { refusal, state: field },
+        AmbientError::OutOfMemory { doubles } => Error::OutOfMemory { doubles },
     }
 }
 
@@ -42,6 +49,8 @@ fn every_odd_size_is_answered() {
                         told(combine(Solver::Krylov(options), &a, 1.0, len, &numbers[..len]));
                         let stage = Stage { tau: 1.0, further: &[&numbers[..len]], solver: Solver::Krylov(options) };
                         told(stages(&a, &[stage; 2], &numbers[..len]).map_err(plain));
+                        let log = Log { durations: &numbers[..len], levels: &numbers[..len.min(2)] };
+                        told(ambient(&a, &log, &numbers[..len], &numbers[..len], count, n.wrapping_sub(1)).map_err(plain_log));
                         told(Paused::start(&a, 1.0, count, &numbers[..len], KrylovOptions { m: len, ..options }));
                     }
                 }

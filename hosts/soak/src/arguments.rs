@@ -5,6 +5,7 @@ use crate::frames::Frames;
 use crate::guard;
 use crate::input::Source;
 use crate::join::Pair;
+use crate::log;
 use crate::model::Files;
 use crate::report;
 use crate::sink::is_standard_output;
@@ -25,6 +26,7 @@ pub enum Command {
     Check(Files),
     Join(Pair),
     Stages(Box<stages::Request>),
+    Log(Box<log::Request>),
     Soak(Box<Request>),
 }
 
@@ -118,6 +120,12 @@ struct Given {
     start: Option<Source>,
     schedule: Option<Source>,
     every_stage: Option<PathBuf>,
+    field: Option<Source>,
+    load: Option<Source>,
+    records: Option<Source>,
+    node: Option<usize>,
+    window: Option<usize>,
+    results: Option<PathBuf>,
 }
 
 pub fn parse(words: impl Iterator<Item = OsString>) -> Result<Command, Failure> {
@@ -125,6 +133,7 @@ pub fn parse(words: impl Iterator<Item = OsString>) -> Result<Command, Failure> 
     let check = words.next_if(|word| word == "check").is_some();
     let join = !check && words.next_if(|word| word == "join").is_some();
     let stages = !check && !join && words.next_if(|word| word == "stages").is_some();
+    let log = !check && !join && !stages && words.next_if(|word| word == "log").is_some();
     let mut given = Given::default();
     while let Some(word) = words.next() {
         let text = word.to_str().unwrap_or_default();
@@ -156,6 +165,9 @@ pub fn parse(words: impl Iterator<Item = OsString>) -> Result<Command, Failure> 
     if stages {
         return given.stages().map(Box::new).map(Command::Stages);
     }
+    if log {
+        return given.log().map(Box::new).map(Command::Log);
+    }
     given.request().map(Box::new).map(Command::Soak)
 }
 
@@ -182,6 +194,12 @@ impl Given {
             "--start" => once(name, &mut self.start, Source(value()?.into()))?,
             "--schedule" => once(name, &mut self.schedule, Source(value()?.into()))?,
             "--every-stage" => once(name, &mut self.every_stage, value()?.into())?,
+            "--field" => once(name, &mut self.field, Source(value()?.into()))?,
+            "--load" => once(name, &mut self.load, Source(value()?.into()))?,
+            "--records" => once(name, &mut self.records, Source(value()?.into()))?,
+            "--node" => once(name, &mut self.node, read(name, value()?, "a whole number that fits")?)?,
+            "--window" => once(name, &mut self.window, read(name, value()?, "a whole number that fits")?)?,
+            "--results" => once(name, &mut self.results, value()?.into())?,
             "--solver" => once(name, &mut self.solver, read(name, value()?, "a solver")?)?,
             _ => return Err(Failure::Usage(format!("there is no option {name}"))),
         }
@@ -271,7 +289,44 @@ impl Given {
         Ok(request)
     }
 
+    fn log(mut self) -> Result<log::Request, Failure> {
+        let transposed = self.transposed;
+        let files = self.files()?;
+        let missing = |name: &str| Failure::Usage(format!("{name} is missing"));
+        let request = log::Request {
+            files,
+            field: self.field.take().ok_or_else(|| missing("--field"))?,
+            load: self.load.take().ok_or_else(|| missing("--load"))?,
+            records: self.records.take().ok_or_else(|| missing("--records"))?,
+            node: self.node.take().ok_or_else(|| missing("--node"))?,
+            window: self.window.take().ok_or_else(|| missing("--window"))?,
+            results: self.results.take().unwrap_or_else(|| "-".into()),
+            output: self.output.take(),
+            plot: self.plot.take(),
+            drawing: std::mem::take(&mut self.drawing),
+        };
+        let drawing = &request.drawing;
+        if transposed || drawing.points.is_some() || drawing.outline.is_some() || self != Given::default() {
+            return Err(Failure::Usage(
+                "log takes a matrix, --mass, --field, --load, --records, --node, --window, --results, --output, --plot, --unit and --title"
+                    .into(),
+            ));
+        }
+        if request.node == 0 {
+            return Err(Failure::Usage("--node 0: rows are counted from 1".into()));
+        }
+        if request.plot.is_none() && drawing.title.is_some() {
+            return Err(Failure::Usage("--title is for --plot".into()));
+        }
+        request.guarded().check()?;
+        Ok(request)
+    }
+
     fn request(mut self) -> Result<Request, Failure> {
+        let of_a_log = [&self.field, &self.load, &self.records].iter().any(|source| source.is_some());
+        if of_a_log || self.node.is_some() || self.window.is_some() || self.results.is_some() {
+            return Err(Failure::Usage("--field, --load, --records, --node, --window and --results are for soak log".into()));
+        }
         if self.start.is_some() || self.schedule.is_some() || self.every_stage.is_some() {
             return Err(Failure::Usage("--start, --schedule and --every-stage are for soak stages".into()));
         }

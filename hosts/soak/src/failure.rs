@@ -38,6 +38,14 @@ pub enum Failure {
         place: Option<String>,
         stage: usize,
     },
+    /// The same of a soak under a changing level; the record from 1, 0 before any.
+    RefusedRecord {
+        refusal: Refusal,
+        place: Option<String>,
+        record: usize,
+    },
+    /// The temperature after a record is NaN; what there is is written.
+    NotANumber(String),
     /// The field, which is written, holds numbers that are not finite.
     NotFinite(String),
     /// Ctrl-C between two substeps; the field so far is written.
@@ -49,7 +57,7 @@ impl Failure {
         Failure::Refused { refusal, place, state: None }
     }
 
-    /// A refusal's number is its status; the others are those of sysexits.h, beyond all refusals, and 80 and 81 behind those.
+    /// A refusal's number is its status; the others are those of sysexits.h, beyond all refusals, and 80 to 82 behind those.
     pub fn status(&self) -> u8 {
         match self {
             Failure::Usage(_) => 64,
@@ -59,7 +67,10 @@ impl Failure {
             Failure::CannotWrite { .. } => 74,
             Failure::NotFinite(_) => 80,
             Failure::Stopped(_) => 81,
-            Failure::Refused { refusal, .. } | Failure::RefusedStage { refusal, .. } => u8::try_from(refusal.number).unwrap_or(70),
+            Failure::NotANumber(_) => 82,
+            Failure::Refused { refusal, .. } | Failure::RefusedStage { refusal, .. } | Failure::RefusedRecord { refusal, .. } => {
+                u8::try_from(refusal.number).unwrap_or(70)
+            }
         }
     }
 
@@ -73,7 +84,7 @@ impl fmt::Display for Failure {
     fn fmt(&self, f: &mut fmt::Formatter) -> fmt::Result {
         match self {
             Failure::Usage(wrong) => write!(f, "soak: {wrong}\nsoak --help tells how it is used"),
-            Failure::NotFinite(told) => write!(f, "{told}"),
+            Failure::NotFinite(told) | Failure::NotANumber(told) => write!(f, "{told}"),
             Failure::Stopped(stopped) => stopped.fmt(f),
             Failure::BadFile { place, wrong } => write!(f, "{place}: {wrong}"),
             Failure::CannotRead { name, error } => write!(f, "soak: cannot read {name}: {error}"),
@@ -82,12 +93,14 @@ impl fmt::Display for Failure {
             Failure::Refused { refusal, place, .. } => refused(f, refusal, place, ""),
             Failure::RefusedStage { refusal, place, stage: 0 } => refused(f, refusal, place, ""),
             Failure::RefusedStage { refusal, place, stage } => refused(f, refusal, place, &format!(" at stage {stage}")),
+            Failure::RefusedRecord { refusal, place, record: 0 } => refused(f, refusal, place, ""),
+            Failure::RefusedRecord { refusal, place, record } => refused(f, refusal, place, &format!(" at record {record}")),
         }
     }
 }
 
-fn refused(f: &mut fmt::Formatter, refusal: &Refusal, place: &Option<String>, stage: &str) -> fmt::Result {
-    write!(f, "soak: refused ({}){stage}: {}", refusal.number, refusal.wrong())?;
+fn refused(f: &mut fmt::Formatter, refusal: &Refusal, place: &Option<String>, at: &str) -> fmt::Result {
+    write!(f, "soak: refused ({}){at}: {}", refusal.number, refusal.wrong())?;
     if let Some(told) = refusal.told() {
         write!(f, "\n  {told}")?;
     }

@@ -10,11 +10,13 @@ mod input;
 mod interrupt;
 mod job;
 mod join;
+mod log;
 mod memory;
 mod model;
 mod plot;
 mod points;
 mod progress;
+mod records;
 mod report;
 mod schedule;
 mod sink;
@@ -54,6 +56,7 @@ fn run() -> Result<(), Failure> {
         Command::Check(files) => check(&files),
         Command::Join(pair) => join(&pair),
         Command::Stages(request) => stages::run(&request),
+        Command::Log(request) => log::run(&request),
         Command::Soak(request) => soak::run(&request),
     }
 }

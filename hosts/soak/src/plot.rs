@@ -5,6 +5,7 @@ mod axis;
 mod colour;
 mod curves;
 pub mod geometry;
+mod log;
 mod map;
 mod profile;
 mod svg;
@@ -13,6 +14,7 @@ mod voronoi;
 use crate::summary::Summary;
 use axis::Scale;
 pub use geometry::Geometry;
+pub use log::Curves;
 pub use svg::escaped;
 
 /// What is drawn, and how it is called.
@@ -73,6 +75,11 @@ impl Picture<'_> {
 /// Several fields over their rows in one picture, each with its name.
 pub fn curves(picture: &Picture, curves: &[(String, &[f64])]) -> String {
     curves::draw(picture, curves)
+}
+
+/// A node's temperature over the time of a log, with the band of its windows and the level.
+pub fn log(curves: &Curves) -> String {
+    log::draw(curves)
 }
 
 /// An axis's name without its unit.
@@ -139,6 +146,34 @@ mod tests {
             let svg = super::curves(&picture, &curves);
             drawable(&svg);
             assert_eq!(svg.matches("stroke-linejoin").count(), count + count.min(16));
+        }
+    }
+
+    #[test]
+    fn every_log_has_a_picture_of_finite_places() {
+        let many: Vec<f64> = (0..100_000).map(|i| f64::from(i % 977) / 31.0).collect();
+        let odd = [f64::MAX, f64::INFINITY, -0.0, f64::MIN, 5e-324, f64::NEG_INFINITY, 1.0];
+        let durations = [0.0, 1e308, 5e-324, 1e308, 1.0, 3600.0, 1e308];
+        for (times, values) in [(&[][..], &[][..]), (&[0.0], &[1.0]), (&durations, &odd), (&many, &many), (&[600.0; 3], &[2.0; 3])] {
+            for window in [1, 2, 1024] {
+                let curves = super::Curves {
+                    title: "a < b & c".into(),
+                    unfinished: (window == 2).then(|| "record 2 is refused by 14".into()),
+                    unit: "K",
+                    row: 1,
+                    window,
+                    start: 20.0,
+                    durations: times,
+                    levels: values,
+                    temperatures: values,
+                    largest: values,
+                    smallest: values,
+                };
+                let svg = super::log(&curves);
+                drawable(&svg);
+                assert_eq!(svg.contains("is refused by 14"), window == 2);
+                assert_eq!(svg.contains("the last 1024 records"), window == 1024);
+            }
         }
     }
 

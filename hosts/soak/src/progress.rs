@@ -6,21 +6,34 @@ use std::time::{Duration, Instant};
 
 const BETWEEN: Duration = Duration::from_millis(100);
 
-pub struct Progress {
+pub struct Progress(Paced);
+
+impl Progress {
+    pub fn new() -> Self {
+        Progress(Paced::new())
+    }
+
+    /// After a substep.
+    pub fn tell(&mut self, time: f64, report: &Report, ended: bool) {
+        self.0.tell(ended, || line(time, report));
+    }
+}
+
+/// A line that is written not more often than can be read, but the first time and the last.
+pub struct Paced {
     line: Line,
     /// When it was last written.
     last: Option<Instant>,
 }
 
-impl Progress {
+impl Paced {
     pub fn new() -> Self {
-        Progress { line: Line::new(), last: None }
+        Paced { line: Line::new(), last: None }
     }
 
-    /// After a substep; not more often than can be read, but after the first one and the last one.
-    pub fn tell(&mut self, time: f64, report: &Report, ended: bool) {
+    pub fn tell(&mut self, ended: bool, text: impl FnOnce() -> String) {
         if self.line.told && (ended || self.last.map_or(true, |last| last.elapsed() >= BETWEEN)) {
-            self.line.write(&line(time, report));
+            self.line.write(&text());
             self.last = Some(Instant::now());
         }
     }

@@ -58,7 +58,7 @@ impl Run<'_> {
         self.sinks.output.fill(|to| vectors::write(to, field))?;
         let summary = Summary::of(field, self.job.weights());
         let unit = unit(self.request);
-        let not_finite = not_finite(&summary, field.len(), self.heating.as_ref(), &self.request.files.matrix.to_string());
+        let not_finite = not_finite(&summary, field.len(), self.heating.as_ref(), &self.request.files.matrix.to_string(), true);
         let beyond = warnings::beyond(field, self.request.tau, &self.job.vectors(), unit)
             .filter(|_| not_finite.is_none() && !self.request.files.transposed);
         beyond.iter().for_each(|warning| tell(warning));
@@ -132,7 +132,7 @@ impl Run<'_> {
 }
 
 /// What is told of a field that is not finite.
-pub fn not_finite(summary: &Summary, n: usize, heating: Option<&Heating>, matrix: &str) -> Option<String> {
+pub fn not_finite(summary: &Summary, n: usize, heating: Option<&Heating>, matrix: &str, written: bool) -> Option<String> {
     let first = summary.first_not_finite?;
     let (place, change) = match heating {
         Some(heating) => (heating.told(matrix), heating.change()),
@@ -141,9 +141,9 @@ pub fn not_finite(summary: &Summary, n: usize, heating: Option<&Heating>, matrix
             "the units of matrix, mass, tau and vectors: the numbers grow too large on the way",
         ),
     };
+    let written = if written { "; it is written as the library gives it" } else { "" };
     Some(format!(
-        "soak: the field is not finite: {} of {n} numbers, the first in row {} ({}); it is written as the library gives it\n  where: {place}\n  \
-         what to change: {change}",
+        "soak: the field is not finite: {} of {n} numbers, the first in row {} ({}){written}\n  where: {place}\n  what to change: {change}",
         summary.not_finite,
         first.row + 1,
         shortest(first.value)

@@ -102,7 +102,7 @@ pub fn run(request: &Request) -> Result<(), Failure> {
         report.rejected
     ));
     tell_terminal(&format!("soak: {}", summary.line(unit)));
-    let told = not_finite(&summary, field.len(), heating.as_ref(), &request.files.matrix.to_string());
+    let told = not_finite(&summary, field.len(), heating.as_ref(), &request.files.matrix.to_string(), true);
     told.map_or(Ok(()), |told| Err(Failure::NotFinite(told)))
 }
 

@@ -44,6 +44,23 @@ impl Scale {
         }
     }
 
+    /// With some room at both ends, so that no curve lies on the frame.
+    pub fn widened(self) -> Scale {
+        let room = (self.high / 2.0 - self.low / 2.0) * 0.04;
+        let (low, high) = (self.low - room, self.high + room);
+        match low.is_finite() && high.is_finite() {
+            true => Scale { low, high, step: self.step },
+            false => self,
+        }
+    }
+
+    /// The same with the first of these steps that gives at most ten ticks, if one does.
+    pub fn stepped(self, steps: &[f64]) -> Scale {
+        let range = self.high / 2.0 - self.low / 2.0;
+        let step = steps.iter().copied().find(|step| range <= *step * 9.0 / 2.0).unwrap_or(self.step);
+        Scale { step, ..self }
+    }
+
     /// The part of the way from the low end to the high end, 0 to 1.
     pub fn part(&self, value: f64) -> f64 {
         let part = (value / 2.0 - self.low / 2.0) / (self.high / 2.0 - self.low / 2.0);
@@ -115,6 +132,13 @@ impl Frame {
         svg.label_upwards(self.left - 20.0 - 7.0 * widest as f64, (self.top + self.bottom) / 2.0, name);
     }
 
+    /// Lines upright at the ticks of the axis below.
+    pub fn upright(&self, svg: &mut Svg, scale: &Scale) {
+        for tick in scale.ticks() {
+            svg.path(&format!("M{:.1} {:.1}V{:.1}", self.x(scale, tick), self.bottom, self.top), r##"stroke="#ddd""##);
+        }
+    }
+
     pub fn border(&self, svg: &mut Svg) {
         let Frame { left, right, top, bottom } = self;
         svg.path(&format!("M{left:.1} {top:.1}V{bottom:.1}H{right:.1}"), r#"stroke="black" fill="none""#);
@@ -137,6 +161,8 @@ mod tests {
         assert_eq!(labels(0.0, 1.0), ["0.0", "0.2", "0.4", "0.6", "0.8", "1.0"]);
         assert_eq!(labels(293.15, 293.16), ["293.150", "293.152", "293.154", "293.156", "293.158", "293.160"]);
         assert_eq!(labels(0.0, 3e16), ["0", "5.00e15", "1.00e16", "1.50e16", "2.00e16", "2.50e16", "3.00e16"]);
+        let day = Scale::of([0.0, 24.0].into_iter()).stepped(&[1.0, 3.0, 6.0]);
+        assert_eq!(day.ticks(), [0.0, 3.0, 6.0, 9.0, 12.0, 15.0, 18.0, 21.0, 24.0]);
         assert_eq!(labels(1.0, 8.0), ["1", "2", "3", "4", "5", "6", "7", "8"]);
     }
 }
