@@ -1,0 +1,2 @@
+-- Several barrels on one unit.
+pub mod Unit
