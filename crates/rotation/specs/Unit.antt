@@ -6,7 +6,7 @@ use lib.Dec.{ltb, leb}
 use lib.ListN.{length, getD, set, replicate}
 use lib.Ieee.{Float, nan}
 use Rattle.lists.specs.Find.{find}
-use Rattle.lists.specs.Window.{window}
+use Rattle.lists.specs.Loop.{tabulate}
 use Rattle.doubles.specs.F64.{+0, 1f}
 use Rattle.phi_krylov_arnoldi.specs.Run.{empty-report}
 use Rattle.phi_krylov.specs.declared.KrylovPhiOptions.{KrylovPhiOptions}
@@ -64,7 +64,7 @@ empty = record { places = replicate 16 vacant; queue = replicate 16 16 }
 
 -- the places that wait, in the order of their turns
 unfoldable pub waiting : Rotation → List ℕ
-waiting u = window 0 (find (λ k. leb 16 (getD (u .queue) k 0)) 16) (u .queue)
+waiting u = tabulate (find (λ k. leb 16 (getD (u .queue) k 0)) 16) (λ k. getD (u .queue) k 0)
 
 -- sixteen numbers that hold them
 unfoldable pub queue-of : List ℕ → List ℕ
