@@ -1,0 +1,2 @@
+-- What the exported functions on a unit hand back.
+pub mod Told

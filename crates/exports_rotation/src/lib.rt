@@ -1,0 +1,1 @@
+// A unit as lent slices: the form in specs/. No code yet.
