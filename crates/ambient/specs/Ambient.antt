@@ -122,11 +122,11 @@ written W r e =
     record {
       call = e .call;
       results =
-        record {
-          temperatures = splice 0 x (r .temperatures);
-          largest = splice 0 (tabulate (length x) (largest W x)) (r .largest);
-          smallest = splice 0 (tabulate (length x) (smallest W x)) (r .smallest);
-        };
+          record {
+            temperatures = splice 0 x (r .temperatures);
+            largest = splice 0 (tabulate (length x) (largest W x)) (r .largest);
+            smallest = splice 0 (tabulate (length x) (smallest W x)) (r .smallest);
+          };
     }
 
 unfoldable pub concluded : Turn Progress Ended → Ended

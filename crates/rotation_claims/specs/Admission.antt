@@ -11,12 +11,13 @@ use Rattle.checks.specs.declared.Checked.the-variants.{Sound}
 use Rattle.phi_krylov.specs.declared.KrylovPhiOptions.{KrylovPhiOptions}
 use Rattle.paused_run.specs.Paused.{Job, Input, PausedCall, leaves, start}
 use Rattle.paused_run.specs.declared.StartAnswer.{StartAnswer}
-use Rattle.paused_run.specs.declared.StartAnswer.the-variants.{Refusal}
+use Rattle.paused_run.specs.declared.StartAnswer.the-variants.{Refusal, Started}
+use Rattle.paused_run.specs.declared.PausedRun.{PausedRun}
 use Rattle.paused_run.specs.declared.StepAnswer.{StepAnswer}
 use Rattle.demand_3.specs.Krylov.{Zeros}
 use Rattle.paused_claims.specs.History.{values-in, run-in}
 use Rattle.paused_claims.specs.Start.{values-of, job-checks, Refuses}
-use Rattle.rotation.specs.Unit.{UnitCall, unit-call, waiting, join, turn}
+use Rattle.rotation.specs.Unit.{UnitCall, unit-call, run-at, waiting, join, turn}
 use Rattle.rotation.specs.declared.Rotation.{Rotation}
 use Rattle.rotation_claims.specs.History.{Act, left-by, unfinished}
 
@@ -98,3 +99,10 @@ pub record LeavesClaim (h : List Act) (i : Input) (y : List Float) : Type 0 wher
       → (c : Coming)
       → Unfinished c
       → (join-to (turn-on h i y .unit) c .place ≡ turn-on h i y .place) × (join-to (turn-on h i y .unit) c .call ≡ start-of c)
+
+-- what a place holds: the run last told of it
+pub record HoldsClaim (h : List Act) : Type 0 where
+  pub by-join : (c : Coming) (s : PausedRun) → join-to (left-by h) c .place < 16 → join-to (left-by h) c .call .answer ≡ Started s → run-at (join-to (left-by h) c .unit) (join-to (left-by h) c .place) ≡ s
+  pub by-turn : (i : Input) (y : List Float) → turn-on h i y .place < 16 → run-at (turn-on h i y .unit) (turn-on h i y .place) ≡ run-in (turn-on h i y .call .answer)
+  pub others-join : (c : Coming) (q : ℕ) → (q ≡ join-to (left-by h) c .place → ⊥) → run-at (join-to (left-by h) c .unit) q ≡ run-at (left-by h) q
+  pub others-turn : (i : Input) (y : List Float) (q : ℕ) → (q ≡ turn-on h i y .place → ⊥) → run-at (turn-on h i y .unit) q ≡ run-at (left-by h) q

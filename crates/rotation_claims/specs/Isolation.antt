@@ -19,17 +19,12 @@ use Rattle.paused_run.specs.declared.StartAnswer.{StartAnswer}
 use Rattle.paused_run.specs.declared.StartAnswer.the-variants.{Started}
 use Rattle.paused_run.specs.declared.StepAnswer.{StepAnswer}
 use Rattle.demand_3.specs.Krylov.{Each}
-use Rattle.paused_claims.specs.History.{run-in}
+use Rattle.paused_claims.specs.History.{run-in, Past, Left}
 use Rattle.paused_claims.specs.Early.{Plain}
 use Rattle.paused_claims.specs.Alike.{number-in}
 use Rattle.rotation.specs.Unit.{UnitCall, join}
 use Rattle.rotation.specs.declared.Rotation.{Rotation}
 use Rattle.rotation_claims.specs.History.{Act, Event, joined, turned, events-from, left-by}
-
--- ---- N5's steps alone
-unfoldable pub steps-alone : PausedRun → List Float → List Input → List (PausedCall StepAnswer)
-steps-alone s y [] = []
-steps-alone s y (i ∷ l) = step s y i ∷ steps-alone (run-in (step s y i .answer)) (step s y i .field) l
 
 -- ---- a barrel's own turns
 -- what a turn brought, the field that was lent, and what it told
@@ -47,10 +42,27 @@ own-turns p [] = []
 own-turns p (joined o j q c ∷ l) = own-turns p l
 own-turns p (turned i y q c ∷ l) = if eqb q p then own-turn i y c ∷ (if run-in (c .answer) .ended then [] else own-turns p l) else own-turns p l
 
--- its field comes back at each as the last call left it, from y on
-unfoldable pub AsLeft : List Float → List OwnTurn → Type 0
-AsLeft y [] = Unit {0}
-AsLeft y (t ∷ l) = (t .lent ≡ y) × AsLeft (t .call .field) l
+-- N5's steps alone, each on the field that it is lent, which may be any
+unfoldable pub steps-alone : PausedRun → List OwnTurn → List (PausedCall StepAnswer)
+steps-alone s [] = []
+steps-alone s (t ∷ l) = step s (t .lent) (t .given) ∷ steps-alone (run-in (step s (t .lent) (t .given) .answer)) l
+
+-- the first check that holds of it
+abbrev pub checked-on : PausedRun → OwnTurn → Checked
+checked-on s t = first (step-checks s (length (t .lent)) (t .given))
+
+-- its field, y at first, comes back at each turn as the last one that was not refused early left it; one that is refused early may be lent any
+abbrev pub Back : Checked → List Float → OwnTurn → Type 0
+Back (Refused k x) y t = Unit {0}
+Back Sound y t = t .lent ≡ y
+
+abbrev pub left-in : Checked → List Float → OwnTurn → List Float
+left-in (Refused k x) y t = y
+left-in Sound y t = t .call .field
+
+unfoldable pub AsLeft : PausedRun → List Float → List OwnTurn → Type 0
+AsLeft s y [] = Unit {0}
+AsLeft s y (t ∷ l) = Back (checked-on s t) y t × AsLeft (run-in (t .call .answer)) (left-in (checked-on s t) y t) l
 
 -- ---- from its arrival on: a job that comes after any acts `earlier`, with what it is lent, and any acts `later`
 pub record Stay : Type 0 where
@@ -72,20 +84,43 @@ arrival v = join (left-by (v .earlier)) (v .o) (v .j) (v .output) (v .memory) (v
 abbrev pub turns-in : Stay → List OwnTurn
 turns-in v = own-turns (arrival v .place) (events-from (arrival v .unit) (v .later))
 
--- it takes a place, and its field comes back as it was left; the others' may be any
-pub record Stays (v : Stay) (s : PausedRun) : Type 0 where
+-- it takes a place
+pub record Placed (v : Stay) (s : PausedRun) : Type 0 where
   pub placed : arrival v .place < 16
   pub began : arrival v .call .answer ≡ Started s
-  pub as-left : AsLeft (arrival v .call .field) (turns-in v)
+
+-- and its field comes back as it was left; the others' may be any
+pub record Stays (v : Stay) (s : PausedRun) : Type 0 where
+  pub takes : Placed v s
+  pub as-left : AsLeft s (arrival v .call .field) (turns-in v)
 
 -- 'its field, report and run refusals are as if it were alone': answer, output, working memory and field of the start and of all its turns are what N5's start and steps
--- alone give to the same
+-- alone give to the same, whatever fields are lent
 pub record Alone (v : Stay) (s : PausedRun) : Type 0 where
   pub at-start : arrival v .call ≡ alone v
-  pub at-turns : map (λ (t : OwnTurn). t .call) (turns-in v) ≡ steps-alone s (alone v .field) (map (λ (t : OwnTurn). t .given) (turns-in v))
+  pub at-turns : map (λ (t : OwnTurn). t .call) (turns-in v) ≡ steps-alone s (turns-in v)
 
 abbrev pub AloneClaim : Type 0
-AloneClaim = (v : Stay) (s : PausedRun) → Stays v s → Alone v s
+AloneClaim = (v : Stay) (s : PausedRun) → Placed v s → Alone v s
+
+-- the run and its field as its turns left them
+unfoldable pub run-after : PausedRun → List OwnTurn → PausedRun
+run-after s [] = s
+run-after s (t ∷ l) = run-after (run-in (t .call .answer)) l
+
+unfoldable pub field-after : PausedRun → List Float → List OwnTurn → List Float
+field-after s y [] = y
+field-after s y (t ∷ l) = field-after (run-in (t .call .answer)) (left-in (checked-on s t) y t) l
+
+-- it is a run as N5 leaves it: all that is claimed of such runs is claimed of it
+pub record IsLeft (v : Stay) (s : PausedRun) : Type 0 where
+  pub past : Past
+  pub left : Left (v .o) (v .j) past
+  pub run : past .run ≡ run-after s (turns-in v)
+  pub field : past .field ≡ field-after s (arrival v .call .field) (turns-in v)
+
+abbrev pub LeftClaim : Type 0
+LeftClaim = (v : Stay) (s : PausedRun) → Stays v s → IsLeft v s
 
 -- 'or 16 if no run waits; a turn is then refused with 31', and no other turn is, over generators none of whose own checks is numbered 31
 abbrev pub Only31Claim : Type 0
@@ -111,9 +146,6 @@ told-of c = record { answer = c .answer; output = c .output; field = c .field }
 abbrev pub unless-early : {A : Type 0} → Checked → A → List A → List A
 unless-early (Refused k x) a l = l
 unless-early Sound a l = a ∷ l
-
-abbrev pub checked-on : PausedRun → OwnTurn → Checked
-checked-on s t = first (step-checks s (length (t .lent)) (t .given))
 
 -- the steps that are not refused early, on the run that each answer hands back
 unfoldable pub given-from : PausedRun → List OwnTurn → List Given

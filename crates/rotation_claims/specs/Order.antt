@@ -26,6 +26,8 @@ QueueClaim = (h : List Act) (p : ℕ) → times p (waiting (left-by h)) ≡ (if 
 pub record SixteenClaim (h : List Act) : Type 0 where
   pub places : (p : ℕ) → unfinished h p ≡ true → p < 16
   pub few : length (waiting (left-by h)) ≤ 16
+  pub runs-long : length (left-by h .places) ≡ 16
+  pub queue-long : length (left-by h .queue) ≡ 16
 
 -- ---- 'Asked, the unit names the place whose turn is next, or 16 if no run waits; a turn is then refused with 31'
 pub record NextClaim (h : List Act) : Type 0 where
