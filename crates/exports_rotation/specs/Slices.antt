@@ -1,10 +1,10 @@
 -- A unit comes back from its slices as it was left (document 02, N6: 'coming back as left'). Definitions only.
 use mathlib.Core.Path.{_≡_}
-use mathlib.Core.Bool.{true, false}
-use mathlib.Core.List.{List, _++_}
+use mathlib.Core.Bool.{true}
+use mathlib.Core.List.{List}
 use Prim.Native.Nat.{ℕ}
 use lib.ListN.{length}
-use lib.Ieee.{Float, nan}
+use lib.Ieee.{Float}
 use Rattle.phi_krylov.specs.declared.KrylovPhiOptions.{KrylovPhiOptions}
 use Rattle.paused_run.specs.Paused.{Job, Input}
 use Rattle.paused_run.specs.declared.StartAnswer.{StartAnswer}
@@ -12,7 +12,7 @@ use Rattle.paused_run.specs.declared.StepAnswer.{StepAnswer}
 use Rattle.rotation.specs.Unit.{empty, next-place, UnitCall, join, turn}
 use Rattle.rotation.specs.declared.Rotation.{Rotation}
 use Rattle.exports_paused.specs.Told.{fits, State, start-state, step-state, told}
-use Rattle.exports_rotation.specs.Told.{unit-numbers, unit-counts, unit-fits, unit-of, no-unit, UnitTold, unit-told, join-told, turn-told, next-told, clear-told}
+use Rattle.exports_rotation.specs.Told.{unit-numbers, unit-counts, unit-fits, unit-of, UnitTold, unit-told, join-told, turn-told, next-told, cleared, clear-told}
 
 -- all of a call in slices: the unit after it too, whatever its place
 abbrev pub in-slices : {A : Type 0} → UnitCall A → State → UnitTold
@@ -31,7 +31,7 @@ pub record SlicesClaim (u : Rotation) : Type 0 where
   pub turns :
       (i : Input) (field numbers : List Float) (counts : List ℕ)
       → turn-told i field (unit-numbers u) (unit-counts u) numbers counts ≡ in-slices (turn u field i) (step-state (turn u field i .call .answer) numbers counts)
-  pub cleared : clear-told (unit-numbers u) (unit-counts u) ≡ (unit-numbers empty, unit-counts empty)
+  pub clears : clear-told (unit-numbers u) (unit-counts u) ≡ cleared 0 (unit-numbers empty) (unit-counts empty)
 
 abbrev pub UnitSlices : Type 0
 UnitSlices = (u : Rotation) → length (u .places) ≡ 16 → length (u .queue) ≡ 16 → SlicesClaim u

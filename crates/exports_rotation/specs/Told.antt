@@ -3,7 +3,7 @@ use mathlib.Core.Bool.{Bool, true, false, not, _&&_}
 use mathlib.Core.List.{List, [], _∷_, _++_}
 use Prim.Native.Nat.{ℕ, _*_}
 use lib.Dec.{eqb, ltb}
-use lib.ListN.{length, replicate}
+use lib.ListN.{length, getD, replicate}
 use lib.Ieee.{Float, nan}
 use Rattle.lists.specs.Loop.{tabulate, stack}
 use Rattle.lists.specs.Window.{window}
@@ -23,7 +23,7 @@ abbrev pub unit-numbers : Rotation → List Float
 unit-numbers u = stack 16 (λ p. numbers-of (run-at u p))
 
 abbrev pub unit-counts : Rotation → List ℕ
-unit-counts u = stack 16 (λ p. counts-of (run-at u p)) ++ u .queue
+unit-counts u = stack 16 (λ p. counts-of (run-at u p)) ++ tabulate 16 (λ k. getD (u .queue) k 0)
 
 -- slices of other lengths hold no unit
 unfoldable pub unit-fits : List Float → List ℕ → Bool
@@ -76,6 +76,14 @@ turn-told i field units queues numbers counts =
 unfoldable pub next-told : List ℕ → ℕ
 next-told queues = if eqb (length queues) 144 then next-place (record { places = []; queue = window 128 16 queues }) else 16
 
--- the empty unit, to slices that fit it
-unfoldable pub clear-told : List Float → List ℕ → List Float × List ℕ
-clear-told numbers counts = if unit-fits numbers counts then (unit-numbers empty, unit-counts empty) else (numbers, counts)
+-- the empty unit, to slices that fit it; else 26, and they are left as they are
+pub record Cleared : Type 0 where
+  pub number : ℕ
+  pub numbers : List Float
+  pub counts : List ℕ
+
+abbrev pub cleared : ℕ → List Float → List ℕ → Cleared
+cleared k numbers counts = record { number = k; numbers = numbers; counts = counts }
+
+unfoldable pub clear-told : List Float → List ℕ → Cleared
+clear-told numbers counts = if unit-fits numbers counts then cleared 0 (unit-numbers empty) (unit-counts empty) else cleared 26 numbers counts
