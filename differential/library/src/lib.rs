@@ -1,10 +1,11 @@
 //! The proved library (crates/exports, crates/exports_transposed, crates/exports_paused, crates/exports_stages, crates/exports_ambient,
-//! crates/exports_bytes): its exported functions, and a job put to them.
+//! crates/exports_rotation, crates/exports_bytes): its exported functions, and a job put to them.
 
 pub mod ambient;
 #[cfg(feature = "bytes")]
 mod bytes;
 pub mod paused;
+pub mod rotation;
 mod slices;
 pub mod stages;
 mod transposed;
