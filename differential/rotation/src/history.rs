@@ -10,6 +10,8 @@ use crate::random::Random;
 const ROWS: usize = 8;
 /// Doubles of working memory.
 const WORK: usize = 1200;
+/// tau times the sum of the sizes of all entries.
+const ARGUMENT: f64 = 3000.0;
 
 /// A small Krylov job; `long` for one that takes many substeps.
 pub fn barrel(long: bool, r: &mut Random) -> Job {
@@ -34,10 +36,44 @@ pub fn barrel(long: bool, r: &mut Random) -> Job {
     }
     *limit = (*limit).min(200);
     job.work = job.need() + if r.once_in(3) { r.below(6) } else { 0 };
-    if job.work > WORK {
+    if job.work > WORK || !modest(&job) || (long && !lasts(&job)) {
         return barrel(long, r);
     }
     job
+}
+
+/// Something of it may be wrong, but not so that a substep takes long.
+pub fn damaged(job: &Job, r: &mut Random) -> Job {
+    let mut damaged = job.clone();
+    damage(&mut damaged, r);
+    if modest(&damaged) {
+        damaged
+    } else {
+        job.clone()
+    }
+}
+
+/// Whether tau times the norm is not so large that the small exponential of a substep takes long; a job that is refused for it is.
+fn modest(job: &Job) -> bool {
+    let mut mass = job.mass.iter().flatten();
+    let refused = job.vals.iter().any(|x| !x.is_finite()) || mass.any(|x| !(x.is_finite() && *x > 0.0)) || job.tau.is_nan();
+    refused || argument(job).is_nan() || argument(job) <= ARGUMENT
+}
+
+/// tau times a number that is not below the norm.
+fn argument(job: &Job) -> f64 {
+    let least = job.mass.iter().flatten().fold(1.0_f64, |least, x| least.min(*x));
+    job.tau * (job.vals.iter().map(|x| x.abs()).sum::<f64>() / least)
+}
+
+/// Whether the run takes some substeps.
+fn lasts(job: &Job) -> bool {
+    job.n > 3 && argument(job) > 20.0 && largest(job) > 0.0
+}
+
+/// The largest size of a number in the vectors: eta and the factors of a run stay those of its start.
+fn largest(job: &Job) -> f64 {
+    job.w.iter().map(|x| x.abs()).filter(|x| x.is_finite()).fold(0.0, f64::max)
 }
 
 /// The slices of the state and the field, as lent to a join.
@@ -77,10 +113,13 @@ pub fn brought(own: &Job, others: &[Job], r: &mut Random) -> Job {
         3 => job.out += 1,
         4 => job.work = job.need() - 1,
         5 => job = others[r.below(others.len())].clone(),
-        6 => damage(&mut job, r),
+        6 => job = damaged(&job, r),
         7 | 8 => job.tau *= 0.5 + r.unit(),
         9 => job.w.iter_mut().for_each(|x| *x *= 1.5),
         _ => {}
+    }
+    if largest(&job) > 2.0 * largest(own) && (job.n, job.count) == (own.n, own.count) {
+        job.w.clone_from(&own.w);
     }
     job
 }

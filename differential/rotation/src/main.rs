@@ -164,11 +164,12 @@ fn one(t: &mut Tally, seed: u64, i: usize, fault: Option<Fault>) {
     let crowded = r.once_in(3);
     let barrels: Vec<Job> = (0..if crowded { BARRELS } else { r.from_to(1, 8) as usize })
         .map(|k| {
-            let mut job = history::barrel(crowded && k < 18, r);
+            let job = history::barrel(crowded && k < 18, r);
             if r.once_in(12) {
-                generate::damage(&mut job, r);
+                history::damaged(&job, r)
+            } else {
+                job
             }
-            job
         })
         .collect();
     let mut caller = Caller::new(fault);
@@ -176,6 +177,10 @@ fn one(t: &mut Tally, seed: u64, i: usize, fault: Option<Fault>) {
     let events = if crowded { r.from_to(30, 120) } else { r.from_to(3, 50) };
     for event in 0..events {
         let joins = coming < barrels.len() && if crowded && coming < 17 { !r.once_in(6) } else { r.once_in(4) };
+        // where no run waits, a turn is asked for seldom
+        if !joins && caller.queue.next() == PLACES && !r.once_in(8) {
+            continue;
+        }
         t.events += 1;
         let differs = if joins {
             coming += 1;
