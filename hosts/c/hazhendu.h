@@ -136,7 +136,8 @@
  *   durations_len
  *   levels, levels_len    its ambient level, as many: w_1 of record i + 1 is load times levels[i], entry by entry, each product rounded once
  *   field, field_len      w_0 of record 1, n numbers; w_0 of a later record is the field after the one before it
- *   load, load_len        what the level multiplies, n numbers: with a mass, the part of each row's power at the level 1 divided by its mass
+ *   load, load_len        what the level multiplies, n numbers: each row's power at the level 1, with a mass divided by it. If the level is the
+ *                         room's temperature, that is what the row loses to the room, in W/K, divided by its heat capacity
  *   window                W, 1 to 1,024: the extremes are those among the last W temperatures, fewer at the start
  *   node                  whose temperature is shown, a row from 0, below n
  *   out, out_len          n numbers: the field after the last record is written here

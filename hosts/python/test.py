@@ -348,6 +348,15 @@ class Stages(unittest.TestCase):
                 hazhendu.stages(self.a, [stage], self.start)
 
 
+class Repeated(unittest.TestCase):
+    def test_columns_that_repeat_add_up_and_stay(self):
+        a = sparse.csr_matrix((np.array([0.25, 0.25, -0.5, -0.5, 0.6]), np.array([0, 0, 1, 0, 1]), np.array([0, 3, 5])), shape=(2, 2))
+        added = np.array([[0.5, -0.5], [-0.5, 0.6]])
+        soaked = hazhendu.soak(a, 2.0, [[20.0, 18.0]])
+        np.testing.assert_allclose(soaked.field, hazhendu.soak(added, 2.0, [[20.0, 18.0]]).field, rtol=1e-14)
+        self.assertEqual((a.nnz, a.data.tolist()), (5, [0.25, 0.25, -0.5, -0.5, 0.6]))
+
+
 class Logs(unittest.TestCase):
     def setUp(self):
         self.a, self.mass = plate(5)
@@ -419,12 +428,12 @@ class Logs(unittest.TestCase):
             hazhendu.ambient(self.a, self.durations, self.levels, self.field, self.load, 1, -1)
 
     def test_nan_ends_the_work_and_zeros_are_positive(self):
-        cancels = sparse.csr_matrix((np.array([2.0, -2.0]), np.array([0, 0]), np.array([0, 2])), shape=(1, 1))
+        cancels = sparse.csr_matrix((np.array([2.0, -2.0]), np.array([1, 1]), np.array([0, 0, 2])), shape=(2, 2))
         with warnings.catch_warnings():
             warnings.simplefilter("ignore")
-            logged = hazhendu.ambient(cancels, [1.0, 1.0, 1.0], [0.0, 1.0, 0.0], [0.0], [2.0**1023], 2, 0)
+            logged = hazhendu.ambient(cancels, [1.0, 1.0, 1.0], [0.0, 1.0, 0.0], [1.0, 0.0], [0.0, 2.0**1023], 2, 1)
         self.assertEqual((logged.not_a_number, logged.temperatures.tolist()), (3, [0.0, 2.0**1023]))
-        self.assertTrue(np.isnan(logged.field[0]))
+        self.assertTrue(logged.field[0] == 1.0 and np.isnan(logged.field[1]))
         logged = hazhendu.ambient(np.zeros((1, 1)), [1.0], [-1.0], [-0.0], [0.0], 1, 0)
         self.assertTrue(np.signbit(logged.temperatures[0]))
         self.assertFalse(np.signbit(logged.largest[0]) or np.signbit(logged.smallest[0]))

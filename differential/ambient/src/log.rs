@@ -14,6 +14,8 @@ enum Aim {
     Growing,
     /// Temperatures that are NaN once they are large.
     Cancelling,
+    /// Temperatures that add up beyond all doubles, and are infinite.
+    Adding,
     /// Zeros of both signs.
     Zeros,
 }
@@ -24,6 +26,7 @@ pub fn log(r: &mut Random) -> (Job, Log) {
         0..=1 => Aim::Growing,
         2..=3 => Aim::Cancelling,
         4..=5 => Aim::Zeros,
+        6 => Aim::Adding,
         _ => Aim::Any,
     };
     let (mut base, own) = base(aim, r);
@@ -44,7 +47,7 @@ pub fn log(r: &mut Random) -> (Job, Log) {
         log.durations.push(if i == 0 && aim == Aim::Any && r.once_in(3) { own.tau } else { duration(&base, aim, records > 8, r) });
         log.levels.push(level(aim, r));
     }
-    if aim == Aim::Cancelling {
+    if matches!(aim, Aim::Cancelling | Aim::Adding) {
         large(&mut log, r);
     }
     log.places = [0; 3].map(|_| records + if r.once_in(3) { r.below(4) } else { 0 });
@@ -82,7 +85,7 @@ fn base(aim: Aim, r: &mut Random) -> (Job, Job) {
     }
     match aim {
         Aim::Growing => diagonal(&mut job, r, |r| -1.0 - r.unit()),
-        Aim::Zeros if r.once_in(2) => {
+        Aim::Adding | Aim::Zeros if aim == Aim::Adding || r.once_in(2) => {
             diagonal(&mut job, r, |_| 0.0);
             (job.starts, job.cols, job.vals) = (vec![0; job.n + 1], vec![], vec![]);
         }
@@ -160,17 +163,18 @@ fn level(aim: Aim, r: &mut Random) -> f64 {
     }
 }
 
-/// A field, or a load and a level, of the size at which the rows cancel.
+/// A field, or a load and a level, of the size at which rows cancel or add up to infinity.
 fn large(log: &mut Log, r: &mut Random) {
-    let huge = |r: &mut Random| r.pick(&[1.0, -1.0]) * 2.0_f64.powi(r.from_to(1019, 1023) as i32);
-    if r.once_in(2) {
+    let sign = r.pick(&[1.0, -1.0]);
+    let huge = |r: &mut Random| sign * 2.0_f64.powi(r.from_to(1021, 1023) as i32);
+    if !r.once_in(3) {
         log.field.iter_mut().for_each(|x| *x = huge(r));
     }
-    if r.once_in(2) {
+    if !r.once_in(3) {
         log.load.iter_mut().for_each(|x| *x = huge(r));
         log.levels.iter_mut().for_each(|x| *x = r.pick(&[0.0, 0.0, 0.5, 0.25, 1.0]));
     }
-    log.durations.iter_mut().for_each(|x| *x = r.pick(&[0.0, 0.5, 1.0]));
+    log.durations.iter_mut().for_each(|x| *x = r.pick(&[0.0, 0.5, 1.0, 1.0]));
 }
 
 /// Whether the entries of each row can be added up.

@@ -90,7 +90,7 @@ fn count(t: &mut Tally, base: &Job, log: &Log, left: &Left) {
     t.hit(match log.durations.len() {
         1 => "done records: 1",
         2..=8 => "done records: 2 to 8",
-        9..=50 => "done records: 9 to 50",
+        9..=99 => "done records: 9 to 51",
         _ => "done records: 100,000",
     });
     if left.work.last().is_some_and(|x| x.to_bits() != 0) {

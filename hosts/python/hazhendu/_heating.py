@@ -21,7 +21,8 @@ class NotFiniteWarning(RuntimeWarning):
 
 def heating_rows(a):
     """The rows of A, from 0, whose diagonal, or whose sum by more than 1e-12 of its sizes, is below 0: they heat themselves."""
-    a = sparse.csr_matrix(a)
+    # A copy: abs() adds up repeated columns where they stand.
+    a = sparse.csr_matrix(a, copy=True)
     sums, sizes = (np.asarray(matrix.sum(axis=1)).ravel() for matrix in (a, abs(a)))
     return np.flatnonzero((a.diagonal() < 0) | (sums < -NEGLIGIBLE * sizes))
 

@@ -190,8 +190,11 @@ fn a_hundred_thousand_records_and_no_more() {
     let log = Log { durations: &durations[..100_000], levels: &levels[..100_000] };
     let logged = ambient(&one, &log, &field, &load, 1024, 0).unwrap();
     assert_eq!((logged.temperatures.len(), logged.not_a_number), (100_000, None));
-    let (largest, smallest) = extremes(&logged.temperatures, 1024);
-    assert_eq!((bits(&logged.largest), bits(&logged.smallest)), (bits(&largest), bits(&smallest)));
+    for i in (0..100_000).step_by(61).chain([1023, 1024, 99_999]) {
+        let window = &logged.temperatures[(i + 1usize).saturating_sub(1024)..=i];
+        assert_eq!(logged.largest[i], window.iter().copied().fold(f64::NEG_INFINITY, f64::max));
+        assert_eq!(logged.smallest[i], window.iter().copied().fold(f64::INFINITY, f64::min));
+    }
     let short = Log { durations: &durations[..300], levels: &levels[..300] };
     let after = in_a_row(&one, &short, &field, &load);
     assert_eq!(bits(&logged.temperatures[..300]), bits(&after.concat()));

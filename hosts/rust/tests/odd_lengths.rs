@@ -9,7 +9,7 @@ fn told<T>(answer: Result<T, Error>) {
     match answer {
         Ok(_) => {}
         Err(Error::Refused { refusal, .. }) => {
-            assert!((1..=29).contains(&refusal.number) && refusal.number != 23 || [34, 35].contains(&refusal.number))
+            assert!((1..=29).contains(&refusal.number) && refusal.number != 23 || [34, 35, 38, 39].contains(&refusal.number))
         }
         Err(Error::OutOfMemory { doubles }) => panic!("{doubles} doubles asked for"),
     }

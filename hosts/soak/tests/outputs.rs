@@ -252,6 +252,61 @@ fn every_stage_has_its_field_and_its_curve() {
     assert!(again.status.code() == Some(74) && String::from_utf8_lossy(&again.stderr).contains("is not empty"));
 }
 
+const LOG: &str = "log rod.mtx --mass mass.txt --field start.txt --load losses.txt --node 8";
+
+#[test]
+fn a_log_has_its_table_its_field_and_its_picture() {
+    let (table, field, plot) = (scratch("log-table.csv"), scratch("log-field.txt"), scratch("log.svg"));
+    let files = format!("--results {} --output {} --plot {}", table.display(), field.display(), plot.display());
+    let output = run(&format!("{LOG} --records log.csv --window 2 {files}"));
+    assert!(output.status.success() && output.stdout.is_empty());
+    let rows = fs::read_to_string(&table).unwrap();
+    assert!(rows.starts_with("duration,level,temperature,largest,smallest\n600,18,") && rows.lines().count() == 6);
+    // Row 8 of the field is the last temperature, and the first record is a soak of its own.
+    let last = fs::read_to_string(&field).unwrap().lines().last().unwrap().to_owned();
+    assert_eq!(rows.lines().last().unwrap().split(',').nth(2), Some(last.as_str()));
+    let load = scratch("losses-18.txt");
+    fs::write(&load, "0\n".repeat(7) + &(0.0125 * 18.0).to_string()).unwrap();
+    let soaked = run(&format!("rod.mtx --mass mass.txt --tau 600 --vector start.txt --vector {}", load.display()));
+    let first = String::from_utf8_lossy(&soaked.stdout).lines().last().unwrap().to_owned();
+    assert_eq!(rows.lines().nth(1).unwrap().split(',').nth(2), Some(first.as_str()));
+    let svg = fs::read_to_string(&plot).unwrap();
+    for name in ["temperature of row 8", "smallest to largest of", "the last 2 records", "ambient level", "time, min"] {
+        assert!(svg.contains(&format!(">{name}</text>")), "{name}");
+    }
+    // The table is a table of records again, and gives itself.
+    let again = run(&format!("{LOG} --records {} --window 2", table.display()));
+    assert_eq!(String::from_utf8_lossy(&again.stdout), rows);
+}
+
+#[test]
+fn a_refused_record_leaves_what_there_is() {
+    let (table, field, plot) = (scratch("log-part.csv"), scratch("log-part.txt"), scratch("log-part.svg"));
+    let files = format!("--results {} --output {} --plot {}", table.display(), field.display(), plot.display());
+    let output = run(&format!("{LOG} --records log-negative.csv --window 2 {files}"));
+    assert_eq!(output.status.code(), Some(14));
+    let told = "record 3 (log-negative.csv:4) is refused by 14";
+    assert!(fs::read_to_string(&table).unwrap().starts_with(&format!("# not the whole log: {told}\nduration,level,")));
+    assert!(fs::read_to_string(&field).unwrap().starts_with(&format!("# not the field after the whole log: {told}\n")));
+    assert!(fs::read_to_string(&plot).unwrap().contains(told));
+    // At the first record nothing is written.
+    let kept = scratch("log-kept.csv");
+    fs::write(&kept, "kept\n").unwrap();
+    let (none, picture) = (scratch("log-none.txt"), scratch("log-none.svg"));
+    let files = format!("--results {} --output {} --plot {}", kept.display(), none.display(), picture.display());
+    assert_eq!(run(&format!("{LOG} --records log-first.csv --window 2 {files}")).status.code(), Some(14));
+    assert!(fs::read_to_string(&kept).unwrap() == "kept\n" && !none.exists() && !picture.exists());
+}
+
+#[test]
+fn a_log_of_more_records_than_are_taken_is_refused() {
+    let records = scratch("log-100001.csv");
+    fs::write(&records, "duration,level\n".to_owned() + &"0,1\n".repeat(100_001)).unwrap();
+    let output = run(&format!("{LOG} --records {} --window 2", records.display()));
+    assert_eq!(output.status.code(), Some(39));
+    assert!(String::from_utf8_lossy(&output.stderr).contains("log-100001.csv has 100001 records"));
+}
+
 #[test]
 fn a_plot_goes_to_the_standard_output() {
     let field = scratch("beside-plot.txt");

@@ -44,6 +44,16 @@ impl Scale {
         }
     }
 
+    /// With some room at both ends, so that no curve lies on the frame.
+    pub fn widened(self) -> Scale {
+        let room = (self.high / 2.0 - self.low / 2.0) * 0.04;
+        let (low, high) = (self.low - room, self.high + room);
+        match low.is_finite() && high.is_finite() {
+            true => Scale { low, high, step: self.step },
+            false => self,
+        }
+    }
+
     /// The same with the first of these steps that gives at most ten ticks, if one does.
     pub fn stepped(self, steps: &[f64]) -> Scale {
         let range = self.high / 2.0 - self.low / 2.0;

@@ -26,32 +26,33 @@ pub struct Curves<'a> {
 const ABOVE: Frame = Frame { left: 90.0, right: 740.0, top: 64.0, bottom: 320.0 };
 const BELOW: Frame = Frame { left: 90.0, right: 740.0, top: 344.0, bottom: 460.0 };
 const TEMPERATURE: &str = r##"stroke="#a50026" stroke-width="1.5" stroke-linecap="round" stroke-linejoin="round" fill="none""##;
+const DOT: &str = r##"stroke="#a50026" stroke-width="5" stroke-linecap="round" fill="none""##;
 const BAND: &str = r##"fill="#f4a582" fill-opacity="0.5" stroke="#f4a582" stroke-width="0.5""##;
 const LEVEL: &str = r##"stroke="#4575b4" stroke-width="1.5" stroke-linecap="round" stroke-linejoin="round" fill="none""##;
-/// Up to so many records each has a dot.
+/// Up to so many records each has a dot, and the way between them, which is not computed, is broken.
 const DOTTED: usize = 60;
 
 pub fn draw(curves: &Curves) -> String {
     let time = Time::of(curves.durations);
     let mut svg = Svg::new(960.0, 512.0, &curves.title, &curves.below(&time));
     let shown = curves.temperatures.iter().chain(curves.largest).chain(curves.smallest).copied();
-    let temperatures = Scale::of(std::iter::once(curves.start).chain(shown)).rounded();
-    let levels = Scale::of(curves.levels.iter().copied()).rounded();
+    let temperatures = Scale::of(std::iter::once(curves.start).chain(shown)).widened().rounded();
+    let levels = Scale::of(curves.levels.iter().copied()).widened().rounded();
     ABOVE.upright(&mut svg, &time.scale);
     BELOW.upright(&mut svg, &time.scale);
     ABOVE.up(&mut svg, &temperatures, &format!("temperature, {}", curves.unit), true);
     BELOW.up(&mut svg, &levels, "level", true);
     BELOW.across(&mut svg, &time.scale, &format!("time, {}", time.unit));
+    ABOVE.border(&mut svg);
+    BELOW.border(&mut svg);
     if curves.window > 1 {
         svg.path(&curves.band(&time, &temperatures), BAND);
     }
-    svg.path(&curves.line(&time, &temperatures), TEMPERATURE);
+    svg.path(&curves.line(&time, &temperatures), &curves.stroke());
     svg.path(&curves.steps(&time, &levels), LEVEL);
-    if curves.temperatures.len() <= DOTTED {
-        svg.path(&curves.dots(&time, &temperatures), &TEMPERATURE.replace("1.5", "4"));
+    if curves.is_dotted() {
+        svg.path(&curves.dots(&time, &temperatures), DOT);
     }
-    ABOVE.border(&mut svg);
-    BELOW.border(&mut svg);
     curves.legend(&mut svg);
     svg.end()
 }
@@ -102,6 +103,15 @@ impl Time {
 }
 
 impl Curves<'_> {
+    fn is_dotted(&self) -> bool {
+        self.temperatures.len() <= DOTTED
+    }
+
+    fn stroke(&self) -> String {
+        let broken = if self.is_dotted() { r##" stroke-dasharray="5 4" stroke-opacity="0.7""## } else { "" };
+        format!("{TEMPERATURE}{broken}")
+    }
+
     fn below(&self, time: &Time) -> Line {
         if let Some(told) = &self.unfinished {
             return Line::warning(told.clone());
@@ -149,6 +159,9 @@ impl Curves<'_> {
 
     fn dots(&self, time: &Time, scale: &Scale) -> String {
         let mut path = String::new();
+        if self.start.is_finite() {
+            let _ = write!(path, "M{:.1} {:.1}h0", ABOVE.left, ABOVE.y(scale, self.start));
+        }
         for (i, value) in self.temperatures.iter().enumerate().filter(|(_, value)| value.is_finite()) {
             let _ = write!(path, "M{:.1} {:.1}h0", time.x(i), ABOVE.y(scale, *value));
         }
@@ -190,7 +203,11 @@ impl Curves<'_> {
 
     fn legend(&self, svg: &mut Svg) {
         let x = ABOVE.right + 14.0;
-        svg.path(&format!("M{x:.1} {:.1}h18", ABOVE.top + 8.0), TEMPERATURE);
+        let y = ABOVE.top + 8.0;
+        svg.path(&format!("M{x:.1} {y:.1}h18"), &self.stroke());
+        if self.is_dotted() {
+            svg.path(&format!("M{x:.1} {y:.1}h0M{:.1} {y:.1}h0", x + 18.0), DOT);
+        }
         svg.label(x + 26.0, ABOVE.top + 12.0, Anchor::Start, &format!("temperature of row {}", self.row));
         if self.window > 1 {
             svg.path(&format!("M{x:.1} {:.1}h18v12h-18z", ABOVE.top + 24.0), BAND);
