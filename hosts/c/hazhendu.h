@@ -192,11 +192,10 @@
  * WHAT THE CALLER OWES
  *
  * - A slice is a pointer and the number of its elements. The pointer must not be null and must be aligned for its element type, even if
- *   the length is 0; all elements of the length must be readable, those of out, work, the buffers for
- *   a transposed matrix, the field and state of a paused run, the slices of a unit, the results of a soak under a changing level and the result of a join writable
- *   too.
- * - out, work, the buffers, field and state of a paused run, the slices of a unit, temperatures, largest, smallest, the result of a join and the places of the
- *   numbers told must overlap neither each other nor anything else that is handed in.
+ *   the length is 0; all elements of the length must be readable, those of out, work, the buffers for a transposed matrix, the field and
+ *   state of a paused run, the slices of a unit, the results of a soak under a changing level and the result of a join writable too.
+ * - out, work, the buffers, field and state of a paused run, the slices of a unit, temperatures, largest, smallest, the result of a join and
+ *   the places of the numbers told must overlap neither each other nor anything else that is handed in.
  * - with_mass, with_tol and krylov are 0 or 1.
  * - The floating-point environment is the one that a program begins with: rounding to nearest, no flush to zero, denormals not taken as
  *   zero, no exception unmasked. A program or a library built with -ffast-math changes it, and then answers differ and a subnormal mass is
@@ -269,10 +268,10 @@ enum {
    those of a transposed call are 1 to 6, with a mass 7 to 10, without one 9 and 11, then 30, then 11 for a column (of the transposed
    matrix a row), then those of the job. A start has those of Krylov's whole call, then 26 for field, numbers or counts of another length.
    A step has 31 first, then those of Krylov's whole call with the tol in force, the run's m and limit, a second 16 behind the first and the
-   start's scaling in 22, then 26 for field. A join to a unit has those of a start, then 32; a turn those of a step. A soak in stages has 1 to 11, then 37, then those of each stage when it is reached. One
-   under a changing level has 1 to 11, 15, 16 for field, then load, 17 for field, then load, 38 to 40, then those of each record when it is
-   reached: 14, 17, 21, 22, 24 to 26. Those of a join are 1 to 6 and 11 of the barrel, then of the mount, 34, 35 and 36, then 3 and 6 of the
-   result. The first that holds is told. */
+   start's scaling in 22, then 26 for field. A join to a unit has those of a start, then 32; a turn has 31 where no run waits, else those of
+   a step. A soak in stages has 1 to 11, then 37, then those of each stage when it is reached. One under a changing level has 1 to 11, 15,
+   16 for field, then load, 17 for field, then load, 38 to 40, then those of each record when it is reached: 14, 17, 21, 22, 24 to 26. Those
+   of a join are 1 to 6 and 11 of the barrel, then of the mount, 34, 35 and 36, then 3 and 6 of the result. The first that holds is told. */
 enum hazhendu_refusal {
     HAZHENDU_ACCEPTED = 0,
 

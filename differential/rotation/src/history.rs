@@ -71,7 +71,7 @@ fn lasts(job: &Job) -> bool {
     job.n > 3 && argument(job) > 20.0 && largest(job) > 0.0
 }
 
-/// The largest size of a number in the vectors: eta and the factors of a run stay those of its start.
+/// The largest size of a number in the vectors.
 fn largest(job: &Job) -> f64 {
     job.w.iter().map(|x| x.abs()).filter(|x| x.is_finite()).fold(0.0, f64::max)
 }
@@ -118,8 +118,14 @@ pub fn brought(own: &Job, others: &[Job], r: &mut Random) -> Job {
         9 => job.w.iter_mut().for_each(|x| *x *= 1.5),
         _ => {}
     }
-    if largest(&job) > 2.0 * largest(own) && (job.n, job.count) == (own.n, own.count) {
-        job.w.clone_from(&own.w);
+    // eta is the start's, made for its tau and vectors: far larger ones make a substep that takes long
+    if (job.n, job.count) == (own.n, own.count) {
+        if largest(&job) > 2.0 * largest(own) {
+            job.w.clone_from(&own.w);
+        }
+        if job.tau > 2.0 * own.tau {
+            job.tau = own.tau;
+        }
     }
     job
 }
