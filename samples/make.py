@@ -6,7 +6,8 @@
                                 soak wants; where there is a mount also mount.mtx, and the words name joined.mtx, which soak join
                                 is to make of the two; where there are phases also stages.csv, a schedule, with the vectors that it
                                 names; where a day is logged also room.csv, its records, with losses.txt, what the level multiplies,
-                                midnight.txt, the field at its start, and log-arguments; prints the folders
+                                midnight.txt, the field at its start, and log-arguments; prints the folders. barrels.csv beside
+                                them is the table of all barrels for soak rotate
 
 A barrel is a body of revolution, tiled by parts that are rings or discs; a part is divided into cells. Lengths are whole micrometres
 here, so that cells which touch are found by equal numbers, and metres in every formula. All else is in SI units.
@@ -323,6 +324,7 @@ def write_boxes(path, boxes):
 
 
 def write_barrel(folder, barrel):
+    """The folder of a barrel, and its line of barrels.csv."""
     check_tiled(barrel)
     cells = cells_of(barrel)
     capacity = [cell.capacity() for cell in cells]
@@ -356,6 +358,8 @@ def write_barrel(folder, barrel):
     words += ["--points", "cells.txt", "--outline", "parts.txt"]
     with open(place("arguments"), "w") as file:
         file.write(" ".join(words) + "\n")
+    files = [f"{barrel.name}/{name}" for name in (matrix, "capacity.txt", *vectors)]
+    return f"{barrel.name},{files[0]},{files[1]},{';'.join(files[2:])},{barrel.tau:g}\n"
 
 
 def mm(first, last):
@@ -428,10 +432,13 @@ BARRELS = (RELAY, COLLIMATOR, COLLIMATOR_ON_MOUNT, ZOOM)
 def main():
     if len(sys.argv) != 2:
         sys.exit(__doc__)
+    lines = ["name,matrix,mass,vectors,tau\n"]
     for barrel in BARRELS:
         folder = os.path.join(sys.argv[1], barrel.name)
-        write_barrel(folder, barrel)
+        lines.append(write_barrel(folder, barrel))
         print(folder)
+    with open(os.path.join(sys.argv[1], "barrels.csv"), "w") as file:
+        file.writelines(lines)
 
 
 if __name__ == "__main__":

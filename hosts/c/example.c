@@ -136,6 +136,39 @@ static uint32_t paused(double tau, size_t m, bool tightened, double *out, double
         N + COUNT - 1, numbers, HAZHENDU_RUN_NUMBERS_LEN, counts, HAZHENDU_RUN_COUNTS_LEN, &value);
 }
 
+/* Soaks of three times on one unit, one substep each in turn: the field of the first is that of its run alone. */
+static uint32_t rotated(const double *taus, size_t m, double *first, double *work, size_t work_len)
+{
+    enum { RUNS = 3 };
+    double units[HAZHENDU_UNIT_NUMBERS_LEN], outs[RUNS][N], fields[RUNS][N + COUNT - 1], numbers[HAZHENDU_RUN_NUMBERS_LEN], value;
+    size_t queues[HAZHENDU_UNIT_COUNTS_LEN], counts[HAZHENDU_RUN_COUNTS_LEN], place, turns = 0;
+    hazhendu_rotation_clear(units, HAZHENDU_UNIT_NUMBERS_LEN, queues, HAZHENDU_UNIT_COUNTS_LEN);
+    for (size_t i = 0; i < RUNS; i++) {
+        uint32_t number = hazhendu_rotation_join(
+            N, starts, N + 1, cols, ENTRIES, vals, ENTRIES, true, mass, N, taus[i], COUNT, w, COUNT * N, 1e-10, m, 100000, outs[i], N, work, work_len,
+            fields[i], N + COUNT - 1, units, HAZHENDU_UNIT_NUMBERS_LEN, queues, HAZHENDU_UNIT_COUNTS_LEN, numbers, HAZHENDU_RUN_NUMBERS_LEN, counts,
+            HAZHENDU_RUN_COUNTS_LEN, &place, &value);
+        if (number != HAZHENDU_ACCEPTED || place != i)
+            return number;
+    }
+    for (;;) {
+        size_t p = hazhendu_rotation_next(queues, HAZHENDU_UNIT_COUNTS_LEN), i = p == HAZHENDU_NO_PLACE ? 0 : p;
+        uint32_t number = hazhendu_rotation_turn(
+            N, starts, N + 1, cols, ENTRIES, vals, ENTRIES, true, mass, N, taus[i], COUNT, w, COUNT * N, false, 0, outs[i], N, work, work_len, fields[i],
+            N + COUNT - 1, units, HAZHENDU_UNIT_NUMBERS_LEN, queues, HAZHENDU_UNIT_COUNTS_LEN, numbers, HAZHENDU_RUN_NUMBERS_LEN, counts,
+            HAZHENDU_RUN_COUNTS_LEN, &place, &value);
+        if (number != HAZHENDU_ACCEPTED) {
+            memcpy(first, outs[0], sizeof outs[0]);
+            printf("after %zu turns place %zu is next: refused, number %u\n", turns, p, number);
+            return number;
+        }
+        turns++;
+        if (counts[HAZHENDU_RUN_OVER] != 0)
+            printf("place %zu ended at turn %zu: %zu substeps, %zu applications, first piece %.6f K\n", place, turns, counts[HAZHENDU_RUN_SUBSTEPS],
+                counts[HAZHENDU_RUN_MATVECS], outs[place][0]);
+    }
+}
+
 /* Ten seconds with the heater on full, a minute by Krylov on half of it, then a time without it: three calls in one. */
 static uint32_t schedule(double cooling, double *out, double *work, size_t work_len)
 {
@@ -233,6 +266,11 @@ int main(void)
     if (paused(60, 4, true, krylov, work, krylov_work) != HAZHENDU_RUN_ENDED)
         return 1;
     print_field(krylov);
+
+    static const double taus[3] = {60, 20, 5};
+    printf("that soak and two shorter ones in rotation on one unit, to the same bits; then no run waits\n");
+    if (rotated(taus, 4, krylov, work, krylov_work) != HAZHENDU_RUN_ENDED || memcmp(krylov, whole, sizeof whole) != 0)
+        return 1;
 
     printf("warm-up, hold and cool-down in one call; and with a time that is negative in the last stage: what is left is the field of the second\n");
     static const size_t counts[3] = {2, 2, 1}, ms[3] = {0, KRYLOV_M, 0};

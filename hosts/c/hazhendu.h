@@ -3,7 +3,7 @@
  *
  * `hosts/library` writes target/staticlib/libhazhendu.a, libhazhendu.so and hazhendu.pc for pkg-config; hosts/c/run shows how to link. Most
  * programs want the calls on structs at the end of this file: hazhendu_check, hazhendu_soak, hazhendu_soak_stages, hazhendu_soak_log,
- * hazhendu_run_start, hazhendu_act and their likes.
+ * hazhendu_run_start, hazhendu_unit_join, hazhendu_act and their likes.
  *
  *
  * WHAT IS COMPUTED
@@ -22,6 +22,8 @@
  *   hazhendu_join:                                               two matrices over the same rows, a barrel's and its mount's, as one
  *   hazhendu_krylov_start, hazhendu_krylov_step:                 hazhendu_phi_combination_krylov one substep at a time, with the field to be looked
  *                                                                at in between, and a new tol where one is wanted
+ *   hazhendu_rotation_clear, hazhendu_rotation_next,
+ *   hazhendu_rotation_join, hazhendu_rotation_turn:              up to 16 such runs on one unit, in rotation, one substep at a time
  *   hazhendu_stages:                                             1 to 64 combinations in a row over one matrix, the field of one being w_0 of the
  *                                                                next: warm-up, hold and cool-down
  *   hazhendu_ambient:                                            1 to 100,000 Taylor combinations in a row under an ambient level that a logger
@@ -89,6 +91,26 @@
  * which the start scaled vectors and field stay. A run has ended when its time is 1, when the norm of its field is 0, when its start was
  * all zeros, or when it met 27, 28 or 29; 27 comes with the limit's last substep itself.
  *
+ * of a unit, which serves up to 16 paused runs in rotation. It is two slices of fixed length, the caller's, empty once
+ * hazhendu_rotation_clear has written them; they go into each call as the last one left them:
+ *
+ *   units, units_len      160 doubles, HAZHENDU_UNIT_NUMBERS_LEN: the numbers of the run in place 0, of that in place 1, .. of that in place 15
+ *   queues, queues_len    144 sizes, HAZHENDU_UNIT_COUNTS_LEN: their counts in the same way, then 16 numbers, the queue: the places that wait in
+ *                         the order of their turns, up to the first number above 15. A place is free while the run in it has ended
+ *   out, work             hazhendu_rotation_join: of the new run; hazhendu_rotation_turn: of the run whose turn it is. work may be one
+ *                         memory for all runs, as long as the longest need
+ *   field, field_len      of that same run: the caller keeps one for each run, and lends that of the place that hazhendu_rotation_next names
+ *   numbers, counts       the state of that run is written here, to be looked at; what they hold before is not looked at. A turn whose
+ *                         slices are not 10 and 8 long is served all the same, and they are left as they are
+ *
+ * hazhendu_rotation_join makes the checks and the start of hazhendu_krylov_start, and the run goes to the end of the queue, in the lowest free
+ * place; one that has ended at its start is accepted, and takes none. hazhendu_rotation_next names the place whose turn is next, 16 if no
+ * run waits. hazhendu_rotation_turn makes hazhendu_krylov_step on the run there, with the matrix, tau and vectors handed in. Then the run goes
+ * to the end of the queue, also where the step was refused early (1 to 26); one that has ended, by 27 to 29 too, leaves, and its place can be
+ * taken again. So between two turns of a waiting run at most 15 turns of others are served, and field, out, report and refusals of a run are
+ * to the bit those of hazhendu_krylov_start and hazhendu_krylov_step alone, whatever the other runs are.
+ * Slices of other lengths hold no unit: 16 is next, a turn is refused by 31, and a join by 32 after all checks of its job.
+ *
  * of a soak in stages. Each of the seven lists has a number for every stage; how many stages there are is the length of taus:
  *
  *   taus, taus_len        the time of each stage, as tau
@@ -148,6 +170,8 @@
  *                         of a paused run its estimated error, which is of the scaled start until a substep ends the run with a result (the reader
  *                         hazhendu_run_estimate sees to it), 0 of its start; 0 of a soak in stages and of one under a changing level, of the latter NaN
  *                         where a temperature is NaN; refused: the refusal's double
+ *   place                 hazhendu_rotation_join: the place taken, 0 to 15, or 16 if none was (refused, or ended at its start);
+ *                         hazhendu_rotation_turn: the place whose turn it was, refused or not, or 16 if no run waits
  *   stage                 a soak in stages: which one is refused, from 1; 0 where none was reached (1 to 11 and 37) or all are accepted
  *   record                a soak under a changing level: which record is refused, from 1, or after which one the node's temperature is NaN, the
  *                         result being 0; 0 where none was reached (1 to 11, 15 to 17 and 38 to 40) or all have results
@@ -168,11 +192,10 @@
  * WHAT THE CALLER OWES
  *
  * - A slice is a pointer and the number of its elements. The pointer must not be null and must be aligned for its element type, even if
- *   the length is 0; all elements of the length must be readable, those of out, work, the buffers for
- *   a transposed matrix, the field and state of a paused run, the results of a soak under a changing level and the result of a join writable
- *   too.
- * - out, work, the buffers, field and state of a paused run, temperatures, largest, smallest, the result of a join and the places of the
- *   numbers told must overlap neither each other nor anything else that is handed in.
+ *   the length is 0; all elements of the length must be readable, those of out, work, the buffers for a transposed matrix, the field and
+ *   state of a paused run, the slices of a unit, the results of a soak under a changing level and the result of a join writable too.
+ * - out, work, the buffers, field and state of a paused run, the slices of a unit, temperatures, largest, smallest, the result of a join and
+ *   the places of the numbers told must overlap neither each other nor anything else that is handed in.
  * - with_mass, with_tol and krylov are 0 or 1.
  * - The floating-point environment is the one that a program begins with: rounding to nearest, no flush to zero, denormals not taken as
  *   zero, no exception unmasked. A program or a library built with -ffast-math changes it, and then answers differ and a subnormal mass is
@@ -180,14 +203,14 @@
  *
  * Nothing else is asked: every input gets a result or a refusal, and no call allocates, stops the program or keeps anything. Calls in
  * several threads do not disturb each other. A call tells nothing before its end, and may take long (the process can be stopped at any time): Taylor makes s * m products with G,
- * Krylov at most (M + 1) * max_substeps, a step of a paused run at most M + 1, a soak in stages the sum over its stages, one under a
+ * Krylov at most (M + 1) * max_substeps, a step of a paused run and a turn at most M + 1, a soak in stages the sum over its stages, one under a
  * changing level s * m for each record. A join goes over both matrices a few times.
  *
  *
  * WHAT A CALL CHANGES
  *
  *   accepted           out is the answer; the needed length of work holds +0, the rest is unchanged
- *   refused, 1 to 26   out and work are unchanged, and so after 30, 31 and 33
+ *   refused, 1 to 26   out and work are unchanged, and so after 30 to 33
  *   refused, 27 to 29  out is the state after the last accepted substep, the needed length of work holds +0. If no substep was accepted
  *                      (28 or 29 in the first), out is w_0 scaled by a power of two and back: its numbers, but for those so small beside
  *                      the largest that the scaling makes them subnormal
@@ -197,6 +220,10 @@
  *                      (of a start w_0, scaled and back), and the needed length of work holds +0. field, numbers and counts are written by
  *                      these alone, after 28 and 29 as the last accepted substep left them but for the mark that the run has ended;
  *                      1 to 26 and 31 leave all of it unchanged
+ *   a unit             out, work, field, numbers and counts as by a start or a step. units and queues are written by a join that takes a
+ *                      place, and by every turn of a waiting run: one refused by 1 to 26 moves its place to the end of the queue and changes
+ *                      nothing else. A join refused by 32, and a turn by 31 because no run waits, change nothing. hazhendu_rotation_clear
+ *                      writes both; slices of other lengths are refused by 26 and left as they are
  *   stages             accepted: out is the field after the last stage, the largest need of a stage of work holds +0. Refused before any
  *                      stage, or at stage 1 by 12 to 26 or 33: nothing is changed. Refused so at a later stage: out is the field of the stage
  *                      before it, the largest need of the stages before it of work holds +0, the rest of work is unchanged. Refused by
@@ -233,17 +260,18 @@ enum {
     HAZHENDU_MAX_DEGREE = 30,
     HAZHENDU_MAX_STAGES = 64,
     HAZHENDU_MAX_RECORDS = 100000,
-    HAZHENDU_MAX_WINDOW = 1024
+    HAZHENDU_MAX_WINDOW = 1024,
+    HAZHENDU_MAX_RUNS = 16
 };
 
 /* Why a job or a join is refused, and the double reported with it. The checks of a job run in number order, but for 33 directly after 14;
    those of a transposed call are 1 to 6, with a mass 7 to 10, without one 9 and 11, then 30, then 11 for a column (of the transposed
    matrix a row), then those of the job. A start has those of Krylov's whole call, then 26 for field, numbers or counts of another length.
    A step has 31 first, then those of Krylov's whole call with the tol in force, the run's m and limit, a second 16 behind the first and the
-   start's scaling in 22, then 26 for field. A soak in stages has 1 to 11, then 37, then those of each stage when it is reached. One
-   under a changing level has 1 to 11, 15, 16 for field, then load, 17 for field, then load, 38 to 40, then those of each record when it is
-   reached: 14, 17, 21, 22, 24 to 26. Those of a join are 1 to 6 and 11 of the barrel, then of the mount, 34, 35 and 36, then 3 and 6 of the
-   result. The first that holds is told. */
+   start's scaling in 22, then 26 for field. A join to a unit has those of a start, then 32; a turn has 31 where no run waits, else those of
+   a step. A soak in stages has 1 to 11, then 37, then those of each stage when it is reached. One under a changing level has 1 to 11, 15,
+   16 for field, then load, 17 for field, then load, 38 to 40, then those of each record when it is reached: 14, 17, 21, 22, 24 to 26. Those
+   of a join are 1 to 6 and 11 of the barrel, then of the mount, 34, 35 and 36, then 3 and 6 of the result. The first that holds is told. */
 enum hazhendu_refusal {
     HAZHENDU_ACCEPTED = 0,
 
@@ -287,7 +315,8 @@ enum hazhendu_refusal {
 
     /* the host */
     HAZHENDU_WORK_LENGTH = 26,         /* work is too short; a paused run: field is not
-                                          n + count - 1 long; a start: numbers not 10, counts 8 NaN */
+                                          n + count - 1 long; a start or a join: numbers not 10,
+                                          counts not 8; clearing: units not 160, queues not 144 NaN */
 
     /* Krylov's run */
     HAZHENDU_SUBSTEP_LIMIT = 27,       /* max_substeps made, and tau is not reached             estimated error so far, of the scaled start */
@@ -299,7 +328,12 @@ enum hazhendu_refusal {
 
     /* a step of a paused run: met before any other check */
     HAZHENDU_RUN_ENDED = 31,           /* the run has ended; or numbers or counts are not what
-                                          any call left, of another length say                  NaN */
+                                          any call left, of another length say; a turn: no run
+                                          waits, and nothing is changed                         NaN */
+
+    /* a join to a unit: met behind all checks of its job; nothing is changed */
+    HAZHENDU_UNIT_FULL = 32,           /* 16 unfinished runs are on the unit, and the new one
+                                          has not ended at its start                            NaN */
 
     /* the job: met between 14 and 15 */
     HAZHENDU_DEGREE_RANGE = 33,        /* Taylor: degree not 1 to 30                            NaN */
@@ -543,6 +577,59 @@ uint32_t hazhendu_krylov_step(
     double *numbers, size_t numbers_len,
     size_t *counts, size_t counts_len,
     double *value);
+
+/* ---- several paused runs on one unit, in rotation, one substep at a time */
+
+enum {
+    HAZHENDU_NO_PLACE = HAZHENDU_MAX_RUNS,
+    HAZHENDU_UNIT_NUMBERS_LEN = HAZHENDU_MAX_RUNS * HAZHENDU_RUN_NUMBERS_LEN,
+    HAZHENDU_UNIT_QUEUE = HAZHENDU_MAX_RUNS * HAZHENDU_RUN_COUNTS_LEN, /* where the queue begins in queues */
+    HAZHENDU_UNIT_COUNTS_LEN = HAZHENDU_UNIT_QUEUE + HAZHENDU_MAX_RUNS
+};
+
+/* The empty unit: 0, or 26 for slices of other lengths. */
+uint32_t hazhendu_rotation_clear(double *units, size_t units_len, size_t *queues, size_t queues_len);
+
+/* The place whose turn is next, HAZHENDU_NO_PLACE if no run waits. */
+size_t hazhendu_rotation_next(const size_t *queues, size_t queues_len);
+
+/* hazhendu_krylov_start, and a place for the run. */
+uint32_t hazhendu_rotation_join(
+    size_t n,
+    const uint32_t *starts, size_t starts_len,
+    const uint32_t *cols, size_t cols_len,
+    const double *vals, size_t vals_len,
+    bool with_mass, const double *mass, size_t mass_len,
+    double tau,
+    size_t count, const double *w, size_t w_len,
+    double tol, size_t m, size_t max_substeps,
+    double *out, size_t out_len,
+    double *work, size_t work_len,
+    double *field, size_t field_len,
+    double *units, size_t units_len,
+    size_t *queues, size_t queues_len,
+    double *numbers, size_t numbers_len,
+    size_t *counts, size_t counts_len,
+    size_t *place, double *value);
+
+/* hazhendu_krylov_step of the run in the place that hazhendu_rotation_next names. */
+uint32_t hazhendu_rotation_turn(
+    size_t n,
+    const uint32_t *starts, size_t starts_len,
+    const uint32_t *cols, size_t cols_len,
+    const double *vals, size_t vals_len,
+    bool with_mass, const double *mass, size_t mass_len,
+    double tau,
+    size_t count, const double *w, size_t w_len,
+    bool with_tol, double tol,
+    double *out, size_t out_len,
+    double *work, size_t work_len,
+    double *field, size_t field_len,
+    double *units, size_t units_len,
+    size_t *queues, size_t queues_len,
+    double *numbers, size_t numbers_len,
+    size_t *counts, size_t counts_len,
+    size_t *place, double *value);
 
 /* ---- a soak in stages: up to 64 combinations in a row. A schedule of one stage is hazhendu_combine. */
 uint32_t hazhendu_stages(
@@ -975,6 +1062,52 @@ static inline struct hazhendu_report hazhendu_run_report(const struct hazhendu_r
     report.shortest = run->numbers[HAZHENDU_RUN_SHORTEST];
     report.last = run->numbers[HAZHENDU_RUN_LAST];
     return report;
+}
+
+/* Up to 16 paused runs in rotation. The caller keeps a struct hazhendu_run and a field for each place, and a job to go with it. */
+struct hazhendu_unit {
+    double numbers[HAZHENDU_UNIT_NUMBERS_LEN];
+    size_t counts[HAZHENDU_UNIT_COUNTS_LEN];
+};
+
+static inline void hazhendu_unit_clear(struct hazhendu_unit *unit)
+{
+    hazhendu_rotation_clear(unit->numbers, HAZHENDU_UNIT_NUMBERS_LEN, unit->counts, HAZHENDU_UNIT_COUNTS_LEN);
+}
+
+/* The place whose turn is next, HAZHENDU_NO_PLACE if no run waits. */
+static inline size_t hazhendu_unit_next(const struct hazhendu_unit *unit)
+{
+    return hazhendu_rotation_next(unit->counts, HAZHENDU_UNIT_COUNTS_LEN);
+}
+
+/* As hazhendu_run_start; place is the place taken, HAZHENDU_NO_PLACE if the run is refused or has ended at its start. */
+static inline uint32_t hazhendu_unit_join(struct hazhendu_unit *unit, struct hazhendu_run *run, const struct hazhendu_matrix *a, double tau,
+    size_t count, const double *w, const struct hazhendu_options *o, double *out, double *work, size_t work_len, double *field, size_t *place,
+    double *value)
+{
+    uint32_t saved = hazhendu_enter();
+    uint32_t number = hazhendu_rotation_join(HAZHENDU_MATRIX(a), tau, count, w, count * a->n, o->tol, o->m, o->max_substeps, out, a->n, work,
+        work_len, field, hazhendu_field(a->n, count), unit->numbers, HAZHENDU_UNIT_NUMBERS_LEN, unit->counts, HAZHENDU_UNIT_COUNTS_LEN, run->numbers,
+        HAZHENDU_RUN_NUMBERS_LEN, run->counts, HAZHENDU_RUN_COUNTS_LEN, place, value);
+    hazhendu_leave(saved);
+    if (number == HAZHENDU_ACCEPTED)
+        run->refused = HAZHENDU_ACCEPTED;
+    return number;
+}
+
+/* As hazhendu_run_step, of the run whose turn is next: run, job, field and out are those of the place that hazhendu_unit_next names. */
+static inline uint32_t hazhendu_unit_turn(struct hazhendu_unit *unit, struct hazhendu_run *run, const struct hazhendu_matrix *a, double tau,
+    size_t count, const double *w, const double *tol, double *out, double *work, size_t work_len, double *field, size_t *place, double *value)
+{
+    uint32_t saved = hazhendu_enter();
+    uint32_t number = hazhendu_rotation_turn(HAZHENDU_MATRIX(a), tau, count, w, count * a->n, tol != NULL, tol ? *tol : 0, out, a->n, work, work_len,
+        field, hazhendu_field(run->counts[HAZHENDU_RUN_N], run->counts[HAZHENDU_RUN_COUNT]), unit->numbers, HAZHENDU_UNIT_NUMBERS_LEN, unit->counts,
+        HAZHENDU_UNIT_COUNTS_LEN, run->numbers, HAZHENDU_RUN_NUMBERS_LEN, run->counts, HAZHENDU_RUN_COUNTS_LEN, place, value);
+    hazhendu_leave(saved);
+    if (number == HAZHENDU_SUBSTEP_LIMIT || number == HAZHENDU_LENGTHS_REJECTED || number == HAZHENDU_NO_INNER_PLAN)
+        run->refused = number;
+    return number;
 }
 
 /* phi_k(tau G) v, by Taylor; work as hazhendu_action_work says. */

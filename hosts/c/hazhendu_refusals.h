@@ -69,7 +69,9 @@ static inline const char *hazhendu_refusal_text(uint32_t number)
     case 30:
         return "a buffer for the transposed matrix is too short";
     case 31:
-        return "the paused run has ended";
+        return "the paused run has ended, or no run waits on the unit";
+    case 32:
+        return "the unit has sixteen unfinished runs";
     case 33:
         return "the highest degree is not from 1 to 30";
     case 34:
@@ -157,6 +159,8 @@ static inline const char *hazhendu_refusal_value(uint32_t number)
         return "";
     case 31:
         return "";
+    case 32:
+        return "";
     case 33:
         return "";
     case 34:
@@ -243,7 +247,9 @@ static inline const char *hazhendu_refusal_change(uint32_t number)
     case 30:
         return "lend n + 1 row starts, and a column and an entry for each entry of the matrix";
     case 31:
-        return "take the field that it left, or start another run";
+        return "take the field that the run left, or start another one";
+    case 32:
+        return "let one of them end, or take a second unit";
     case 33:
         return "take 30, or a lower one if high degrees lose digits: 25 costs about 1.2 times the products of 30, 20 about 1.6 times";
     case 34:

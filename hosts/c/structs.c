@@ -80,6 +80,53 @@ static void runs(void)
     expect(hazhendu_run_estimate(&run) == value / run.numbers[HAZHENDU_RUN_NORM], "its estimate");
 }
 
+/* Two runs in rotation, as each alone; sixteen places and no more; an early refusal passes on; a unit where no run waits. */
+static void rotated(void)
+{
+    struct hazhendu_options options = hazhendu_by_krylov();
+    struct hazhendu_report report[2];
+    struct hazhendu_unit unit, full;
+    struct hazhendu_run runs[2], other;
+    static const double taus[2] = {60, 20}, zeros[N] = {0};
+    double alone[2][N], outs[2][N], fields[2][N + COUNT - 1], field[N + COUNT - 1], value;
+    size_t place, expected = 0, turns = 0;
+    const double wrong = 1;
+    options.m = 3;
+    options.tol = 1e-6;
+    hazhendu_unit_clear(&unit);
+    expect(hazhendu_unit_next(&unit) == HAZHENDU_NO_PLACE, "an empty unit");
+    for (size_t i = 0; i < 2; i++) {
+        expect(hazhendu_soak(&a, taus[i], COUNT, w, &options, alone[i], work, WORK, &report[i]) == 0 && report[i].substeps > 5, "a soak alone");
+        expect(hazhendu_unit_join(&unit, &runs[i], &a, taus[i], COUNT, w, &options, outs[i], work, WORK, fields[i], &place, &value) == 0, "a join");
+        expect(place == i && hazhendu_run_time(&runs[i]) == 0 && !hazhendu_run_ended(&runs[i]), "its place and state");
+    }
+    expect(hazhendu_unit_join(&unit, &other, &a, 60, 1, zeros, &options, again, work, WORK, field, &place, &value) == 0, "a start of zeros");
+    expect(place == HAZHENDU_NO_PLACE && hazhendu_run_ended(&other), "it takes no place");
+    expect(hazhendu_unit_turn(&unit, &runs[0], &a, 60, COUNT, w, &wrong, outs[0], work, WORK, fields[0], &place, &value) == HAZHENDU_TOL_RANGE, "18");
+    expect(place == 0 && value == 1 && hazhendu_unit_next(&unit) == 1 && hazhendu_run_report(&runs[0]).substeps == 0, "it passes on");
+
+    full = unit;
+    for (size_t i = 2; i < HAZHENDU_MAX_RUNS; i++)
+        expect(hazhendu_unit_join(&full, &other, &a, 1, COUNT, w, &options, again, work, WORK, field, &place, &value) == 0 && place == i, "a place");
+    expect(hazhendu_unit_join(&full, &other, &a, 1, COUNT, w, &options, again, work, WORK, field, &place, &value) == HAZHENDU_UNIT_FULL, "32");
+    expect(place == HAZHENDU_NO_PLACE && hazhendu_unit_next(&full) == 1, "what it tells");
+    expect(hazhendu_unit_join(&full, &other, &a, -1, COUNT, w, &options, again, work, WORK, field, &place, &value) == HAZHENDU_TAU_RANGE, "14 first");
+
+    for (size_t p; (p = hazhendu_unit_next(&unit)) != HAZHENDU_NO_PLACE; turns++) {
+        expected = turns == 0 || !hazhendu_run_ended(&runs[1 - expected]) ? 1 - expected : expected;
+        expect(p == expected, "turns take turns");
+        expect(hazhendu_unit_turn(&unit, &runs[p], &a, taus[p], COUNT, w, NULL, outs[p], work, WORK, fields[p], &place, &value) == 0, "a turn");
+        expect(place == p, "its place");
+    }
+    for (size_t i = 0; i < 2; i++) {
+        struct hazhendu_report told = hazhendu_run_report(&runs[i]);
+        expect(memcmp(outs[i], alone[i], sizeof alone[i]) == 0 && memcmp(&told, &report[i], sizeof told) == 0, "a run in rotation is the run alone");
+    }
+    expect(turns == report[0].substeps + report[1].substeps, "as many turns as substeps");
+    expect(hazhendu_unit_turn(&unit, &runs[0], &a, 60, COUNT, w, NULL, outs[0], work, WORK, fields[0], &place, &value) == HAZHENDU_RUN_ENDED, "31");
+    expect(place == HAZHENDU_NO_PLACE && hazhendu_rotation_clear(unit.numbers, 159, unit.counts, 144) == HAZHENDU_WORK_LENGTH, "26");
+}
+
 /* Three stages, one by Krylov, as three soaks in a row; and what a refused stage leaves. */
 static void staged(void)
 {
@@ -191,6 +238,7 @@ static void in_environment(uint32_t state, const char *what)
     expect(hazhendu_soak(&a, 60, COUNT, w, &options, again, work, WORK, &report) == 0 && memcmp(again, usual, sizeof usual) == 0, what);
     others();
     runs();
+    rotated();
     staged();
     logged();
     expect((_mm_getcsr() & ~(unsigned)HAZHENDU_EXCEPTION_FLAGS) == state, "the environment is put back");
@@ -201,6 +249,7 @@ int main(void)
 {
     soaks();
     runs();
+    rotated();
     staged();
     logged();
     others();

@@ -159,7 +159,7 @@ class PausedRuns(unittest.TestCase):
         np.testing.assert_array_equal(run.finish().field, whole.field)
         with self.assertRaises(hazhendu.Refused) as caught:
             run.step()
-        self.assertEqual((caught.exception.number, caught.exception.wrong), (31, "the paused run has ended"))
+        self.assertEqual((caught.exception.number, caught.exception.wrong), (31, "the paused run has ended, or no run waits on the unit"))
 
     def test_the_limit_and_zeros(self):
         run = hazhendu.Paused(*self.job, m=3, limit=4)
@@ -183,6 +183,89 @@ class PausedRuns(unittest.TestCase):
             run.step(vectors=off if run.time >= 0.5 else None)
         on, never = (hazhendu.soak(self.a, 30.0, [self.vectors[0], heat], self.mass, solver="krylov").field for heat in (np.ones(36), np.zeros(36)))
         self.assertTrue(never.sum() < run.moment.field.sum() < on.sum())
+
+
+class Units(unittest.TestCase):
+    def setUp(self):
+        a, mass = plate(6)
+        vectors = [np.cos(np.arange(36.0)), np.sin(np.arange(36.0))]
+        small, small_mass = plate(3)
+        self.jobs = {
+            "long": ((a, 30.0, vectors, mass), {"m": 6, "tol": 1e-8}),
+            "short": ((a, 3.0, vectors[:1], mass), {"m": 4, "tol": 1e-6}),
+            "small": ((small, 30.0, [np.ones(9)], small_mass), {"m": 3, "tol": 1e-8}),
+            "limited": ((a, 30.0, vectors, mass), {"m": 3, "limit": 4}),
+        }
+
+    def joined(self):
+        unit = hazhendu.Unit()
+        for i, (key, (job, options)) in enumerate(self.jobs.items()):
+            turned = unit.join(key, *job, **options)
+            self.assertEqual((turned.key, turned.place, turned.moment.time, turned.moment.ended), (key, i, 0.0, False))
+        return unit
+
+    def test_each_run_is_the_run_alone(self):
+        unit = self.joined()
+        runs = {key: hazhendu.Paused(*job, **options) for key, (job, options) in self.jobs.items()}
+        order, ended = [], []
+        for turned in unit:
+            order.append(turned.key)
+            try:
+                alone = runs[turned.key].step()
+                self.assertIsNone(turned.refused)
+            except hazhendu.Refused as refused:
+                alone = runs[turned.key].moment
+                self.assertEqual((turned.refused.number, turned.refused.value), (refused.number, refused.value))
+                np.testing.assert_array_equal(turned.refused.state, refused.state)
+            np.testing.assert_array_equal(turned.moment.field, alone.field)
+            self.assertEqual((turned.moment.report, turned.moment.time, turned.moment.ended), (alone.report, alone.time, alone.ended))
+            ended += [turned.key] * alone.ended
+        self.assertEqual((order[:8], sorted(ended), len(unit)), (2 * list(self.jobs), sorted(self.jobs), 0))
+        self.assertIsNone(unit.next)
+        with self.assertRaises(hazhendu.Refused) as caught:
+            unit.turn()
+        self.assertEqual(caught.exception.number, 31)
+
+    def test_early_refusals_pass_on(self):
+        unit = self.joined()
+        for words, number in (({"tau": -1.0}, 14), ({"tol": 1.0}, 18), ({"vectors": []}, 12)):
+            key = unit.next
+            with self.assertRaises(hazhendu.Refused) as caught:
+                unit.turn(**words)
+            self.assertEqual(caught.exception.number, number)
+            self.assertNotEqual(unit.next, key)
+        last = {turned.key: turned for turned in unit}
+        for key in ("long", "short", "small"):
+            job, options = self.jobs[key]
+            np.testing.assert_array_equal(last[key].moment.field, hazhendu.Paused(*job, **options).finish().field)
+
+    def test_sixteen_and_zeros(self):
+        unit = hazhendu.Unit()
+        job, options = self.jobs["long"]
+        self.assertEqual([unit.join(i, *job, **options).place for i in range(16)], list(range(16)))
+        with self.assertRaises(hazhendu.Refused) as caught:
+            unit.join(16, *job, **options)
+        self.assertEqual((caught.exception.number, caught.exception.wrong), (32, "the unit has sixteen unfinished runs"))
+        zeros = unit.join("zeros", job[0], 1.0, [np.zeros(36)])
+        self.assertEqual((zeros.place, zeros.moment.ended, len(unit), unit.next), (16, True, 16, 0))
+        with self.assertRaises(hazhendu.Refused) as caught:
+            unit.join(16, job[0], -1.0, job[2])
+        self.assertEqual(caught.exception.number, 14)
+
+    def test_tightened(self):
+        unit = self.joined()
+        job, options = self.jobs["long"]
+        run = hazhendu.Paused(*job, **options)
+        while len(unit):
+            tol = 1e-11 if unit.next == "long" and run.time >= 0.5 else None
+            turned = unit.turn(tol=tol)
+            if turned.key == "long":
+                if tol:
+                    run.tighten(tol)
+                alone = run.step()
+                np.testing.assert_array_equal(turned.moment.field, alone.field)
+                self.assertEqual((turned.moment.tol, turned.moment.report), (alone.tol, alone.report))
+        self.assertEqual(alone.tol, 1e-11)
 
 
 class Stages(unittest.TestCase):

@@ -71,19 +71,11 @@ lent-back to ys field h k =
 
 -- ---- a start
 module _ (o : KrylovPhiOptions) (j : Job) (out w₀ field numbers : List Float) (counts : List ℕ) where
-  pub told-fits : {c : PausedCall StartAnswer} → fits numbers counts ≡ true → c ≡ start o j out w₀ field
-      → told (start-state (c .answer) numbers counts) (c .output) (c .memory) (c .field) ≡ start-told o j out w₀ field numbers counts
-  unfolding start-told start state-checks
-  told-fits {c} e h =
-      let same = first-append (start-checks o j (length out) (length w₀) (length field)) (refuse 26 (not (fits numbers counts)) nan ∷ []) ∙ passed-last _ (fits numbers counts) e in
-      ap (λ (x : PausedCall StartAnswer). told (start-state (x .answer) numbers counts) (x .output) (x .memory) (x .field)) h ∙ rw same refl
-
-  -- where the state does not fit, a start on no field is refused as one on the whole field is
-  refused-both : (r : Checked) → (Sound ≡ r → ⊥) → {c : PausedCall StartAnswer} → c ≡ start-unless r o j out w₀ []
-      → told (start-state (c .answer) numbers counts) (c .output) (c .memory) field ≡ told (start-state (start-unless r o j out w₀ field .answer) numbers counts) (start-unless r o j out w₀ field .output) (start-unless r o j out w₀ field .memory) (start-unless r o j out w₀ field .field)
-  unfolding start-unless
-  refused-both (Refused k x) n h = ap (λ (x : PausedCall StartAnswer). told (start-state (x .answer) numbers counts) (x .output) (x .memory) field) h
-  refused-both Sound n h = absurd (n refl)
+  -- all checks, where the state fits, and where it does not: a start on no field is refused by the same one
+  pub checks-fit : fits numbers counts ≡ true
+      → first (start-checks o j (length out) (length w₀) (length field) ++ state-checks numbers counts) ≡ first (start-checks o j (length out) (length w₀) (length field))
+  unfolding state-checks
+  checks-fit e = first-append (start-checks o j (length out) (length w₀) (length field)) (refuse 26 (not (fits numbers counts)) nan ∷ []) ∙ passed-last _ (fits numbers counts) e
 
   never : (r : Checked) → Sound ≡ and-then r (first (refuse 26 true nan ∷ [])) → ⊥
   unfolding and-then first
@@ -96,14 +88,41 @@ module _ (o : KrylovPhiOptions) (j : Job) (out w₀ field numbers : List Float) 
       let z : zero ≡ 1 = cc in
       absurd (omega (arith, z))
 
+  pub record RefusedBoth : Type 0 where
+    pub by : Checked
+    pub without : first (start-checks o j (length out) (length w₀) 0) ≡ by
+    pub with-all : first (start-checks o j (length out) (length w₀) (length field) ++ state-checks numbers counts) ≡ by
+    pub refused : Sound ≡ by → ⊥
+
+  pub checks-not : fits numbers counts ≡ false → (Sound ≡ first (krylov-checks (j .g) (j .tau) (j .count) (j .w) o (length out) (length w₀)) → 0 < rows j) → RefusedBoth
+  unfolding state-checks start-checks field-checks
+  checks-not e h =
+      let K = krylov-checks (j .g) (j .tau) (j .count) (j .w) o (length out) (length w₀) in
+      record {
+        by = and-then (first K) (first (refuse 26 true nan ∷ []));
+        without = first-append K _ ∙ held-last (first K) _ (λ s. ap not (ne-eqb 0 (rows j + degree j) (λ z. absurd (omega (arith, z, h s)))));
+        with-all = ap first (append-assoc K _ _) ∙ first-append K _ ∙ twice (first K) _ (fits numbers counts) e;
+        refused = never (first K);
+      }
+
+  pub told-fits : {c : PausedCall StartAnswer} → fits numbers counts ≡ true → c ≡ start o j out w₀ field
+      → told (start-state (c .answer) numbers counts) (c .output) (c .memory) (c .field) ≡ start-told o j out w₀ field numbers counts
+  unfolding start-told start
+  told-fits {c} e h = ap (λ (x : PausedCall StartAnswer). told (start-state (x .answer) numbers counts) (x .output) (x .memory) (x .field)) h ∙ rw (checks-fit e) refl
+
+  -- where the state does not fit, a start on no field is refused as one on the whole field is
+  refused-both : (r : Checked) → (Sound ≡ r → ⊥) → {c : PausedCall StartAnswer} → c ≡ start-unless r o j out w₀ []
+      → told (start-state (c .answer) numbers counts) (c .output) (c .memory) field ≡ told (start-state (start-unless r o j out w₀ field .answer) numbers counts) (start-unless r o j out w₀ field .output) (start-unless r o j out w₀ field .memory) (start-unless r o j out w₀ field .field)
+  unfolding start-unless
+  refused-both (Refused k x) n h = ap (λ (x : PausedCall StartAnswer). told (start-state (x .answer) numbers counts) (x .output) (x .memory) field) h
+  refused-both Sound n h = absurd (n refl)
+
   pub told-not : {c : PausedCall StartAnswer} → fits numbers counts ≡ false → (Sound ≡ first (krylov-checks (j .g) (j .tau) (j .count) (j .w) o (length out) (length w₀)) → 0 < rows j) → c ≡ start o j out w₀ []
       → told (start-state (c .answer) numbers counts) (c .output) (c .memory) field ≡ start-told o j out w₀ field numbers counts
-  unfolding start-told start state-checks start-checks field-checks
+  unfolding start-told start
   told-not {c} e h r =
-      let K = krylov-checks (j .g) (j .tau) (j .count) (j .w) o (length out) (length w₀) in
-      let without : first (K ++ (refuse 26 (not (eqb 0 (rows j + degree j))) nan ∷ [])) ≡ and-then (first K) (first (refuse 26 true nan ∷ [])) = first-append K _ ∙ held-last (first K) _ (λ s. ap not (ne-eqb 0 (rows j + degree j) (λ z. absurd (omega (arith, z, h s))))) in
-      let with-all : first ((K ++ (refuse 26 (not (eqb (length field) (rows j + degree j))) nan ∷ [])) ++ (refuse 26 (not (fits numbers counts)) nan ∷ [])) ≡ and-then (first K) (first (refuse 26 true nan ∷ [])) = ap first (append-assoc K _ _) ∙ first-append K _ ∙ twice (first K) _ (fits numbers counts) e in
-      rw with-all (refused-both _ (never (first K)) (r ∙ rw without refl))
+      let b = checks-not e h in
+      rw (b .with-all) (refused-both _ (b .refused) (r ∙ rw (b .without) refl))
 
   -- the field from 0 on as far as it is lent
   pub start-is : {to : ℕ} {answer : StartAnswer} {st : State} {out₁ w₁ ys field₁ : List Float} → to ≡ (if fits numbers counts then length field else zero) → length ys ≡ length (take (to - 0) (drop 0 field))

@@ -81,7 +81,7 @@ fn no_run() -> PausedRun
     }
 }
 
-fn read_run(numbers: &[f64], counts: &[usize]) -> PausedRun
+pub fn read_run(numbers: &[f64], counts: &[usize]) -> PausedRun
     ensures { λ r. ⌜ r ≡ run-of (now (numbers .entry)) (now (counts .entry)) ⌝ }
 {
     if fits(numbers, counts) {
@@ -130,7 +130,7 @@ fn write_counts(run: PausedRun, counts: &mut [usize])
 }
 
 // The run's state, to slices that fit it.
-fn write_run(run: PausedRun, numbers: &mut [f64], counts: &mut [usize])
+pub fn write_run(run: PausedRun, numbers: &mut [f64], counts: &mut [usize])
     ensures { λ _. ⌜ ((k : ℕ) (x : Float) → state k x (now (numbers .exit)) (now (counts .exit)) ≡ written k x run (now (numbers .entry)) (now (counts .entry))) ⌝ }
 {
     if fits(numbers, counts) {
@@ -140,7 +140,7 @@ fn write_run(run: PausedRun, numbers: &mut [f64], counts: &mut [usize])
 }
 
 // The result is 0 or the refusal's number; `value` is the estimate or the refusal's double.
-fn tell_start(
+pub fn tell_start(
     answer: StartAnswer,
     numbers: &mut [f64],
     counts: &mut [usize],
@@ -169,7 +169,12 @@ fn ran(k: u32) -> bool
 }
 
 // The same of a step; a refusal before the substep writes no state.
-fn tell_step(answer: StepAnswer, numbers: &mut [f64], counts: &mut [usize], value: &mut f64) -> u32
+pub fn tell_step(
+    answer: StepAnswer,
+    numbers: &mut [f64],
+    counts: &mut [usize],
+    value: &mut f64,
+) -> u32
     ensures { λ r. ⌜ state r (now (value .exit)) (now (numbers .exit)) (now (counts .exit)) ≡ step-state answer (now (numbers .entry)) (now (counts .entry)) ⌝ }
 {
     match answer {
@@ -189,7 +194,7 @@ fn tell_step(answer: StepAnswer, numbers: &mut [f64], counts: &mut [usize], valu
 }
 
 // How much of the field is lent: nothing where the state has no place, so that 26 refuses.
-fn field_end(numbers: &[f64], counts: &[usize], field: usize) -> usize
+pub fn field_end(numbers: &[f64], counts: &[usize], field: usize) -> usize
     ensures { λ r. ⌜ r ≡ (if fits (now (numbers .entry)) (now (counts .entry)) then field else zero) ⌝ }
 {
     if fits(numbers, counts) {
@@ -242,7 +247,7 @@ pub extern "C" fn hazhendu_krylov_start(
     tell_start(answer, numbers, counts, value)
 }
 
-fn tolerance(with_tol: bool, tol: f64) -> Tolerance
+pub fn tolerance(with_tol: bool, tol: f64) -> Tolerance
     ensures { λ r. ⌜ r ≡ tolerance «with_tol» tol ⌝ }
 {
     if with_tol {

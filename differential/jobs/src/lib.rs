@@ -24,6 +24,7 @@
 
 pub mod ambient;
 pub mod paused;
+pub mod rotation;
 pub mod stages;
 
 use std::num::ParseIntError;

@@ -1,10 +1,11 @@
-//! The proved library (crates/exports, exports_transposed, exports_paused, exports_stages, exports_ambient, and on bytes
-//! exports_bytes, exports_transposed_bytes, exports_paused_bytes): its exported functions, and a job put to them.
+//! The proved library (crates/exports, exports_transposed, exports_paused, exports_rotation, exports_stages, exports_ambient, and on
+//! bytes exports_bytes, exports_transposed_bytes, exports_paused_bytes): its exported functions, and a job put to them.
 
 pub mod ambient;
 #[cfg(feature = "bytes")]
 mod bytes;
 pub mod paused;
+pub mod rotation;
 mod slices;
 pub mod stages;
 mod transposed;

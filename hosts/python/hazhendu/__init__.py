@@ -7,8 +7,8 @@ For C dT/dt = -A T + q with T = T0 at time 0, A in W/K, C in J/K and q in W, T a
 in general the sum over k of tau^k phi_k(tau G) w_k, where G = -A, or -A with each row divided by its mass. Every call is proved equal, bit
 for bit, to a definition; a job that the library does not take raises Refused, with the refusal's number, its double and what to change.
 
-Paused is a Krylov soak by substeps, a generator of the moments between them; stages runs a schedule of soaks over one matrix, ambient a
-logger's records of an ambient level.
+Paused is a Krylov soak by substeps, a generator of the moments between them, Unit serves up to 16 of these in rotation; stages runs a
+schedule of soaks over one matrix, ambient a logger's records of an ambient level.
 
 A call holds no lock and runs to its end: other threads go on, and Ctrl-C is heard after it. The thread's floating-point environment is set
 for the call and put back.
@@ -32,6 +32,7 @@ from ._calls import (
 from ._heating import HeatingWarning, NotFiniteWarning, heating_rows
 from ._library import Refused
 from ._paused import Moment, Paused
+from ._rotation import Turned, Unit
 from ._stages import Stage, Staged, stages
 
 __all__ = [
@@ -47,6 +48,8 @@ __all__ = [
     "Soaked",
     "Stage",
     "Staged",
+    "Turned",
+    "Unit",
     "ambient",
     "check",
     "heating_rows",

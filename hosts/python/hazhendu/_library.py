@@ -80,3 +80,10 @@ def call(name, *arguments):
     function.restype = ctypes.c_uint32
     with _usual_environment():
         return function(*arguments)
+
+
+def next_place(queues):
+    """The place whose turn is next on a unit, 16 if no run waits."""
+    function = _library.hazhendu_rotation_next
+    function.restype = ctypes.c_size_t
+    return function(*queues.arguments)

@@ -30,6 +30,16 @@ class Moment:
     ended: bool
 
 
+def moment_of(numbers, counts, out, refused):
+    """The moment of a run in two lists and an output; refused is what ended it by 27 to 29, or None."""
+    ended = bool(counts[ENDED])
+    made = [int(counts[place]) for place in (SUBSTEPS, MATVECS, REJECTED)]
+    estimate, shortest, last = (float(numbers[place]) for place in (ESTIMATE, SHORTEST, LAST))
+    if not ended or refused:
+        estimate /= float(numbers[NORM])
+    return Moment(float(numbers[TIME]), out.copy(), Report(*made, estimate, shortest, last), float(numbers[TOL]), ended)
+
+
 class Paused:
     """A Krylov soak by substeps. Making one makes every check of the job, and no substep:
 
@@ -45,7 +55,7 @@ class Paused:
 
     def __init__(self, a, tau, vectors, mass=None, *, tol=1e-10, m=40, limit=100_000):
         self._m, limit = memory.whole(m, "m"), memory.whole(limit, "the limit")
-        self._job = _Job(a, tau, vectors, mass)
+        self._job = Job(a, tau, vectors, mass)
         self._numbers, self._counts = np.zeros(NUMBERS), np.zeros(COUNTS, np.uintp)
         self._field, self._out = np.zeros(memory.field(self._job.matrix.n, self._job.count)), np.zeros(self._job.matrix.n)
         self._work = np.zeros(0)
@@ -84,12 +94,7 @@ class Paused:
 
     @property
     def moment(self):
-        counts = [int(self._counts[place]) for place in (SUBSTEPS, MATVECS, REJECTED)]
-        estimate, shortest, last = (float(self._numbers[place]) for place in (ESTIMATE, SHORTEST, LAST))
-        if not self.ended or self._refused:
-            estimate /= float(self._numbers[NORM])
-        report = Report(*counts, estimate, shortest, last)
-        return Moment(self.time, self._out.copy(), report, float(self._numbers[TOL]), self.ended)
+        return moment_of(self._numbers, self._counts, self._out, self._refused)
 
     @property
     def time(self):
@@ -116,7 +121,9 @@ class Paused:
             raise refused
 
 
-class _Job:
+class Job:
+    """Matrix, mass, tau and vectors, as they come again at each substep."""
+
     def __init__(self, a, tau, vectors, mass):
         warn_of_heating(a)
         self.a, self.tau, self.vectors, self.mass = a, tau, vectors, mass
@@ -128,7 +135,7 @@ class _Job:
             return self
         if a is None:
             a, mass = self.a, self.mass if mass is None else mass
-        return _Job(a, self.tau if tau is None else tau, self.vectors if vectors is None else vectors, mass)
+        return Job(a, self.tau if tau is None else tau, self.vectors if vectors is None else vectors, mass)
 
     def arguments(self):
         return (*self.matrix.arguments(), ctypes.c_double(self.tau), size(self.count), *self.w.arguments)

@@ -1,14 +1,16 @@
 //! The calls on memory that the caller lends: nothing is allocated.
 //!
-//! A refusal from 1 to 26, by 30 or by 33 leaves `out` and `work` unchanged. After 27 to 29 `out` holds the state after the last accepted
+//! A refusal from 1 to 26 or by 30 to 33 leaves `out` and `work` unchanged. After 27 to 29 `out` holds the state after the last accepted
 //! substep. After an accepted job, and after 27 to 29, the needed length of `work` holds +0. [`crate::sizes`] says how long
 //! `work` has to be. A refused join changes nothing. [`transposed`] says what the buffers for a transposed matrix hold, [`paused`] what
-//! becomes of a run in steps, [`stages`] what a soak in stages leaves, [`ambient`] what a soak under a changing level does.
+//! becomes of a run in steps, [`rotation`] what of several on one unit, [`stages`] what a soak in stages leaves, [`ambient`] what a soak
+//! under a changing level does.
 
 use crate::{environment, sys, Cost, KrylovOptions, Largest, Matrix, Plan, Refusal, Report, Solver, TaylorOptions};
 
 pub mod ambient;
 pub mod paused;
+pub mod rotation;
 pub mod stages;
 pub mod transposed;
 

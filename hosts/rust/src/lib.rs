@@ -19,8 +19,8 @@
 //! Every input gets a result or a numbered [`Refusal`]; whether a matrix or a job is valid is the library's to say, and
 //! nothing here panics. The functions here allocate output and working memory; those of [`lent`] work on memory that the
 //! caller lends. A call runs to its end, and its thread hears of nothing in between; the process can be stopped at any time. [`Paused`] is a
-//! Krylov run that is looked at between its substeps, [`stages`](stages()) a schedule of soaks over one matrix,
-//! [`ambient`](ambient()) a soak under a level that a logger gives. [`matrix_market`] and [`vectors`] read and write files.
+//! Krylov run that is looked at between its substeps, [`Unit`] serves up to sixteen of these in rotation, [`stages`](stages()) is a schedule
+//! of soaks over one matrix, [`ambient`](ambient()) a soak under a level that a logger gives. [`matrix_market`] and [`vectors`] read and write files.
 
 #![deny(unsafe_op_in_unsafe_fn)]
 
@@ -31,6 +31,7 @@ mod lines;
 pub mod matrix_market;
 mod paused;
 mod refusal;
+mod rotation;
 pub mod sizes;
 mod stages;
 pub mod sys;
@@ -42,6 +43,7 @@ pub use ambient::{ambient, AmbientError, Log, Logged};
 pub use lines::ReadError;
 pub use paused::Paused;
 pub use refusal::{Error, Refusal};
+pub use rotation::{Barrel, Joined, Turned, Unit};
 pub use stages::{stages, Stage, StageError, Staged, StagedReport};
 pub use triplets::Triplets;
 

@@ -23,7 +23,7 @@ const fn meaning(number: u32, wrong: &'static str, value: &'static str, change: 
 }
 
 /// In the order of their numbers; 23 is not used.
-const MEANINGS: [Meaning; 38] = [
+const MEANINGS: [Meaning; 39] = [
     meaning(
         1,
         "the matrix has no rows, or there are not n + 1 row starts",
@@ -133,7 +133,18 @@ const MEANINGS: [Meaning; 38] = [
         "",
         "lend n + 1 row starts, and a column and an entry for each entry of the matrix",
     ),
-    meaning(31, "the paused run has ended", "", "take the field that it left, or start another run"),
+    meaning(
+        31,
+        "the paused run has ended, or no run waits on the unit",
+        "",
+        "take the field that the run left, or start another one",
+    ),
+    meaning(
+        32,
+        "the unit has sixteen unfinished runs",
+        "",
+        "let one of them end, or take a second unit",
+    ),
     meaning(
         33,
         "the highest degree is not from 1 to 30",

@@ -17,6 +17,8 @@ pub const MAX_DEGREE: u32 = 30;
 pub const MAX_STAGES: usize = 64;
 pub const MAX_RECORDS: usize = 100_000;
 pub const MAX_WINDOW: usize = 1024;
+/// Unfinished runs on a unit.
+pub const MAX_RUNS: usize = 16;
 
 fn allowed(n: usize, entries: usize, count: usize) -> bool {
     n <= MAX_ROWS && entries <= MAX_ENTRIES && (1..=MAX_VECTORS).contains(&count)

@@ -46,6 +46,20 @@ exported!(hazhendu_krylov_step, tau: f64, count: usize, w: *const f64, w_len: us
     out_len: usize, work: *mut f64, work_len: usize, field: *mut f64, field_len: usize, numbers: *mut f64, numbers_len: usize,
     counts: *mut usize, counts_len: usize, value: *mut f64);
 
+extern "C" {
+    pub fn hazhendu_rotation_clear(units: *mut f64, units_len: usize, queues: *mut usize, queues_len: usize) -> u32;
+    /// 16 if no run waits.
+    pub fn hazhendu_rotation_next(queues: *const usize, queues_len: usize) -> usize;
+}
+exported!(hazhendu_rotation_join, tau: f64, count: usize, w: *const f64, w_len: usize, tol: f64, m: usize, max_substeps: usize,
+    out: *mut f64, out_len: usize, work: *mut f64, work_len: usize, field: *mut f64, field_len: usize, units: *mut f64, units_len: usize,
+    queues: *mut usize, queues_len: usize, numbers: *mut f64, numbers_len: usize, counts: *mut usize, counts_len: usize, place: *mut usize,
+    value: *mut f64);
+exported!(hazhendu_rotation_turn, tau: f64, count: usize, w: *const f64, w_len: usize, with_tol: bool, tol: f64, out: *mut f64,
+    out_len: usize, work: *mut f64, work_len: usize, field: *mut f64, field_len: usize, units: *mut f64, units_len: usize,
+    queues: *mut usize, queues_len: usize, numbers: *mut f64, numbers_len: usize, counts: *mut usize, counts_len: usize, place: *mut usize,
+    value: *mut f64);
+
 exported!(hazhendu_stages, taus: *const f64, taus_len: usize, counts: *const usize, counts_len: usize, solvers: *const u32, solvers_len: usize,
     degrees: *const u32, degrees_len: usize, tols: *const f64, tols_len: usize, ms: *const usize, ms_len: usize, limits: *const usize,
     limits_len: usize, start: *const f64, start_len: usize, further: *const f64, further_len: usize, out: *mut f64, out_len: usize,

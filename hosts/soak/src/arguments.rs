@@ -8,6 +8,7 @@ use crate::join::Pair;
 use crate::log;
 use crate::model::Files;
 use crate::report;
+use crate::rotate;
 use crate::sink::is_standard_output;
 use crate::stages;
 use crate::steps::Tightening;
@@ -27,6 +28,7 @@ pub enum Command {
     Join(Pair),
     Stages(Box<stages::Request>),
     Log(Box<log::Request>),
+    Rotate(rotate::Request),
     Soak(Box<Request>),
 }
 
@@ -134,6 +136,7 @@ pub fn parse(words: impl Iterator<Item = OsString>) -> Result<Command, Failure> 
     let join = !check && words.next_if(|word| word == "join").is_some();
     let stages = !check && !join && words.next_if(|word| word == "stages").is_some();
     let log = !check && !join && !stages && words.next_if(|word| word == "log").is_some();
+    let rotate = !check && !join && !stages && !log && words.next_if(|word| word == "rotate").is_some();
     let mut given = Given::default();
     while let Some(word) = words.next() {
         let text = word.to_str().unwrap_or_default();
@@ -167,6 +170,9 @@ pub fn parse(words: impl Iterator<Item = OsString>) -> Result<Command, Failure> 
     }
     if log {
         return given.log().map(Box::new).map(Command::Log);
+    }
+    if rotate {
+        return given.rotate().map(Command::Rotate);
     }
     given.request().map(Box::new).map(Command::Soak)
 }
@@ -320,6 +326,18 @@ impl Given {
         }
         request.guarded().check()?;
         Ok(request)
+    }
+
+    fn rotate(mut self) -> Result<rotate::Request, Failure> {
+        let output = self.output.take();
+        match (self.matrices.pop(), output) {
+            (Some(barrels), Some(output)) if self == Given::default() && !is_standard_output(&output) => {
+                Ok(rotate::Request { barrels, output })
+            }
+            (Some(_), Some(_)) => Err(Failure::Usage("rotate takes one table of barrels and --output alone, a folder".into())),
+            (None, _) => Err(Failure::Usage("rotate wants a table of barrels, BARRELS.csv".into())),
+            (_, None) => Err(Failure::Usage("--output is missing, the folder of the fields".into())),
+        }
     }
 
     fn request(mut self) -> Result<Request, Failure> {

@@ -48,6 +48,12 @@ pub enum Failure {
     NotANumber(String),
     /// The field, which is written, holds numbers that are not finite.
     NotFinite(String),
+    /// Of several barrels not all have a finite field at tau; what there is is written, and each is told.
+    Barrels {
+        /// That of the first of them.
+        status: u8,
+        told: String,
+    },
     /// Ctrl-C between two substeps; the field so far is written.
     Stopped(Stopped),
 }
@@ -67,6 +73,7 @@ impl Failure {
             Failure::CannotWrite { .. } => 74,
             Failure::NotFinite(_) => 80,
             Failure::Stopped(_) => 81,
+            Failure::Barrels { status, .. } => *status,
             Failure::NotANumber(_) => 82,
             Failure::Refused { refusal, .. } | Failure::RefusedStage { refusal, .. } | Failure::RefusedRecord { refusal, .. } => {
                 u8::try_from(refusal.number).unwrap_or(70)
@@ -84,7 +91,7 @@ impl fmt::Display for Failure {
     fn fmt(&self, f: &mut fmt::Formatter) -> fmt::Result {
         match self {
             Failure::Usage(wrong) => write!(f, "soak: {wrong}\nsoak --help tells how it is used"),
-            Failure::NotFinite(told) | Failure::NotANumber(told) => write!(f, "{told}"),
+            Failure::NotFinite(told) | Failure::NotANumber(told) | Failure::Barrels { told, .. } => write!(f, "{told}"),
             Failure::Stopped(stopped) => stopped.fmt(f),
             Failure::BadFile { place, wrong } => write!(f, "{place}: {wrong}"),
             Failure::CannotRead { name, error } => write!(f, "soak: cannot read {name}: {error}"),

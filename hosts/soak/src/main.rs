@@ -18,12 +18,14 @@ mod points;
 mod progress;
 mod records;
 mod report;
+mod rotate;
 mod schedule;
 mod sink;
 mod soak;
 mod stages;
 mod steps;
 mod summary;
+mod table;
 mod warnings;
 
 use arguments::Command;
@@ -57,6 +59,7 @@ fn run() -> Result<(), Failure> {
         Command::Join(pair) => join(&pair),
         Command::Stages(request) => stages::run(&request),
         Command::Log(request) => log::run(&request),
+        Command::Rotate(request) => rotate::run(&request),
         Command::Soak(request) => soak::run(&request),
     }
 }

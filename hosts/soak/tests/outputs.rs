@@ -400,3 +400,35 @@ fn a_name_that_is_no_text_is_a_name() {
     let output = Command::new(env!("CARGO_BIN_EXE_soak")).arg(name).args(["--tau", "1"]).output().unwrap();
     assert_eq!(output.status.code(), Some(66));
 }
+
+#[test]
+fn each_barrel_of_a_rotation_has_the_bits_of_its_soak_alone() {
+    let fields = folder("rotation").join("new");
+    let output = run(&format!("rotate barrels.csv --output {}", fields.display()));
+    assert!(output.status.success());
+    let alone = [
+        ("rod", "rod.mtx --mass mass.txt --vector start.txt --vector heating.txt --tau 600 --tol 1e-8 --m 4"),
+        ("short", "rod.mtx --mass mass.txt --vector start.txt --tau 60 --tol 1e-6 --m 3"),
+        ("halves", "rod-halves.mtx --vector start.txt --tau 1"),
+    ];
+    for (name, words) in alone {
+        let field = fs::read(fields.join(format!("{name}.txt"))).unwrap();
+        assert_eq!(run(&format!("{words} --solver krylov")).stdout, field, "{name}");
+    }
+    assert_eq!(listed(&fields).len(), 3);
+    assert_eq!(String::from_utf8(output.stdout).unwrap().lines().count(), 4);
+}
+
+#[test]
+fn a_refused_barrel_leaves_its_state_and_the_others_their_fields() {
+    let fields = folder("rotation-refused").join("new");
+    let output = run(&format!("rotate barrels-refused.csv --output {}", fields.display()));
+    assert_eq!(output.status.code(), Some(27));
+    let mut names = listed(&fields);
+    names.sort();
+    assert_eq!(names, ["good.txt", "limited.txt.state", "zeros.txt"]);
+    let state = fs::read_to_string(fields.join("limited.txt.state")).unwrap();
+    assert!(state.starts_with("# not the field at tau 600: the state after the last accepted substep of a run refused by 27\n"));
+    let alone = run("rod.mtx --mass mass.txt --vector start.txt --vector heating.txt --tau 600 --solver krylov --m 3 --limit 2");
+    assert_eq!(String::from_utf8(alone.stdout).unwrap(), state);
+}

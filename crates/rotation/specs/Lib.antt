@@ -1,0 +1,3 @@
+-- Several barrels on one unit.
+pub mod Unit
+pub mod Inner

@@ -1,0 +1,2 @@
+-- A join and a turn of a unit.
+pub mod Inner
