@@ -68,7 +68,6 @@ pub record AnyUnit (u : Rotation) (c : Coming) : Type 0 where
 
 -- ---- on every unit that was left
 pub record AdmissionClaim (h : List Act) (c : Coming) : Type 0 where
-  pub any : AnyUnit (left-by h) c
   -- 'It refuses with 32, after all checks of the job itself, a seventeenth unfinished run': exactly so, over a generator none of whose own checks is numbered 32
   pub if-32 : Unfinished c → Full h → join-to (left-by h) c ≡ refused-32 (left-by h) c
   pub only-32 : before 32 (c .j .g .checks) ≡ c .j .g .checks → (x : Float) → join-to (left-by h) c .call .answer ≡ Refusal 32 x → Unfinished c × Full h
