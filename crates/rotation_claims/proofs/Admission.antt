@@ -14,6 +14,7 @@ use Rattle.lists.proofs.Bounds.{lt-or-le}
 use Rattle.lists.proofs.Find.{Passed, found-at, found-none, find-le, find-before, find-holds}
 use Rattle.doubles.specs.F64.{if_then_else_}
 use Rattle.checks.specs.First.{Check, first, before}
+use Rattle.checks.proofs.Numbers.{not-by}
 use Rattle.checks.specs.declared.Checked.the-variants.{Sound, Refused}
 use Rattle.phi_krylov.specs.declared.KrylovPhiOptions.{KrylovPhiOptions}
 use Rattle.paused_run.specs.Paused.{Job, Input, PausedCall, leaves, start, step}
@@ -30,16 +31,19 @@ use Rattle.paused_claims.proofs.Start.{the-start}
 use Rattle.rotation_claims.specs.History.{Act, left-by, unfinished}
 use Rattle.rotation_claims.specs.Order.{times}
 use Rattle.rotation_claims.specs.Admission.{Coming, join-to, start-of, Passes, Unfinished, Full, Lowest, refused-32, AnyUnit, AdmissionClaim}
-use Rattle.rotation_claims.proofs.Queue.{Places, times-append, times-here, times-other, times-none, waiting-places, waiting-few}
-use Rattle.rotation_claims.proofs.Cases.{Seated, Unseated, join-cases, place-is, was-free, waits-last, Served, Unserved, turn-cases, same-run, first-below}
-use Rattle.rotation_claims.proofs.Orderly.{Orderly, not-in, in-queue, at-most, is-free, goes, orderly, orderly-turn}
-use Rattle.rotation_claims.proofs.Order.{ended-of, turned-waits}
+use Rattle.rotation_claims.proofs.Queue.{Places, times-here, times-other, times-none, waiting-places}
+use Rattle.rotation_claims.proofs.Cases.{Seated, Unseated, join-cases, place-is, was-free, waits-last}
+use Rattle.rotation_claims.proofs.Orderly.{Orderly, not-in, at-most, is-free, goes, orderly}
+use Rattle.rotation_claims.proofs.Numbers.{none-32}
 
 -- ---- any unit
-not-same : {A : Type 0} {k : ℕ} {x : Float} {s : PausedRun} → Refusal k x ≡ Started s → ⊥
-not-same e = let z : zero ≡ 1 = cc in absurd (omega (arith, z))
+not-started : {k : ℕ} {x : Float} {s : PausedRun} → Started s ≡ Refusal k x → ⊥
+not-started e = let z : zero ≡ 1 = cc in absurd (omega (arith, z))
 
-same-started : {s t : PausedRun} → Started s ≡ Started t → s ≡ t
+same-refused : {k l : ℕ} {x y : Float} → Refusal k x ≡ Refusal l y → (k ≡ l) × (x ≡ y)
+same-refused e = (cc, cc)
+
+pub same-started : {s t : PausedRun} → Started s ≡ Started t → s ≡ t
 same-started e = cc
 
 module _ (u : Rotation) (c : Coming) where
@@ -202,6 +206,32 @@ module _ (h : List Act) (c : Coming) where
       let s = started-on u c k in
       join-is u c (s .1) ∙ seat-by u c (s .0) false (s .2) (no-room-if o (omega (arith, none-free o all)))
 
+  -- 32 of the start itself is of a generator that has a check of that number
+  not-32 : before 32 (c .j .g .checks) ≡ c .j .g .checks → {x : Float} → start-of c .answer ≡ Refusal 32 x → ⊥
+  not-32 g {x} e = elim (the-start (c .o) (c .j) (c .output) (c .memory) (c .field) .only-refused 32 x e) [
+    | inl r ↦ not-by 32 _ (none-32 (c .o) (c .j) (length (c .output)) (length (c .memory)) g) r
+    | inr r ↦ (let z = r .2 in absurd (omega (arith, z)))
+  ]
+
+  only-32 : before 32 (c .j .g .checks) ≡ c .j .g .checks → (x : Float) → join-to u c .call .answer ≡ Refusal 32 x → Unfinished c × Full h
+  unfolding join admitted
+  only-32 g x e = go (start-of c .answer) refl e
+    where
+      by : (s : PausedRun) → start-of c .answer ≡ Started s → (d b : Bool) → s .ended ≡ d → room u ≡ b → admitted-by d b u s (start-of c) (full u c) .call .answer ≡ Refusal 32 x → Unfinished c × Full h
+      by s es true b ed eb r = absurd (not-started (sym es ∙ r))
+      by s es false true ed eb r = absurd (not-started (sym es ∙ r))
+      by s es false false ed eb r = (
+        goes-unfinished u c es ed,
+        λ p l. elim (lt-or-le p (lowest-free u)) [
+          | inl m ↦ lower-taken o p m l
+          | inr m ↦ absurd (true≢false (sym (room-if o (omega (arith, m, l))) ∙ eb))
+        ],
+      )
+
+      go : (a : StartAnswer) → start-of c .answer ≡ a → admitted u a (start-of c) (full u c) .call .answer ≡ Refusal 32 x → Unfinished c × Full h
+      go (Refusal k y) ea r = absurd (not-32 g r)
+      go (Started s) ea r = by s ea (s .ended) (room u) refl refl r
+
   only-lowest : join-to u c .place < 16 → Unfinished c × Lowest h (join-to u c .place)
   only-lowest l = elim (join-cases u (c .o) (c .j) (c .output) (c .memory) (c .field)) [
     | inl k ↦
@@ -225,3 +255,14 @@ module _ (h : List Act) (c : Coming) where
     | inl k ↦ inl (let e = ap (λ (r : UnitCall StartAnswer). r .place) (k .is) in let l = place-is u (k .room) in omega (arith, e, l))
     | inr k ↦ inr (k .place, k .unit)
   ]
+
+  pub admission : AdmissionClaim h c
+  admission =
+      record {
+        if-32 = if-32;
+        only-32 = only-32;
+        if-lowest = λ k p l. takes o c k p (l .place) (l .free) (l .lower);
+        only-lowest = only-lowest;
+        at-the-end = at-the-end;
+        or-none = or-none;
+      }
