@@ -5,3 +5,5 @@ pub mod Order
 pub mod Numbers
 pub mod Admission
 pub mod Leaves
+pub mod Isolation
+pub mod Exchanged
