@@ -40,7 +40,7 @@ use Rattle.rotation_claims.proofs.Numbers.{none-32}
 not-started : {k : ℕ} {x : Float} {s : PausedRun} → Started s ≡ Refusal k x → ⊥
 not-started e = let z : zero ≡ 1 = cc in absurd (omega (arith, z))
 
-same-refused : {k l : ℕ} {x y : Float} → Refusal k x ≡ Refusal l y → (k ≡ l) × (x ≡ y)
+pub same-refused : {k l : ℕ} {x y : Float} → Refusal k x ≡ Refusal l y → (k ≡ l) × (x ≡ y)
 same-refused e = (cc, cc)
 
 pub same-started : {s t : PausedRun} → Started s ≡ Started t → s ≡ t

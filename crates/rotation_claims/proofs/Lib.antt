@@ -7,3 +7,5 @@ pub mod Admission
 pub mod Leaves
 pub mod Isolation
 pub mod Exchanged
+pub mod Never23
+pub mod Claim
