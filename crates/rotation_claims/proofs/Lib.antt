@@ -9,3 +9,4 @@ pub mod Isolation
 pub mod Exchanged
 pub mod Never23
 pub mod Claim
+pub mod Examples
