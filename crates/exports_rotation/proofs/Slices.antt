@@ -1,8 +1,8 @@
 -- A unit comes back from its slices as it was left (document 02, N6). Assumes nothing.
 use mathlib.Core.Path.{_≡_, refl, sym, ap, _∙_}
-use mathlib.Core.Logic.{_⊎_, inl, inr}
+use mathlib.Core.Logic.{inl, inr}
 use mathlib.Core.Bool.{Bool, true, false, not, true≢false}
-use mathlib.Core.List.{List, [], _∷_, _++_}
+use mathlib.Core.List.{List, _++_}
 use Prim.Native.Nat.{ℕ, zero, suc, _+_, _*_, _≤_, _<_}
 use native.Mathlib.Nat.{mul-comm, mul-le-mul-right, suc-mul}
 use native.Mathlib.Omega.{arith}
@@ -15,22 +15,19 @@ use Rattle.lists.specs.Loop.{tabulate, stack}
 use Rattle.lists.specs.Window.{window}
 use Rattle.lists.proofs.Loop.{length-tabulate, tabulate-ext, tabulate-getD}
 use Rattle.doubles.specs.F64.{if_then_else_}
-use Rattle.checks.specs.First.{first}
-use Rattle.checks.specs.declared.Checked.{Checked}
 use Rattle.phi_krylov.specs.declared.KrylovPhiOptions.{KrylovPhiOptions}
-use Rattle.paused_run.specs.Paused.{Job, Input, PausedCall, leaves, start-checks, start-unless, start}
+use Rattle.paused_run.specs.Paused.{Job, Input, PausedCall, leaves, start-unless, start}
 use Rattle.paused_run.specs.declared.PausedRun.{PausedRun}
 use Rattle.paused_run.specs.declared.StartAnswer.{StartAnswer}
 use Rattle.paused_run.specs.declared.StartAnswer.the-variants.{Refusal, Started}
-use Rattle.paused_run.specs.declared.StepAnswer.{StepAnswer}
-use Rattle.rotation.specs.Unit.{unread, run-at, empty, waiting, next-place, UnitCall, lowest-free, room, admitted-by, admitted, join, turn-of, turn}
+use Rattle.rotation.specs.Unit.{unread, run-at, empty, next-place, UnitCall, lowest-free, room, admitted-by, admitted, join, turn-of, turn}
 use Rattle.rotation.specs.declared.Rotation.{Rotation}
 use Rattle.rotation.proofs.Queue.{has-room}
-use Rattle.rotation_turns.proofs.Calls.{Waits, none-or-some}
-use Rattle.exports_paused.specs.Told.{numbers-of, flag, counts-of, fits, held, State, start-state, step-state, told, state-checks}
+use Rattle.rotation_turns.proofs.Calls.{none-or-some}
+use Rattle.exports_paused.specs.Told.{numbers-of, flag, counts-of, fits, held, State, start-state, step-state, told}
 use Rattle.exports_paused.proofs.Calls.{checks-fit}
-use Rattle.exports_rotation.specs.Told.{unit-numbers, unit-counts, unit-fits, held-unit, no-unit, unit-of, UnitTold, unit-told, kept-or, told-by, join-told, turn-told, next-told, cleared, clear-told}
-use Rattle.exports_rotation.specs.Slices.{in-slices, SlicesClaim, UnitSlices}
+use Rattle.exports_rotation.specs.Told.{unit-numbers, unit-counts, unit-fits, held-unit, no-unit, unit-of, unit-told, kept-or, told-by, join-told, turn-told, next-told, cleared, clear-told}
+use Rattle.exports_rotation.specs.Slices.{in-slices, UnitSlices}
 use Rattle.exports_rotation.proofs.Units.{unit-fitting, stack-long}
 use Rattle.exports_rotation.proofs.Calls.{next-by}
 

@@ -1,38 +1,32 @@
 -- Which runs take a place, and which (document 02, N6). Assumes nothing.
 use mathlib.Core.Path.{_≡_, refl, sym, ap, _∙_, subst}
 use mathlib.Core.Logic.{_⊎_, inl, inr}
-use mathlib.Core.Bool.{Bool, true, false, not, _&&_, true≢false}
+use mathlib.Core.Bool.{Bool, true, false, not, true≢false}
 use mathlib.Core.List.{List, [], _∷_, _++_}
 use Prim.Native.Nat.{ℕ, zero, suc, _+_, _≤_, _<_}
 use native.Mathlib.Omega.{arith}
-use lib.Dec.{eqb, ltb}
+use lib.Dec.{eqb}
 use lib.ListN.{length}
 use lib.Ieee.{Float, nan}
-use borrow.Author.Tests.{eqb-true, eqb-false, eq-eqb, ne-eqb, lt-ltb, le-ltb, ltb-true, ltb-false}
-use Rattle.lists.specs.Find.{find}
+use borrow.Author.Tests.{eqb-true, eqb-false, ne-eqb, lt-ltb, le-ltb}
 use Rattle.lists.proofs.Bounds.{lt-or-le}
-use Rattle.lists.proofs.Find.{Passed, found-at, found-none, find-le, find-before, find-holds}
-use Rattle.doubles.specs.F64.{if_then_else_}
-use Rattle.checks.specs.First.{Check, first, before}
+use Rattle.lists.proofs.Find.{found-at, found-none, find-before, find-holds}
+use Rattle.checks.specs.First.{before}
 use Rattle.checks.proofs.Numbers.{not-by}
-use Rattle.checks.specs.declared.Checked.the-variants.{Sound, Refused}
-use Rattle.phi_krylov.specs.declared.KrylovPhiOptions.{KrylovPhiOptions}
-use Rattle.paused_run.specs.Paused.{Job, Input, PausedCall, leaves, start, step}
+use Rattle.paused_run.specs.Paused.{PausedCall, leaves}
 use Rattle.paused_run.specs.declared.PausedRun.{PausedRun}
 use Rattle.paused_run.specs.declared.StartAnswer.{StartAnswer}
 use Rattle.paused_run.specs.declared.StartAnswer.the-variants.{Refusal, Started}
-use Rattle.paused_run.specs.declared.StepAnswer.{StepAnswer}
-use Rattle.rotation.specs.Unit.{run-at, waiting, next-place, UnitCall, unit-call, lowest-free, room, seated, admitted-by, admitted, join, run-left, back, turn}
+use Rattle.rotation.specs.Unit.{run-at, waiting, UnitCall, unit-call, lowest-free, room, seated, admitted-by, admitted, join}
 use Rattle.rotation.specs.declared.Rotation.{Rotation}
 use Rattle.demand_3.specs.Krylov.{Zeros}
-use Rattle.paused_claims.specs.History.{run-in}
 use Rattle.paused_claims.specs.Start.{values-of, Refuses}
 use Rattle.paused_claims.proofs.Start.{the-start}
 use Rattle.rotation_claims.specs.History.{Act, left-by, unfinished}
 use Rattle.rotation_claims.specs.Order.{times}
 use Rattle.rotation_claims.specs.Admission.{Coming, join-to, start-of, Passes, Unfinished, Full, Lowest, refused-32, AnyUnit, AdmissionClaim}
 use Rattle.rotation_claims.proofs.Queue.{Places, times-here, times-other, times-none, waiting-places}
-use Rattle.rotation_claims.proofs.Cases.{Seated, Unseated, join-cases, place-is, was-free, waits-last}
+use Rattle.rotation_claims.proofs.Cases.{join-cases, place-is, was-free, waits-last}
 use Rattle.rotation_claims.proofs.Orderly.{Orderly, not-in, at-most, is-free, goes, orderly}
 use Rattle.rotation_claims.proofs.Numbers.{none-32}
 

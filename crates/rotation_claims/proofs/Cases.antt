@@ -3,14 +3,13 @@ use mathlib.Core.Path.{_≡_, refl, sym, ap, _∙_, subst}
 use mathlib.Core.Logic.{_⊎_, inl, inr}
 use mathlib.Core.Bool.{Bool, true, false, not, _&&_, true≢false}
 use mathlib.Core.List.{List, [], _∷_, _++_}
-use Prim.Native.Nat.{ℕ, zero, suc, _+_, _≤_, _<_}
+use Prim.Native.Nat.{ℕ, _+_, _≤_, _<_}
 use native.Mathlib.Omega.{arith}
 use lib.Dec.{ltb}
 use lib.ListN.{length, length-append, getD, set}
 use lib.Seq.{getD-set-same, getD-set-other}
 use lib.Ieee.{Float, nan}
 use borrow.Author.Tests.{ltb-true}
-use Rattle.lists.specs.Find.{find}
 use Rattle.lists.proofs.Find.{find-holds}
 use Rattle.phi_krylov.specs.declared.KrylovPhiOptions.{KrylovPhiOptions}
 use Rattle.paused_run.specs.Paused.{Job, Input, PausedCall, leaves, start, step}
@@ -19,7 +18,7 @@ use Rattle.paused_run.specs.declared.StartAnswer.{StartAnswer}
 use Rattle.paused_run.specs.declared.StartAnswer.the-variants.{Refusal, Started}
 use Rattle.paused_run.specs.declared.StepAnswer.{StepAnswer}
 use Rattle.paused_run.specs.declared.StepAnswer.the-variants as step-answer
-use Rattle.rotation.specs.Unit.{vacant, unread, run-at, waiting, first-of, next-place, UnitCall, unit-call, lowest-free, room, seated, admitted-by, admitted, join, run-left, back, passed-on, turn-of, turn}
+use Rattle.rotation.specs.Unit.{vacant, unread, run-at, waiting, UnitCall, unit-call, lowest-free, room, seated, admitted-by, admitted, join, run-left, back, passed-on, turn-of, turn}
 use Rattle.rotation.specs.declared.Rotation.{Rotation}
 use Rattle.paused_claims.specs.History.{run-in}
 use Rattle.rotation_claims.specs.History.{goes-on}

@@ -1,6 +1,6 @@
 -- A history of a unit, computed. Assumes nothing.
 use mathlib.Core.Path.{_≡_, refl}
-use mathlib.Core.Bool.{Bool, true, false}
+use mathlib.Core.Bool.{true, false}
 use mathlib.Core.List.{List, [], _∷_, map}
 use mathlib.Core.Option.{none}
 use Prim.Native.Nat.{ℕ, _+_}
@@ -9,16 +9,15 @@ use lib.Ieee.{Float}
 use Rattle.lists.specs.Find.{open-Find}
 use Rattle.lists.specs.Loop.{open-Loop}
 use Rattle.doubles.specs.F64.{bits, nat, 1f, +0}
-use Rattle.general_operator.specs.Csr.{Csr, csr}
+use Rattle.general_operator.specs.Csr.{csr}
 use Rattle.generator_action.specs.Generator.{forward}
 use Rattle.phi_krylov.specs.declared.KrylovPhiOptions.{KrylovPhiOptions}
-use Rattle.paused_run.specs.Paused.{Job, Input, open-Paused}
+use Rattle.paused_run.specs.Paused.{Job, open-Paused}
 use Rattle.paused_run.specs.declared.Tolerance.the-variants.{Same}
-use Rattle.paused_run.specs.declared.StartAnswer.{StartAnswer}
 use Rattle.paused_run.specs.declared.StartAnswer.the-variants as start-answer
 use Rattle.rotation.specs.Unit.{empty, waiting, queue-of, next-place, lowest-free, room, admitted, join, turn-of, turn}
 use Rattle.paused_claims.specs.Alike.{number-in}
-use Rattle.rotation_claims.specs.History.{Act, joins, takes-turn, Event, joined, turned, unit-after, event-of, unit-from, events-from, left-by, unfinished-from, unfinished}
+use Rattle.rotation_claims.specs.History.{Act, joins, takes-turn, Event, joined, turned, unit-after, event-of, unit-from, events-from, unfinished-from, unfinished}
 use Rattle.rotation_claims.specs.Order.{place-in}
 
 -- 1e-10

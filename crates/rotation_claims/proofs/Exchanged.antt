@@ -13,18 +13,15 @@ use Rattle.checks.specs.declared.Checked.{Checked}
 use Rattle.checks.specs.declared.Checked.the-variants.{Sound, Refused}
 use Rattle.combination.specs.Call.{cleared}
 use Rattle.phi_krylov.specs.declared.KrylovPhiOptions.{KrylovPhiOptions}
-use Rattle.paused_run.specs.Paused.{Job, Input, PausedCall, need-of, begun, start, step-checks, step}
+use Rattle.paused_run.specs.Paused.{Job, PausedCall, need-of, begun, step-checks, step}
 use Rattle.paused_run.specs.declared.PausedRun.{PausedRun}
-use Rattle.paused_run.specs.declared.Tolerance.{Tolerance}
 use Rattle.paused_run.specs.declared.StartAnswer.{StartAnswer}
-use Rattle.paused_run.specs.declared.StartAnswer.the-variants.{Started}
 use Rattle.paused_run.specs.declared.StepAnswer.{StepAnswer}
 use Rattle.paused_claims.specs.History.{run-in}
 use Rattle.paused_claims.specs.Start.{values-of}
-use Rattle.paused_claims.specs.Alike.{SameStep}
 use Rattle.paused_claims.proofs.Start.{started-is}
 use Rattle.paused_claims.proofs.Alike.{blind}
-use Rattle.rotation_claims.specs.Isolation.{OwnTurn, checked-on, Back, left-in, AsLeft, Stay, alone, arrival, turns-in, Stays, Given, Told, told-of, unless-early, given-from, told-from, Exchanged, ExchangedClaim}
+use Rattle.rotation_claims.specs.Isolation.{OwnTurn, checked-on, Back, left-in, AsLeft, Stay, arrival, turns-in, Stays, Given, Told, told-of, unless-early, given-from, told-from, ExchangedClaim}
 use Rattle.rotation_claims.proofs.Isolation.{Chain, at-start-is, stay-chain, early-same}
 use Rattle.rotation_claims.proofs.Admission.{same-started}
 

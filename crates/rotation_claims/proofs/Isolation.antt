@@ -1,14 +1,14 @@
 -- One barrel among any others (document 02, N6). Assumes nothing.
-use mathlib.Core.Path.{_≡_, refl, sym, ap, _∙_, subst}
-use mathlib.Core.Logic.{_⊎_, inl, inr}
+use mathlib.Core.Path.{_≡_, refl, sym, ap, _∙_}
+use mathlib.Core.Logic.{inl, inr}
 use mathlib.Core.Bool.{Bool, true, false, true≢false}
 use mathlib.Core.List.{List, [], _∷_, map}
-use Prim.Native.Nat.{ℕ, zero, suc, _<_}
+use Prim.Native.Nat.{ℕ, _<_}
 use native.Mathlib.Omega.{arith}
 use lib.Dec.{eqb}
 use lib.ListN.{length, length-set}
-use lib.Ieee.{Float, nan}
-use borrow.Author.Tests.{eqb-true, eqb-false, ne-eqb}
+use lib.Ieee.{Float}
+use borrow.Author.Tests.{eqb-true, eqb-false}
 use Rattle.doubles.specs.F64.{if_then_else_}
 use Rattle.checks.specs.First.{first}
 use Rattle.checks.specs.declared.Checked.{Checked}
@@ -19,7 +19,7 @@ use Rattle.paused_run.specs.declared.PausedRun.{PausedRun}
 use Rattle.paused_run.specs.declared.StartAnswer.{StartAnswer}
 use Rattle.paused_run.specs.declared.StartAnswer.the-variants.{Started}
 use Rattle.paused_run.specs.declared.StepAnswer.{StepAnswer}
-use Rattle.rotation.specs.Unit.{run-at, UnitCall, lowest-free, join, run-left, turn}
+use Rattle.rotation.specs.Unit.{run-at, UnitCall, lowest-free, join, turn}
 use Rattle.rotation.specs.declared.Rotation.{Rotation}
 use Rattle.demand_3.specs.Krylov.{Each}
 use Rattle.paused_claims.specs.History.{run-in, Past, at-start, Left, started, stepped}
@@ -27,8 +27,8 @@ use Rattle.paused_claims.specs.Early.{Plain}
 use Rattle.paused_claims.specs.Alike.{number-in}
 use Rattle.paused_claims.proofs.Early.{over-left}
 use Rattle.rotation_claims.specs.History.{Act, joins, takes-turn, unit-after, event-of, events-from, left-by}
-use Rattle.rotation_claims.specs.Isolation.{OwnTurn, own-turn, own-turns, steps-alone, checked-on, Back, left-in, AsLeft, Stay, alone, arrival, turns-in, Placed, Stays, Alone, AloneClaim, run-after, field-after, IsLeft, LeftClaim, Only31Claim}
-use Rattle.rotation_claims.proofs.Cases.{Seated, Unseated, join-cases, place-is, was-free, Served, Unserved, turn-cases, same-run, first-below, held-there, held-else}
+use Rattle.rotation_claims.specs.Isolation.{OwnTurn, own-turn, own-turns, steps-alone, checked-on, Back, left-in, AsLeft, Stay, alone, arrival, turns-in, Placed, Stays, AloneClaim, run-after, field-after, IsLeft, LeftClaim, Only31Claim}
+use Rattle.rotation_claims.proofs.Cases.{Seated, join-cases, place-is, was-free, turn-cases, same-run, first-below, held-there, held-else}
 use Rattle.rotation_claims.proofs.Orderly.{orderly}
 use Rattle.rotation_claims.proofs.Admission.{same-started}
 use Rattle.rotation_claims.proofs.Numbers.{only-over, step-number}

@@ -1,27 +1,25 @@
 -- What a turn leaves, and what a place holds (document 02, N6). Assumes nothing.
-use mathlib.Core.Path.{_≡_, refl, sym, ap, _∙_, subst}
-use mathlib.Core.Logic.{_⊎_, inl, inr}
+use mathlib.Core.Path.{_≡_, refl, sym, ap, _∙_}
+use mathlib.Core.Logic.{inl, inr}
 use mathlib.Core.Bool.{Bool, true, false, not}
 use mathlib.Core.List.{List, [], _∷_, _++_, append-nil}
 use Prim.Native.Nat.{ℕ, _<_}
 use native.Mathlib.Omega.{arith}
-use lib.Dec.{eqb}
-use lib.ListN.{length}
 use lib.Ieee.{Float}
 use borrow.Author.Tests.{eq-eqb, ne-eqb}
 use Rattle.doubles.specs.F64.{if_then_else_}
-use Rattle.paused_run.specs.Paused.{Input, PausedCall, step}
+use Rattle.paused_run.specs.Paused.{Input, step}
 use Rattle.paused_run.specs.declared.PausedRun.{PausedRun}
 use Rattle.paused_run.specs.declared.StartAnswer.{StartAnswer}
 use Rattle.paused_run.specs.declared.StartAnswer.the-variants.{Started}
 use Rattle.paused_run.specs.declared.StepAnswer.{StepAnswer}
-use Rattle.rotation.specs.Unit.{run-at, waiting, first-of, next-place, UnitCall, lowest-free, run-left, back, turn}
+use Rattle.rotation.specs.Unit.{run-at, waiting, UnitCall, lowest-free, back}
 use Rattle.rotation.specs.declared.Rotation.{Rotation}
 use Rattle.paused_claims.specs.History.{run-in}
 use Rattle.rotation_claims.specs.History.{Act, left-by, unfinished}
 use Rattle.rotation_claims.specs.Admission.{Coming, join-to, start-of, Unfinished, AnyTurn, turn-on, ended-in, LeavesClaim, HoldsClaim}
-use Rattle.rotation_claims.proofs.Cases.{Seated, Unseated, join-cases, place-is, Served, Unserved, turn-cases, same-run, first-below, held-there, held-else}
-use Rattle.rotation_claims.proofs.Orderly.{Orderly, orderly, orderly-turn}
+use Rattle.rotation_claims.proofs.Cases.{join-cases, place-is, Served, turn-cases, same-run, first-below, held-there, held-else}
+use Rattle.rotation_claims.proofs.Orderly.{orderly, orderly-turn}
 use Rattle.rotation_claims.proofs.Order.{turn-named, ended-of, turned-waits}
 use Rattle.rotation_claims.proofs.Admission.{same-started, takes}
 

@@ -1,14 +1,13 @@
 -- No answer of a unit is 23 (document 02, N14). Assumes nothing.
-use mathlib.Core.Path.{_≡_, refl, sym, ap, _∙_}
-use mathlib.Core.Logic.{_⊎_, inl, inr}
-use Prim.Native.Nat.{ℕ}
+use mathlib.Core.Path.{_≡_, sym, ap, _∙_}
+use mathlib.Core.Logic.{inl, inr}
 use native.Mathlib.Omega.{arith}
 use mathlib.Core.List.{List}
 use lib.ListN.{length}
 use lib.Ieee.{Float}
 use Rattle.checks.specs.First.{before}
 use Rattle.checks.proofs.Numbers.{not-by}
-use Rattle.paused_run.specs.Paused.{Input, PausedCall, step-checks, step}
+use Rattle.paused_run.specs.Paused.{Input, PausedCall, step-checks}
 use Rattle.paused_run.specs.declared.PausedRun.{PausedRun}
 use Rattle.paused_run.specs.declared.StartAnswer.{StartAnswer}
 use Rattle.paused_run.specs.declared.StartAnswer.the-variants as start-answer
@@ -18,9 +17,9 @@ use Rattle.rotation.specs.Unit.{run-at, UnitCall, turn}
 use Rattle.rotation.specs.declared.Rotation.{Rotation}
 use Rattle.paused_claims.specs.Alike.{number-in}
 use Rattle.paused_claims.proofs.Start.{the-start}
-use Rattle.rotation_claims.specs.Admission.{Coming, join-to, start-of, refused-32}
+use Rattle.rotation_claims.specs.Admission.{Coming, join-to, start-of}
 use Rattle.rotation_claims.specs.Claim.{Never23}
-use Rattle.rotation_claims.proofs.Cases.{Served, Unserved, turn-cases}
+use Rattle.rotation_claims.proofs.Cases.{turn-cases}
 use Rattle.rotation_claims.proofs.Numbers.{none-23, step-none-23, step-number}
 use Rattle.rotation_claims.proofs.Admission.{same-refused, any-unit}
 

@@ -1,6 +1,6 @@
 -- Which numbers the checks of a start and of a step, and the answer of a substep, do not have. Assumes nothing.
 use mathlib.Core.Path.{_≡_, refl, sym, ap, _∙_}
-use mathlib.Core.Logic.{_⊎_, inl, inr}
+use mathlib.Core.Logic.{inl, inr}
 use mathlib.Core.Bool.{Bool, true, false}
 use mathlib.Core.List.{List, _∷_, _++_, append-assoc}
 use Prim.Native.Nat.{ℕ, _+_, _*_}
@@ -18,7 +18,7 @@ use Rattle.combination.specs.Checks.{count-checks, time-checks, length-checks, 
 use Rattle.phi_krylov_arnoldi.specs.Run.{State, End, finished, refused}
 use Rattle.phi_krylov.specs.KrylovCall.{option-checks, bound-checks, run-checks, krylov-checks-by, krylov-checks}
 use Rattle.phi_krylov.specs.declared.KrylovPhiOptions.{KrylovPhiOptions}
-use Rattle.paused_run.specs.Paused.{Job, rows, degree, field-checks, start-checks, Input, tol-in, options-in, over, other-checks, step-checks, moved, verdict, substep-of, after-substep, step-unless, step}
+use Rattle.paused_run.specs.Paused.{Job, rows, degree, field-checks, Input, tol-in, options-in, over, other-checks, step-checks, moved, verdict, substep-of, after-substep, step-unless, step}
 use Rattle.paused_run.specs.declared.PausedRun.{PausedRun}
 use Rattle.paused_run.specs.declared.StepAnswer.the-variants as step-answer
 use Rattle.paused_claims.specs.Alike.{number-in}

@@ -3,23 +3,23 @@ use mathlib.Core.Path.{_≡_, refl, sym, ap, _∙_, subst}
 use mathlib.Core.Logic.{_⊎_, inl, inr}
 use mathlib.Core.Bool.{Bool, true, false, not, _&&_, _||_, true≢false}
 use mathlib.Core.List.{List, [], _∷_, _++_, append-nil}
-use Prim.Native.Nat.{ℕ, zero, suc, _+_, _≤_, _<_, zero-le, suc-le-suc}
+use Prim.Native.Nat.{ℕ, suc, _+_, _≤_, _<_, zero-le, suc-le-suc}
 use native.Mathlib.Omega.{arith}
-use lib.Dec.{eqb, ltb}
+use lib.Dec.{eqb}
 use lib.ListN.{length}
-use lib.Ieee.{Float, nan}
+use lib.Ieee.{Float}
 use borrow.Author.Tests.{eq-eqb, ne-eqb}
 use Rattle.doubles.specs.F64.{if_then_else_}
 use Rattle.phi_krylov.specs.declared.KrylovPhiOptions.{KrylovPhiOptions}
 use Rattle.paused_run.specs.Paused.{Job, Input, step}
 use Rattle.paused_run.specs.declared.StartAnswer.{StartAnswer}
 use Rattle.paused_run.specs.declared.StepAnswer.{StepAnswer}
-use Rattle.rotation.specs.Unit.{empty, waiting, first-of, next-place, UnitCall, unit-call, lowest-free, run-at, join, run-left, back, turn}
+use Rattle.rotation.specs.Unit.{empty, waiting, first-of, next-place, UnitCall, lowest-free, run-at, join, run-left, back, turn}
 use Rattle.rotation.specs.declared.Rotation.{Rotation}
-use Rattle.rotation_claims.specs.History.{Act, joins, takes-turn, Event, joined, turned, unit-after, event-of, unit-from, events-from, left-by, unfinished, turns-asked, turns-of}
-use Rattle.rotation_claims.specs.Order.{times, QueueClaim, SixteenClaim, NextClaim, substep-in, substeps-of-others, Fifteen, FifteenClaim, place-in, ToTheEnd, SomeTurn}
+use Rattle.rotation_claims.specs.History.{Act, joins, takes-turn, unit-after, event-of, unit-from, events-from, left-by, unfinished, turns-asked, turns-of}
+use Rattle.rotation_claims.specs.Order.{times, QueueClaim, SixteenClaim, NextClaim, substep-in, substeps-of-others, FifteenClaim, place-in, ToTheEnd, SomeTurn}
 use Rattle.rotation_claims.proofs.Queue.{times-append, times-here, times-other, times-none, times-first, none-above, place-below, waiting-places, waiting-few}
-use Rattle.rotation_claims.proofs.Cases.{Seated, Unseated, join-cases, place-is, was-free, waits-last, Served, Unserved, turn-cases, first-below, waits-after}
+use Rattle.rotation_claims.proofs.Cases.{join-cases, place-is, was-free, waits-last, Served, turn-cases, first-below, waits-after}
 use Rattle.rotation_claims.proofs.Orderly.{Orderly, in-queue, not-in, at-most, told-by, told-not, is-free, orderly}
 
 -- ---- the queue

@@ -1,25 +1,23 @@
 -- A unit that joins and turns left: the queue names each unfinished run once, and the other places are free. Assumes nothing.
 use mathlib.Core.Path.{_≡_, refl, sym, ap, _∙_, subst}
-use mathlib.Core.Logic.{_⊎_, inl, inr}
-use mathlib.Core.Bool.{Bool, true, false, not, _&&_, _||_, true≢false}
+use mathlib.Core.Logic.{inl, inr}
+use mathlib.Core.Bool.{Bool, true, false, not, _&&_, _||_}
 use mathlib.Core.List.{List, [], _∷_, _++_}
-use Prim.Native.Nat.{ℕ, zero, suc, _+_, _≤_, _<_}
+use Prim.Native.Nat.{ℕ, suc, _+_, _≤_, _<_}
 use native.Mathlib.Omega.{arith}
 use lib.Dec.{eqb}
-use lib.ListN.{length, length-append, length-set, getD, getD-replicate, set}
-use lib.Ieee.{Float, nan}
+use lib.ListN.{length, length-append, length-set, getD-replicate}
+use lib.Ieee.{Float}
 use borrow.Author.Tests.{eqb-true, eqb-false, not-true, not-false}
 use Rattle.lists.specs.Find.{find}
 use Rattle.lists.specs.Loop.{tabulate}
 use Rattle.doubles.specs.F64.{if_then_else_}
 use Rattle.phi_krylov.specs.declared.KrylovPhiOptions.{KrylovPhiOptions}
-use Rattle.paused_run.specs.Paused.{Job, Input, PausedCall, leaves, start, step}
+use Rattle.paused_run.specs.Paused.{Job, Input, PausedCall, step}
 use Rattle.paused_run.specs.declared.PausedRun.{PausedRun}
 use Rattle.paused_run.specs.declared.StartAnswer.{StartAnswer}
-use Rattle.paused_run.specs.declared.StartAnswer.the-variants.{Started}
 use Rattle.paused_run.specs.declared.StepAnswer.{StepAnswer}
-use Rattle.paused_run.specs.declared.StepAnswer.the-variants.{Refusal}
-use Rattle.rotation.specs.Unit.{vacant, unread, run-at, empty, waiting, queue-of, UnitCall, unit-call, lowest-free, seated, join, run-left, back, passed-on, turn}
+use Rattle.rotation.specs.Unit.{vacant, unread, run-at, empty, waiting, UnitCall, unit-call, lowest-free, seated, join, run-left, back, passed-on, turn}
 use Rattle.rotation.specs.declared.Rotation.{Rotation}
 use Rattle.paused_claims.specs.History.{run-in}
 use Rattle.rotation_claims.specs.History.{Act, joins, takes-turn, Event, joined, turned, unit-after, event-of, unit-from, events-from, left-by, goes-on, unfinished-from, unfinished}

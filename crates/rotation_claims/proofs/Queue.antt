@@ -1,7 +1,7 @@
 -- Queues of places, as lists and as the sixteen numbers of a unit. Assumes nothing.
 use mathlib.Core.Path.{_≡_, refl, sym, ap, _∙_}
-use mathlib.Core.Logic.{_⊎_, inl, inr}
-use mathlib.Core.Bool.{Bool, true, false, not, _&&_, _||_, true≢false}
+use mathlib.Core.Logic.{inl, inr}
+use mathlib.Core.Bool.{Bool, true, false}
 use mathlib.Core.List.{List, [], _∷_, _++_}
 use Prim.Native.Nat.{ℕ, zero, suc, _+_, _-_, _≤_, _<_}
 use native.Mathlib.Nat.{zero-add}
@@ -9,7 +9,7 @@ use native.Mathlib.Omega.{arith}
 use lib.Dec.{eqb, leb}
 use lib.ListN.{length, length-append, length-replicate, getD, getD-replicate, replicate, List·getD-append}
 use lib.Seq.{getD-append-add}
-use borrow.Author.Tests.{eqb-true, eqb-false, eq-eqb, ne-eqb, le-leb, lt-leb, leb-false}
+use borrow.Author.Tests.{eq-eqb, ne-eqb, le-leb, lt-leb, leb-false}
 use Rattle.lists.specs.Find.{find}
 use Rattle.lists.specs.Loop.{tabulate}
 use Rattle.lists.proofs.Bounds.{lt-or-le}
