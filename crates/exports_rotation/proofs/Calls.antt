@@ -2,10 +2,10 @@
 use mathlib.Core.Path.{_≡_, refl, sym, ap, _∙_}
 use mathlib.Core.Bool.{Bool, true, false, _&&_, true≢false}
 use mathlib.Core.List.{List, [], _∷_, _++_}
-use Prim.Native.Nat.{ℕ, zero, _-_, _≤_, _<_}
+use Prim.Native.Nat.{ℕ, zero, _-_, _<_}
 use native.Mathlib.Omega.{arith}
 use lib.Dec.{ltb}
-use lib.ListN.{length, getD, take, drop}
+use lib.ListN.{length, take, drop}
 use lib.Seq.{take-all}
 use lib.Ieee.{Float, nan}
 use borrow.Author.Tests.{eq-eqb}
@@ -29,8 +29,8 @@ use Rattle.rotation.specs.Unit.{empty, waiting, next-place, UnitCall, unit-call
 use Rattle.rotation.specs.declared.Rotation.{Rotation}
 use Rattle.rotation_turns.specs.declared.Joined.{Joined}
 use Rattle.rotation_turns.specs.declared.Turned.{Turned}
-use Rattle.exports_paused.specs.Told.{fits, State, start-state, step-state, Told, told, state-checks}
-use Rattle.exports_paused.proofs.Calls.{checks-fit, RefusedBoth, checks-not}
+use Rattle.exports_paused.specs.Told.{fits, State, start-state, step-state, told, state-checks}
+use Rattle.exports_paused.proofs.Calls.{checks-fit, checks-not}
 use Rattle.exports_rotation.specs.Told.{unit-numbers, unit-counts, unit-fits, no-unit, unit-of, UnitTold, unit-told, kept-or, told-by, join-told, turn-told, next-told, cleared, clear-told}
 
 -- ---- which is next, by the queue alone

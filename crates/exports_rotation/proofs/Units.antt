@@ -1,14 +1,14 @@
 -- A unit in two slices, place by place. Assumes nothing.
-use mathlib.Core.Path.{_≡_, refl, sym, ap, _∙_, subst}
+use mathlib.Core.Path.{_≡_, refl, sym, ap, _∙_}
 use mathlib.Core.Bool.{Bool, true, false, _&&_, true≢false}
-use mathlib.Core.List.{List, [], _∷_, _++_}
-use Prim.Native.Nat.{ℕ, zero, suc, _+_, _-_, _*_, _≤_, _<_}
+use mathlib.Core.List.{List, _++_}
+use Prim.Native.Nat.{ℕ, zero, suc, _+_, _-_, _*_, _≤_}
 use native.Mathlib.Nat.{zero-add, zero-mul, suc-mul}
 use native.Mathlib.Omega.{arith}
 use lib.Dec.{eqb}
 use lib.ListN.{length, length-append, getD, take, drop}
 use lib.Ieee.{Float, nan}
-use borrow.Author.Tests.{eqb-true, eq-eqb}
+use borrow.Author.Tests.{eqb-true}
 use Rattle.lists.specs.Loop.{tabulate, stack}
 use Rattle.lists.specs.Window.{window, splice}
 use Rattle.lists.proofs.Loop.{length-tabulate}
@@ -19,7 +19,7 @@ use Rattle.paused_run.specs.declared.PausedRun.{PausedRun}
 use Rattle.rotation.specs.Unit.{run-at}
 use Rattle.rotation.specs.declared.Rotation.{Rotation}
 use Rattle.exports_paused.specs.Told.{numbers-of, counts-of, fits, held, no-run, run-of, State, state, written}
-use Rattle.exports_rotation.specs.Told.{unit-numbers, unit-counts, unit-fits, kept-or}
+use Rattle.exports_rotation.specs.Told.{unit-counts, unit-fits, kept-or}
 
 -- ---- the lengths
 and-both : (a b : Bool) → (a && b) ≡ true → (a ≡ true) × (b ≡ true)

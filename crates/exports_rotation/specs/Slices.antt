@@ -7,8 +7,6 @@ use lib.ListN.{length}
 use lib.Ieee.{Float}
 use Rattle.krylov_job.specs.declared.KrylovPhiOptions.{KrylovPhiOptions}
 use Rattle.paused_run.specs.Paused.{Job, Input}
-use Rattle.paused_run.specs.declared.StartAnswer.{StartAnswer}
-use Rattle.paused_run.specs.declared.StepAnswer.{StepAnswer}
 use Rattle.rotation.specs.Unit.{empty, next-place, UnitCall, join, turn}
 use Rattle.rotation.specs.declared.Rotation.{Rotation}
 use Rattle.exports_paused.specs.Told.{fits, State, start-state, step-state, told}

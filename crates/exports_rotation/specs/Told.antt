@@ -1,6 +1,6 @@
 -- A unit as 160 doubles and 144 numbers, and its calls as an exported function hands them back (document 02, N6). Definitions only.
-use mathlib.Core.Bool.{Bool, true, false, not, _&&_}
-use mathlib.Core.List.{List, [], _∷_, _++_}
+use mathlib.Core.Bool.{Bool, true, false, _&&_}
+use mathlib.Core.List.{List, [], _++_}
 use Prim.Native.Nat.{ℕ, _*_}
 use lib.Dec.{eqb, ltb}
 use lib.ListN.{length, getD, replicate}
@@ -10,10 +10,8 @@ use Rattle.lists.specs.Window.{window}
 use Rattle.doubles.specs.F64.{if_then_else_}
 use Rattle.checks.specs.First.{first}
 use Rattle.krylov_job.specs.declared.KrylovPhiOptions.{KrylovPhiOptions}
-use Rattle.paused_run.specs.Paused.{Job, Input, PausedCall, leaves, start-checks, start-unless}
-use Rattle.paused_run.specs.declared.StartAnswer.{StartAnswer}
+use Rattle.paused_run.specs.Paused.{Job, Input, leaves, start-checks, start-unless}
 use Rattle.paused_run.specs.declared.StartAnswer.the-variants.{Refusal}
-use Rattle.paused_run.specs.declared.StepAnswer.{StepAnswer}
 use Rattle.rotation.specs.Unit.{unread, run-at, empty, next-place, UnitCall, admitted, turn}
 use Rattle.rotation.specs.declared.Rotation.{Rotation}
 use Rattle.exports_paused.specs.Told.{numbers-of, counts-of, held, State, start-state, step-state, Told, told, state-checks}

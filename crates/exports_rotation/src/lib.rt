@@ -16,7 +16,7 @@ ghost use Rattle.generator_action.specs.Generator.{forward};
 ghost use Rattle.rotation.specs.Unit.{unread, run-at};
 ghost use Rattle.answers.specs.Told.{options};
 ghost use Rattle.exports_paused.specs.Told.{numbers-of, counts-of, held, state, told, tolerance};
-ghost use Rattle.exports_rotation.specs.Told.{unit-numbers, unit-counts, unit-fits, held-unit, no-unit, unit-of, unit-told, kept-or, join-told, turn-told, next-told, cleared, clear-told};
+ghost use Rattle.exports_rotation.specs.Told.{unit-numbers, unit-counts, unit-fits, no-unit, unit-of, unit-told, kept-or, join-told, turn-told, next-told, cleared, clear-told};
 
 // Whether the slices of a unit have its lengths.
 fn unit_fits(numbers: &[f64], counts: &[usize]) -> bool

@@ -6,16 +6,15 @@ use Prim.Native.Nat.{ℕ, zero, suc, _+_, _-_, _≤_, _<_}
 use native.Mathlib.Omega.{arith}
 use native.Mathlib.Nat.{zero-add}
 use lib.Dec.{ltb, leb}
-use lib.ListN.{length, length-append, length-replicate, getD, set, drop, replicate}
+use lib.ListN.{length, length-append, getD, set, drop, replicate}
 use borrow.Author.Tests.{ltb-true, leb-false}
-use Rattle.lists.specs.Find.{find}
 use Rattle.lists.specs.Loop.{tabulate}
 use Rattle.lists.specs.Window.{splice}
 use Rattle.lists.proofs.Find.{find-le, find-before}
 use Rattle.lists.proofs.Loop.{Filled, started, turned₀, length-tabulate, tabulate-ext}
 use Rattle.lists.proofs.Window.{splice-snoc, splice-parts}
 use Rattle.paused_run.specs.declared.PausedRun.{PausedRun}
-use Rattle.rotation.specs.Unit.{waiting, queue-of, first-of, next-place, lowest-free, room, back, passed-on}
+use Rattle.rotation.specs.Unit.{waiting, queue-of, next-place, lowest-free, room, back}
 use Rattle.rotation.specs.Inner.{count-of, shifted, seat-of, end-of, passed-of}
 use Rattle.rotation.specs.declared.Rotation.{Rotation}
 

@@ -9,15 +9,16 @@ use lib.Ieee.{Float, nan}
 use Rattle.checks.specs.First.{first, before}
 use Rattle.checks.specs.declared.Checked.the-variants.{Sound}
 use Rattle.krylov_job.specs.declared.KrylovPhiOptions.{KrylovPhiOptions}
-use Rattle.paused_run.specs.Paused.{Job, Input, PausedCall, leaves, start}
+use Rattle.paused_run.specs.Paused.{Job, Input, PausedCall, leaves, start, step}
 use Rattle.paused_run.specs.declared.StartAnswer.{StartAnswer}
 use Rattle.paused_run.specs.declared.StartAnswer.the-variants.{Refusal, Started}
 use Rattle.paused_run.specs.declared.PausedRun.{PausedRun}
 use Rattle.paused_run.specs.declared.StepAnswer.{StepAnswer}
+use Rattle.paused_run.specs.declared.StepAnswer.the-variants as step-answer
 use Rattle.demand_3.specs.Krylov.{Zeros}
 use Rattle.paused_claims.specs.History.{values-in, run-in}
 use Rattle.paused_claims.specs.Start.{values-of, job-checks, Refuses}
-use Rattle.rotation.specs.Unit.{UnitCall, unit-call, run-at, waiting, join, turn}
+use Rattle.rotation.specs.Unit.{vacant, run-at, waiting, next-place, UnitCall, unit-call, join, turn}
 use Rattle.rotation.specs.declared.Rotation.{Rotation}
 use Rattle.rotation_claims.specs.History.{Act, left-by, unfinished}
 
@@ -66,9 +67,14 @@ pub record AnyUnit (u : Rotation) (c : Coming) : Type 0 where
   -- 'Only its admission, place and turns depend on the others': the start's own call, or 32
   pub else-32 : (join-to u c .call ≡ start-of c) ⊎ (join-to u c ≡ refused-32 u c)
 
+-- a turn: of the place named, by N5's step on the run in it; 31 if none is named
+pub record AnyTurn (u : Rotation) (i : Input) (y : List Float) : Type 0 where
+  pub named : turn u y i .place ≡ next-place u
+  pub one-step : next-place u < 16 → turn u y i .call ≡ step (run-at u (next-place u)) y i
+  pub none : next-place u ≡ 16 → turn u y i ≡ unit-call u 16 (leaves (step-answer.Refusal 31 nan vacant) (i .output) (i .memory) y)
+
 -- ---- on every unit that was left
 pub record AdmissionClaim (h : List Act) (c : Coming) : Type 0 where
-  pub any : AnyUnit (left-by h) c
   -- 'It refuses with 32, after all checks of the job itself, a seventeenth unfinished run': exactly so, over a generator none of whose own checks is numbered 32
   pub if-32 : Unfinished c → Full h → join-to (left-by h) c ≡ refused-32 (left-by h) c
   pub only-32 : before 32 (c .j .g .checks) ≡ c .j .g .checks → (x : Float) → join-to (left-by h) c .call .answer ≡ Refusal 32 x → Unfinished c × Full h

@@ -10,9 +10,9 @@ use Rattle.paused_run.specs.declared.StepAnswer.the-variants as step-answer
 use Rattle.rotation.specs.Unit.{turn}
 use Rattle.rotation.specs.declared.Rotation.{Rotation}
 use Rattle.rotation_claims.specs.History.{Act}
-use Rattle.rotation_claims.specs.Isolation.{AloneClaim, Only31Claim, ExchangedClaim}
+use Rattle.rotation_claims.specs.Isolation.{AloneClaim, LeftClaim, Only31Claim, ExchangedClaim}
 use Rattle.rotation_claims.specs.Order.{QueueClaim, SixteenClaim, NextClaim, FifteenClaim, ToTheEnd, SomeTurn}
-use Rattle.rotation_claims.specs.Admission.{Coming, join-to, AnyUnit, AdmissionClaim, LeavesClaim}
+use Rattle.rotation_claims.specs.Admission.{Coming, join-to, AnyUnit, AnyTurn, AdmissionClaim, LeavesClaim, HoldsClaim}
 
 -- N14: no answer is 23, of any unit, over generators none of whose own checks has that number
 pub record Never23 (u : Rotation) : Type 0 where
@@ -22,6 +22,7 @@ pub record Never23 (u : Rotation) : Type 0 where
 pub record RotationClaim : Type 0 where
   -- one barrel among any others
   pub alone : AloneClaim
+  pub left : LeftClaim
   pub exchanged : ExchangedClaim
   pub only-31 : Only31Claim
   -- the order of the turns
@@ -33,6 +34,8 @@ pub record RotationClaim : Type 0 where
   pub some-turn : SomeTurn
   -- which runs take a place, and which leave it
   pub any-unit : (u : Rotation) (c : Coming) → AnyUnit u c
+  pub any-turn : (u : Rotation) (i : Input) (y : List Float) → AnyTurn u i y
   pub admission : (h : List Act) (c : Coming) → AdmissionClaim h c
   pub leaves : (h : List Act) (i : Input) (y : List Float) → LeavesClaim h i y
+  pub holds : (h : List Act) → HoldsClaim h
   pub never-23 : (u : Rotation) → Never23 u

@@ -1,6 +1,6 @@
 -- Joins and turns one after the other on one unit, and what they answered (document 02, N6: 'The unit, empty at first and coming back as left'). The claims are told by the
 -- answers, not by what the unit holds. Definitions only.
-use mathlib.Core.Bool.{Bool, true, false, not, _&&_, _||_}
+use mathlib.Core.Bool.{Bool, false, not, _&&_, _||_}
 use mathlib.Core.List.{List, [], _∷_}
 use Prim.Native.Nat.{ℕ, suc}
 use lib.Dec.{eqb}

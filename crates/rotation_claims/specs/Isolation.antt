@@ -1,7 +1,6 @@
 -- One barrel among any others (document 02, N6: 'Suppose the other runs are exchanged for any others and the same steps are given to one barrel: its field, report and run
 -- refusals are as if it were alone'). Definitions only.
 use mathlib.Core.Path.{_≡_}
-use mathlib.Core.Bool.{Bool, true, false}
 use mathlib.Core.List.{List, [], _∷_, map}
 use Prim.Native.Nat.{ℕ, _<_}
 use lib.Dec.{eqb}
@@ -23,7 +22,6 @@ use Rattle.paused_claims.specs.History.{run-in, Past, Left}
 use Rattle.paused_claims.specs.Early.{Plain}
 use Rattle.paused_claims.specs.Alike.{number-in}
 use Rattle.rotation.specs.Unit.{UnitCall, join}
-use Rattle.rotation.specs.declared.Rotation.{Rotation}
 use Rattle.rotation_claims.specs.History.{Act, Event, joined, turned, events-from, left-by}
 
 -- ---- a barrel's own turns

@@ -1,8 +1,8 @@
 -- A start with a chain is not all zeros, since 1 / eta stands at its end. Assumes nothing.
 use mathlib.Core.Path.{_≡_, refl, sym, ap, _∙_}
-use mathlib.Core.Bool.{Bool, true, false, _&&_, true≢false}
+use mathlib.Core.Bool.{Bool, true, false, _&&_}
 use mathlib.Core.List.{List, [], _∷_, _++_, append-assoc}
-use Prim.Native.Nat.{ℕ, zero, suc, _+_, _*_, _<_}
+use Prim.Native.Nat.{ℕ, zero, suc, _+_, _*_}
 use native.Mathlib.Nat.{zero-mul, mul-pos, zero-lt-suc}
 use native.Mathlib.Omega.{arith}
 use lib.IntN.{ℤ, pos, negsuc}
@@ -19,8 +19,7 @@ use Rattle.lists.proofs.Window.{window-whole}
 use Rattle.doubles.specs.F64.{if_then_else_, _⋖_, +0, 1f, at, abs, is-finite, replaced, maxNum, nonneg}
 use Rattle.doubles.proofs.Compare.{zero-cases}
 use Rattle.doubles.proofs.Extremes.{nonneg-max}
-use Rattle.pow2.specs.Pow2.{clamp, ceil-log2, eta-of, eta-scaling, sup, pow2-scale, scale-of}
-use Rattle.pow2.specs.declared.Scaling.{Scaling}
+use Rattle.pow2.specs.Pow2.{clamp, ceil-log2, eta-of, eta-scaling, sup, pow2-scale}
 use Rattle.pow2.specs.declared.Scale.{Scale}
 use Rattle.pow2.specs.declared.Prescale.{Prescale}
 use Rattle.pow2.specs.declared.Prescale.the-variants.{By, None}

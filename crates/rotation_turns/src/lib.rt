@@ -2,12 +2,12 @@
 use checks::Checked;
 use generator_action::MatrixAnswer;
 use generator_action::Shape;
+use krylov_job::Eta;
+use krylov_job::KrylovPhiOptions;
 use paused_run::PausedRun;
 use paused_run::StartAnswer;
 use paused_run::StepAnswer;
 use paused_run::Tolerance;
-use krylov_job::Eta;
-use krylov_job::KrylovPhiOptions;
 use pow2::Prescale;
 use rotation::Rotation;
 ghost use mathlib.Core.Path.{_≡_};

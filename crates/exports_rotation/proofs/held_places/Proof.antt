@@ -1,10 +1,8 @@
 -- `exports_rotation::held_places` meets its contract. Assumes nothing.
-use borrow.Author.Needs.{needs, scaled-fits}
+use borrow.Author.Needs.{needs}
 use native.Mathlib.Omega.{arith}
 use mathlib.Core.Path.{refl}
 use Prim.Native.Nat.{_-_, _*_, _≤_}
-use lib.Dec.{lit<}
-use lib.ListN.{replicate}
 use Rattle.lists.specs.Window.{window}
 use Rattle.lists.proofs.Loop.{Filled, started, turned₀, finished-all}
 use Rattle.exports_paused.specs.Told.{held}

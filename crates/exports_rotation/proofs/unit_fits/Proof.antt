@@ -1,5 +1,4 @@
 -- `exports_rotation::unit_fits` meets its contract. Assumes nothing.
-use borrow.Author.Needs.{needs}
 use mathlib.Core.Path.{refl}
 use borrow.Author.Tests.{eq-eqb, ne-eqb}
 use Rattle.exports_rotation.specs.Told.{unit-fits}

@@ -1,5 +1,5 @@
 -- `exports_rotation::write_places` meets its contract. Assumes nothing.
-use borrow.Author.Needs.{needs, scaled-fits}
+use borrow.Author.Needs.{needs}
 use native.Mathlib.Omega.{arith}
 use mathlib.Core.Path.{_≡_, refl, ap, _∙_}
 use Prim.Native.Nat.{ℕ, _-_, _≤_}

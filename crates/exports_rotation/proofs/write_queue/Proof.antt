@@ -1,8 +1,8 @@
 -- `exports_rotation::write_queue` meets its contract. Assumes nothing.
 use borrow.Author.Needs.{needs, scaled-fits}
 use native.Mathlib.Omega.{arith}
-use mathlib.Core.Path.{refl, sym, _∙_}
-use Prim.Native.Nat.{_+_, _-_, _≤_}
+use mathlib.Core.Path.{refl}
+use Prim.Native.Nat.{_-_, _≤_}
 use lib.Dec.{lit<}
 use lib.ListN.{getD}
 use Rattle.lists.proofs.Loop.{Filled, started, turned, finished}

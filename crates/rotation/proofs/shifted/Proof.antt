@@ -2,7 +2,7 @@
 use native.Mathlib.Omega.{arith}
 use Prim.Native.Nat.{_+_, _-_, _≤_}
 use lib.ListN.{getD, replicate}
-use borrow.Author.Needs.{needs, scaled-fits}
+use borrow.Author.Needs.{scaled-fits}
 use mir.Facts.{fits-le, fits-lit}
 use lib.Dec.{lit<}
 use Rattle.lists.proofs.Loop.{Filled}

@@ -1,6 +1,6 @@
 -- `rotation_turns::goes_on` meets its contract. Assumes nothing.
 use borrow.Author.Needs.{needs}
-use mathlib.Core.Path.{refl, ap, sym, _∙_}
+use mathlib.Core.Path.{ap}
 use Rattle.rotation_turns.specs.Inner.{by-power}
 use Rattle.rotation_turns.proofs.Chain.{chain-on, starts-on}
 use Rattle.rotation_turns.proofs.goes_on.Statement.{statement}

@@ -1,0 +1,12 @@
+pub mod Queue
+pub mod Cases
+pub mod Orderly
+pub mod Order
+pub mod Numbers
+pub mod Admission
+pub mod Leaves
+pub mod Isolation
+pub mod Exchanged
+pub mod Never23
+pub mod Claim
+pub mod Examples
