@@ -10,7 +10,9 @@ fn main() {
         Some(_) => &["exports_bytes", "exports_transposed_bytes", "exports_paused_bytes"],
         None => &[],
     };
-    for name in ["exports", "exports_transposed", "exports_paused", "exports_rotation", "exports_stages", "exports_ambient"].iter().chain(on_bytes) {
+    for name in
+        ["exports", "exports_transposed", "exports_paused", "exports_rotation", "exports_stages", "exports_ambient"].iter().chain(on_bytes)
+    {
         let archive = Path::new(folder).join(format!("lib{name}.a"));
         println!("cargo:rerun-if-changed={}", archive.display());
         println!("cargo:rustc-link-lib=static={name}");

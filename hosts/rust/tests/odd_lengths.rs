@@ -1,7 +1,7 @@
 //! No combination of lengths and sizes panics, and none allocates beyond the library's limits.
 
 use hazhendu::{ambient, check, combine, join, phi_action, phi_action_batched, sizes, stages};
-use hazhendu::{AmbientError, Error, KrylovOptions, Log, Matrix, Paused, Solver, Stage, StageError, TaylorOptions};
+use hazhendu::{AmbientError, Error, KrylovOptions, Log, Matrix, Paused, Solver, Stage, StageError, TaylorOptions, Unit};
 
 const ODD: [usize; 10] = [0, 1, 2, 3, 5, 129, 1_000_001, usize::MAX / 8, usize::MAX - 1, usize::MAX];
 
@@ -52,6 +52,7 @@ fn every_odd_size_is_answered() {
                         let log = Log { durations: &numbers[..len], levels: &numbers[..len.min(2)] };
                         told(ambient(&a, &log, &numbers[..len], &numbers[..len], count, n.wrapping_sub(1)).map_err(plain_log));
                         told(Paused::start(&a, 1.0, count, &numbers[..len], KrylovOptions { m: len, ..options }));
+                        told(Unit::new().join((), &a, 1.0, count, &numbers[..len], KrylovOptions { m: len, ..options }));
                     }
                 }
             }

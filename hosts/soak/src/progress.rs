@@ -64,6 +64,40 @@ impl Line {
     }
 }
 
+/// Lines on the terminal that are written over all together, not more often than can be read.
+pub struct Block {
+    told: bool,
+    last: Option<Instant>,
+}
+
+/// Longer lines would be broken, and the next block would not stand over this one.
+const WIDTH: usize = 79;
+
+impl Block {
+    pub fn new() -> Self {
+        Block { told: io::stderr().is_terminal(), last: None }
+    }
+
+    /// Each line wipes out the rest of what stood there; then the cursor goes back to the first.
+    pub fn tell(&mut self, lines: impl FnOnce() -> Vec<String>) {
+        if !self.told || self.last.is_some_and(|last| last.elapsed() < BETWEEN) {
+            return;
+        }
+        let lines = lines();
+        let text: String = lines.iter().map(|line| format!("\r{}\x1b[K\n", line.chars().take(WIDTH).collect::<String>())).collect();
+        // Where even this cannot be written, there is nobody to tell.
+        let _ = write!(io::stderr(), "{text}\x1b[J\x1b[{}A", lines.len().max(1)).and_then(|()| io::stderr().flush());
+        self.last = Some(Instant::now());
+    }
+
+    /// Room for what is told next.
+    pub fn clear(&mut self) {
+        if self.last.take().is_some() {
+            let _ = write!(io::stderr(), "\r\x1b[J").and_then(|()| io::stderr().flush());
+        }
+    }
+}
+
 /// Room for what is told next.
 impl Drop for Line {
     fn drop(&mut self) {
@@ -83,7 +117,7 @@ pub fn percent(time: f64) -> u32 {
     }
 }
 
-fn line(time: f64, report: &Report) -> String {
+pub fn line(time: f64, report: &Report) -> String {
     format!(
         "{} % of tau, {} substeps, {} applications, step {}, error {}",
         percent(time),

@@ -7,7 +7,7 @@ use crate::input::Source;
 use crate::interrupt::Listening;
 use crate::job::{cost_line, Job};
 use crate::model::Files;
-use crate::progress::{percent, Paced};
+use crate::progress::{self, Block};
 use crate::sink::{self, Sink};
 use crate::soak::not_finite;
 use crate::summary::Summary;
@@ -167,7 +167,7 @@ impl Round<'_> {
     fn run(&mut self) -> Result<bool, Failure> {
         let mut unit = Unit::new();
         let mut coming = 0;
-        let mut line = Paced::new();
+        let mut block = Block::new();
         let interrupt = Listening::new();
         loop {
             while unit.len() < MAX_RUNS && coming < self.barrels.len() {
@@ -176,16 +176,16 @@ impl Round<'_> {
             }
             let Some((_, &i)) = unit.next() else { return Ok(false) };
             if interrupt.heard() {
-                drop(line);
+                block.clear();
                 unit.barrels().try_for_each(|(_, run)| self.stop(*run.key(), run.time(), run.report(), run.field()))?;
                 return Ok(true);
             }
             let ((count, w), a) = (&self.put[i], self.jobs[i].matrix());
             let turned = unit.turn(&a, self.barrels[i].alone.tau, *count, w, None);
             match turned.map_err(|error| self.jobs[i].failure(error))? {
-                Turned::Waits { .. } => line.tell(false, || self.progress(&unit)),
+                Turned::Waits { .. } => block.tell(|| self.progress(&unit)),
                 Turned::Ended { key, soaked, .. } => {
-                    line = Paced::new();
+                    block.clear();
                     self.end(key, soaked)?;
                 }
             }
@@ -202,10 +202,10 @@ impl Round<'_> {
         }
     }
 
-    /// How far each of those on the unit is.
-    fn progress(&self, unit: &Unit<usize>) -> String {
-        let far = unit.barrels().map(|(_, run)| format!("{} {} %", self.barrels[*run.key()].name, percent(run.time())));
-        far.collect::<Vec<_>>().join(", ")
+    /// How far each of those on the unit is, a line each.
+    fn progress(&self, unit: &Unit<usize>) -> Vec<String> {
+        let line = |run: &hazhendu::Barrel<usize>| progress::line(run.time(), &run.report());
+        unit.barrels().map(|(_, run)| format!("{}: {}", self.barrels[*run.key()].name, line(run))).collect()
     }
 
     /// A run that has ended, or was refused at its start: the field or the state is written at once.
