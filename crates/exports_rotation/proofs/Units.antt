@@ -1,6 +1,6 @@
 -- A unit in two slices, place by place. Assumes nothing.
 use mathlib.Core.Path.{_≡_, refl, sym, ap, _∙_}
-use mathlib.Core.Bool.{Bool, true, false, _&&_, true≢false}
+use mathlib.Core.Bool.{Bool, true, false, _&&_}
 use mathlib.Core.List.{List, _++_}
 use Prim.Native.Nat.{ℕ, zero, suc, _+_, _-_, _*_, _≤_}
 use native.Mathlib.Nat.{zero-add, zero-mul, suc-mul}
@@ -18,14 +18,11 @@ use Rattle.doubles.specs.F64.{if_then_else_}
 use Rattle.paused_run.specs.declared.PausedRun.{PausedRun}
 use Rattle.rotation.specs.Unit.{run-at}
 use Rattle.rotation.specs.declared.Rotation.{Rotation}
+use Rattle.rotation.proofs.Queue.{and-both}
 use Rattle.exports_paused.specs.Told.{numbers-of, counts-of, fits, held, no-run, run-of, State, state, written}
 use Rattle.exports_rotation.specs.Told.{unit-counts, unit-fits, kept-or}
 
 -- ---- the lengths
-and-both : (a b : Bool) → (a && b) ≡ true → (a ≡ true) × (b ≡ true)
-and-both true b e = (refl, e)
-and-both false b e = absurd (true≢false (sym e))
-
 pub fitting-unit : (numbers : List Float) (counts : List ℕ) → unit-fits numbers counts ≡ true → (length numbers ≡ 160) × (length counts ≡ 144)
 unfolding unit-fits
 fitting-unit numbers counts e =

@@ -18,6 +18,10 @@ use Rattle.rotation.specs.Unit.{waiting, queue-of, next-place, lowest-fr
 use Rattle.rotation.specs.Inner.{count-of, shifted, seat-of, end-of, passed-of}
 use Rattle.rotation.specs.declared.Rotation.{Rotation}
 
+pub and-both : (a b : Bool) → (a && b) ≡ true → (a ≡ true) × (b ≡ true)
+and-both true b e = (refl, e)
+and-both false b e = absurd (true≢false (sym e))
+
 -- ---- a queue that is filled from the front
 drop-replicate : {A : Type 0} (n m : ℕ) (z : A) → drop n (replicate m z) ≡ replicate (m - n) z
 drop-replicate zero m z =
@@ -159,10 +163,6 @@ module _ (u : Rotation) where
   pub room-is : {p k : ℕ} → p ≡ lowest-free u → k ≡ count-of (u .queue) → (ltb p 16 && ltb k 16) ≡ room u
   unfolding room
   room-is ep ek = rw (ep, ek, ← length-waiting) refl
-
-  and-both : (a b : Bool) → (a && b) ≡ true → (a ≡ true) × (b ≡ true)
-  and-both true b e = (refl, e)
-  and-both false b e = absurd (true≢false (sym e))
 
   pub has-room : room u ≡ true → (lowest-free u < 16) × (count-of (u .queue) < 16)
   unfolding room

@@ -130,7 +130,7 @@ fn shifted(queue: [usize; 16], from: usize, to: usize, last: usize) -> [usize; 1
     moved
 }
 
-// A new run behind those that wait, in the lowest free place; no other unit where there is no room.
+// A new run behind those that wait, in the lowest free place; where there is no room the unit stays as it is.
 pub fn seated(unit: Rotation, run: PausedRun) -> Seat
     ensures { λ r. ⌜ r ≡ seat-of unit run ⌝ }
 {

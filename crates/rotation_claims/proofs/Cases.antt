@@ -1,15 +1,13 @@
 -- What a join and a turn do, on any unit. Assumes nothing.
-use mathlib.Core.Path.{_≡_, refl, sym, ap, _∙_, subst}
+use mathlib.Core.Path.{_≡_, refl, ap, _∙_, subst}
 use mathlib.Core.Logic.{_⊎_, inl, inr}
-use mathlib.Core.Bool.{Bool, true, false, not, _&&_, true≢false}
+use mathlib.Core.Bool.{Bool, true, false, not}
 use mathlib.Core.List.{List, [], _∷_, _++_}
 use Prim.Native.Nat.{ℕ, _+_, _≤_, _<_}
 use native.Mathlib.Omega.{arith}
-use lib.Dec.{ltb}
 use lib.ListN.{length, length-append, getD, set}
 use lib.Seq.{getD-set-same, getD-set-other}
 use lib.Ieee.{Float, nan}
-use borrow.Author.Tests.{ltb-true}
 use Rattle.lists.proofs.Find.{find-holds}
 use Rattle.krylov_job.specs.declared.KrylovPhiOptions.{KrylovPhiOptions}
 use Rattle.paused_run.specs.Paused.{Job, Input, PausedCall, leaves, start, step}
@@ -20,6 +18,7 @@ use Rattle.paused_run.specs.declared.StepAnswer.{StepAnswer}
 use Rattle.paused_run.specs.declared.StepAnswer.the-variants as step-answer
 use Rattle.rotation.specs.Unit.{vacant, unread, run-at, waiting, UnitCall, unit-call, lowest-free, room, seated, admitted-by, admitted, join, run-left, back, passed-on, turn-of, turn}
 use Rattle.rotation.specs.declared.Rotation.{Rotation}
+use Rattle.rotation.proofs.Queue.{length-waiting, has-room}
 use Rattle.paused_claims.specs.History.{run-in}
 use Rattle.rotation_claims.specs.History.{goes-on}
 use Rattle.rotation_claims.proofs.Queue.{Places, places-append, waiting-places, waiting-few, waiting-of}
@@ -53,19 +52,12 @@ module _ (u : Rotation) (o : KrylovPhiOptions) (j : Job) (output memory field : 
   join-cases = join-by u (start o j output memory field .answer) (start o j output memory field) (leaves (Refusal 32 nan) output memory field) refl refl
 
 -- ---- room
-and-both : (a b : Bool) → (a && b) ≡ true → (a ≡ true) × (b ≡ true)
-and-both true b e = (refl, e)
-and-both false b e = absurd (true≢false (sym e))
-
 module _ (u : Rotation) (e : room u ≡ true) where
-  both : (ltb (lowest-free u) 16 ≡ true) × (ltb (length (waiting u)) 16 ≡ true)
-  both = unfold room in and-both _ _ e
-
   pub place-is : lowest-free u < 16
-  place-is = ltb-true _ _ (both .0)
+  place-is = has-room u e .0
 
   pub queue-room : length (waiting u) < 16
-  queue-room = ltb-true _ _ (both .1)
+  queue-room = (let l = length-waiting u in let r = has-room u e .1 in omega (arith, l, r))
 
   -- the place is free
   pub was-free : run-at u (lowest-free u) .ended ≡ true

@@ -54,7 +54,8 @@ substeps-of-others p [] = 0
 substeps-of-others p (joined o j q c ∷ l) = substeps-of-others p l
 substeps-of-others p (turned i y q c ∷ l) = if not (eqb q p) && substep-in (c .answer) then suc (substeps-of-others p l) else substeps-of-others p l
 
--- after h the run in p is unfinished; among the acts l none is its turn. Then at most 15 turns were asked for, those refused early and by 31 among them
+-- after h the run in p is unfinished; among the acts l none is its turn. Then at most 15 turns were asked for, those refused early among them; that a turn makes at most one
+-- substep is specs/Isolation's AloneClaim
 pub record Fifteen (p : ℕ) (h l : List Act) : Type 0 where
   pub turns : turns-asked l ≤ 15
   pub substeps : substeps-of-others p (events-from (left-by h) l) ≤ 15
