@@ -34,16 +34,13 @@ use Rattle.ambient_claims.specs.Ran.{record-need, Ran, RefusedAt}
 use Rattle.ambient_claims.proofs.Answers.{whole, refused-at, at-refused-leaves, refusal-is}
 use Rattle.ambient_claims.proofs.Memory.{room-ran}
 
--- ---- 38 to 40 pass exactly where W, the node, the records and the slices are as document 02 wants them
+-- ---- 38 to 40 pass where W, the node, the records and the slices are as document 02 wants them, and (`ambient_checks/proofs/Checks: log-known`) nowhere else
 pub log-sound : (n : ℕ) (log : Log) (W node : ℕ) (r : Places) → Logged n log W node r → Sound ≡ first (log-checks n log W node r)
 unfolding log-checks
 log-sound n log W node r k =
     passes 38 _ _ (rw (ne-eqb W 0 (λ e. absurd (omega (arith, k .wide, e))), le-ltb 1024 W (k .narrow), lt-leb n node (k .known)) refl)
     (passes 39 _ _ (rw (ne-eqb (records-of log) 0 (λ e. absurd (omega (arith, k .some, e))), le-ltb 100000 (records-of log) (k .most), not-eq (k .paired)) refl)
     (passes 40 _ [] (rw (le-ltb (r .temperatures) (records-of log) (k .temperatures), le-ltb (r .largest) (records-of log) (k .largest), le-ltb (r .smallest) (records-of log) (k .smallest)) refl) ends-sound))
-
-pub log-passes : (n : ℕ) (log : Log) (W node : ℕ) (r : Places) → Sound ≡ first (log-checks n log W node r) → Logged n log W node r
-log-passes = log-known
 
 -- ---- a record's generator is in range where its matrix's is (N14)
 pub wider-in-range : (g : Generator) → InRange g → InRange (wider g)
