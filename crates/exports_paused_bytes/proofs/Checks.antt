@@ -1,17 +1,17 @@
 -- The checks of a start and of a step as one list, and what they answer where slices were cut. Assumes nothing.
 use mathlib.Core.Bool.{Bool, true, false, not, _&&_, _||_, true≢false}
 use mathlib.Core.List.{List, [], _∷_, _++_, append-assoc}
-use mathlib.Core.Logic.{_⊎_, inl, inr}
+use mathlib.Core.Logic.{inl, inr}
 use mathlib.Core.Option.{none, some}
 use mathlib.Core.Path.{_≡_, refl, sym, _∙_, ap}
 use native.Mathlib.Omega.{arith}
 use native.Mathlib.Nat.{mul-le-mul}
-use Prim.Native.Nat.{ℕ, zero, _+_, _-_, _*_, _≤_, _<_}
+use Prim.Native.Nat.{ℕ, _+_, _-_, _*_, _≤_, _<_}
 use lib.Dec.{eqb, ltb}
 use lib.ListN.{length}
 use lib.Ieee.{Float, nan}
 use borrow.Author.Tests.{ltb-true, ltb-false, ne-eqb, eqb-true, not-false}
-use Rattle.doubles.specs.F64.{nat, if_then_else_}
+use Rattle.doubles.specs.F64.{nat}
 use Rattle.checks.specs.First.{Check, refuse, first, before}
 use Rattle.checks.specs.declared.Checked.{Checked}
 use Rattle.checks.specs.declared.Checked.the-variants.{Sound, Refused}
@@ -31,7 +31,8 @@ use Rattle.paused_run.specs.Paused.{Job, rows, degree, field-checks, start-chec
 use Rattle.paused_run.specs.declared.PausedRun.{PausedRun}
 use Rattle.paused_run.specs.declared.Tolerance.{Tolerance}
 use Rattle.answers.specs.Told.{options}
-use Rattle.exports_paused.specs.Told.{fits, run-of, no-run, held, ran, written, Told, told, state, start-state, step-state, state-checks, start-told, step-told, tolerance}
+use Rattle.exports_paused.proofs.Slices.{fitting}
+use Rattle.exports_paused.specs.Told.{fits, run-of, no-run, ran, told, state, start-state, step-state, state-checks, start-told, step-told, tolerance}
 use Rattle.byte_arrays.proofs.Parts.{Part, Columns}
 use Rattle.byte_arrays.proofs.Cuts.{Recut, retold, Uncut, job-cut}
 use Rattle.byte_arrays.proofs.Forward.{forward-refuses}
@@ -110,10 +111,6 @@ uncut : {A : Type 0} {c : ℕ} {l p : List A} → Part c l p → length p < 512 
 uncut (inl e) h = e
 uncut (inr (lc, el, lp)) h = absurd (omega (arith, lp, h))
 
-both-true : (a b : Bool) → (a && b) ≡ true → (a ≡ true) × (b ≡ true)
-both-true true b e = (refl, e)
-both-true false b e = absurd (true≢false (sym e))
-
 -- where the checks of a list pass, those behind it decide
 same-tail : (xs ys zs : List Check) → (Sound ≡ first xs → first ys ≡ first zs) → first (xs ++ ys) ≡ first (xs ++ zs)
 unfolding and-then
@@ -157,11 +154,9 @@ module _ {cf cn ck : ℕ} {field field₁ numbers numbers₁ : List Float} {coun
   Whole = ((numbers₁ ≡ numbers) × (cn ≤ 512)) × ((counts₁ ≡ counts) × (ck ≤ 512))
 
   whole-state : fits numbers₁ counts₁ ≡ true → Whole
-  unfolding fits
   whole-state e =
-      let t = both-true (eqb (length numbers₁) 10) (eqb (length counts₁) 8) e in
-      let x : length numbers₁ ≡ 10 = eqb-true (length numbers₁) 10 (t .0) in
-      let y : length counts₁ ≡ 8 = eqb-true (length counts₁) 8 (t .1) in
+      let x = fitting numbers₁ counts₁ e .0 in
+      let y = fitting numbers₁ counts₁ e .1 in
       (uncut hn (omega (arith, x)), uncut hk (omega (arith, y)))
 
   same-run : run-of numbers₁ counts₁ ≡ run-of numbers counts

@@ -326,7 +326,7 @@ pub left-sound : {o : KrylovPhiOptions} {j : Job} {p : Past} → Left o j p → 
 left-sound {o} {j} (history.started output memory field e) = (output, memory, the-start o j output memory field .only-accepted e .0)
 left-sound (history.stepped l i) = left-sound l
 
-same-run : {s t : PausedRun} → Started s ≡ Started t → s ≡ t
+pub same-run : {s t : PausedRun} → Started s ≡ Started t → s ≡ t
 same-run e = cc
 
 at-start-stands : (o : KrylovPhiOptions) (j : Job) (output memory field : List Float) {s : PausedRun} → start o j output memory field .answer ≡ Started s → (f : Prescale) → pow2-scale (values-of j) ≡ f

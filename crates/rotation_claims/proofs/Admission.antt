@@ -37,9 +37,6 @@ not-started e = let z : zero ≡ 1 = cc in absurd (omega (arith, z))
 pub same-refused : {k l : ℕ} {x y : Float} → Refusal k x ≡ Refusal l y → (k ≡ l) × (x ≡ y)
 same-refused e = (cc, cc)
 
-pub same-started : {s t : PausedRun} → Started s ≡ Started t → s ≡ t
-same-started e = cc
-
 module _ (u : Rotation) (c : Coming) where
   abbrev full : PausedCall StartAnswer
   full = leaves (Refusal 32 nan) (c .output) (c .memory) (c .field)

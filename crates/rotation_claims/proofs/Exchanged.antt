@@ -23,7 +23,7 @@ use Rattle.paused_claims.proofs.Start.{started-is}
 use Rattle.paused_claims.proofs.Alike.{blind}
 use Rattle.rotation_claims.specs.Isolation.{OwnTurn, checked-on, Back, left-in, AsLeft, Stay, arrival, turns-in, Stays, Given, Told, told-of, unless-early, given-from, told-from, ExchangedClaim}
 use Rattle.rotation_claims.proofs.Isolation.{Chain, at-start-is, stay-chain, early-same}
-use Rattle.rotation_claims.proofs.Admission.{same-started}
+use Rattle.paused_claims.proofs.Standing.{same-run as same-started}
 
 abbrev given-of : OwnTurn → Given
 given-of t = record { tolerance = t .given .tolerance; job = t .given .job }

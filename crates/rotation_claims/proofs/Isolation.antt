@@ -30,7 +30,7 @@ use Rattle.rotation_claims.specs.History.{Act, joins, takes-turn, unit-a
 use Rattle.rotation_claims.specs.Isolation.{OwnTurn, own-turn, own-turns, steps-alone, checked-on, Back, left-in, AsLeft, Stay, alone, arrival, turns-in, Placed, Stays, AloneClaim, run-after, field-after, IsLeft, LeftClaim, Only31Claim}
 use Rattle.rotation_claims.proofs.Cases.{Seated, join-cases, place-is, was-free, turn-cases, same-run, first-below, held-there, held-else}
 use Rattle.rotation_claims.proofs.Orderly.{orderly}
-use Rattle.rotation_claims.proofs.Admission.{same-started}
+use Rattle.paused_claims.proofs.Standing.{same-run as same-started}
 use Rattle.rotation_claims.proofs.Numbers.{only-over, step-number}
 
 -- ---- a barrel's own turns: each is a step of the run that the last one left, and that run has not ended

@@ -21,7 +21,8 @@ use Rattle.rotation_claims.specs.Admission.{Coming, join-to, start-of, U
 use Rattle.rotation_claims.proofs.Cases.{join-cases, place-is, Served, turn-cases, same-run, first-below, held-there, held-else}
 use Rattle.rotation_claims.proofs.Orderly.{orderly, orderly-turn}
 use Rattle.rotation_claims.proofs.Order.{turn-named, ended-of, turned-waits}
-use Rattle.rotation_claims.proofs.Admission.{same-started, takes}
+use Rattle.paused_claims.proofs.Standing.{same-run as same-started}
+use Rattle.rotation_claims.proofs.Admission.{takes}
 
 -- ---- any unit
 pub any-turn : (u : Rotation) (i : Input) (y : List Float) → AnyTurn u i y
