@@ -1,5 +1,5 @@
 //! Links what `rt staticlib` has written for `exports`, `exports_transposed`, `exports_paused`, `exports_rotation`, `exports_stages`,
-//! `exports_ambient` and, with the feature `bytes`, for those of them that are on bytes too.
+//! `exports_ambient`, `exports_plan` and, with the feature `bytes`, for those of them that are on bytes too.
 
 use std::path::Path;
 
@@ -10,9 +10,9 @@ fn main() {
         Some(_) => &["exports_bytes", "exports_transposed_bytes", "exports_paused_bytes"],
         None => &[],
     };
-    for name in
-        ["exports", "exports_transposed", "exports_paused", "exports_rotation", "exports_stages", "exports_ambient"].iter().chain(on_bytes)
-    {
+    let on_slices =
+        ["exports", "exports_transposed", "exports_paused", "exports_rotation", "exports_stages", "exports_ambient", "exports_plan"];
+    for name in on_slices.iter().chain(on_bytes) {
         let archive = Path::new(folder).join(format!("lib{name}.a"));
         println!("cargo:rerun-if-changed={}", archive.display());
         println!("cargo:rustc-link-lib=static={name}");

@@ -130,6 +130,7 @@ struct Tally {
     transposed: BTreeMap<String, u64>,
     /// Paused runs: what was met.
     paused: BTreeMap<String, u64>,
+    plans: BTreeMap<String, u64>,
     numbers: BTreeMap<(u32, &'static str), u64>,
     paths: BTreeMap<&'static str, u64>,
 }
@@ -159,6 +160,9 @@ impl Tally {
         }
         for (key, hits) in other.paused {
             *self.paused.entry(key).or_default() += hits;
+        }
+        for (key, hits) in other.plans {
+            *self.plans.entry(key).or_default() += hits;
         }
         for (key, hits) in other.numbers {
             *self.numbers.entry(key).or_default() += hits;
@@ -217,6 +221,10 @@ fn run(o: &Options) -> bool {
     for (what, hits) in &t.paused {
         println!("  {what:48} {hits}");
     }
+    println!("plans alone:");
+    for (what, hits) in &t.plans {
+        println!("  {what:48} {hits}");
+    }
     println!("answers of the Rust, by number and call:");
     for ((number, call), hits) in &t.numbers {
         println!("  {number:3} {call:12} {hits}");
@@ -247,7 +255,8 @@ fn one(o: &Options, job: &Job, index: usize, t: &mut Tally) {
     if o.libm && expected.transcribed {
         own_libm(o, job, &expected.answer, t);
     }
-    let differences = compare::library(job, &expected.answer, index).into_iter().chain(matrix(job, t));
+    let differences =
+        compare::library(job, &expected.answer, index).into_iter().chain(matrix(job, t)).chain(plan(o, job, &expected.answer, index, t));
     for difference in differences.collect::<Vec<_>>() {
         t.different += 1;
         show(o, t.different, &difference, job);
@@ -273,6 +282,33 @@ fn paused(o: &Options, index: usize, t: &mut Tally, runs: impl FnOnce(&mut Rando
             println!("job {index}: {difference}");
         }
     }
+}
+
+/// Where the plan alone of a forward Taylor job differs from what the Rust tells, or the job's own answer from what its plan told.
+fn plan(o: &Options, job: &Job, ran: &Answer, index: usize, t: &mut Tally) -> Option<Difference> {
+    if job.lent.is_some() || matches!(job.call, Call::Krylov { .. }) {
+        return None;
+    }
+    let need = job.mass.as_ref().map_or(0, |_| job.vals.len());
+    // As long as needed, longer, short by one, or nothing.
+    let lent = [need, need + 3, need.saturating_sub(1), need, 0][index % 5];
+    let (told, difference) = compare::plan(job, lent, o.cost)?;
+    let number = if told.number == 0 { "plans told".into() } else { format!("plans refused by {}", told.number) };
+    *t.plans.entry(number).or_default() += 1;
+    let functions = if job.call == Call::Batched { job.count as u64 + 1 } else { 1 };
+    let same = match (told.number, ran.number) {
+        (0, 0) => {
+            *t.plans.entry("jobs whose report was told before".into()).or_default() += 1;
+            let [s, m, applications] = told.counts;
+            ran.counts == [s, m, functions * applications] && ran.value.to_bits() == told.value.to_bits()
+        }
+        // What a run is refused by for its vectors, its output and its memory, its plan is not; and the memory of a plan may be short alone.
+        (_, 12 | 13 | 15 | 16 | 17 | 21 | 22 | 26) | (26, 0) => true,
+        (26, _) | (_, 0) => false,
+        (a, b) => a == b && jobs::bits(told.value) == jobs::bits(ran.value),
+    };
+    let apart = || Difference { side: "rattle's plan", parts: vec!["the run's report"], got: told.clone(), expected: ran.clone() };
+    difference.or_else(|| (!same).then(apart))
 }
 
 /// Where the answer to the matrix alone differs; counts the rows named and the ties among them.

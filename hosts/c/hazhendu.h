@@ -2,8 +2,8 @@
  * Hazhendu: heat soak by phi-functions. The exported calls of the proved library for C and C++ on x86-64 Linux.
  *
  * `hosts/library` writes target/staticlib/libhazhendu.a, libhazhendu.so and hazhendu.pc for pkg-config; hosts/c/run shows how to link. Most
- * programs want the calls on structs at the end of this file: hazhendu_check, hazhendu_soak, hazhendu_soak_stages, hazhendu_soak_log,
- * hazhendu_run_start, hazhendu_unit_join, hazhendu_act and their likes.
+ * programs want the calls on structs at the end of this file: hazhendu_check, hazhendu_plan, hazhendu_soak, hazhendu_soak_stages,
+ * hazhendu_soak_log, hazhendu_run_start, hazhendu_unit_join, hazhendu_act and their likes.
  *
  *
  * WHAT IS COMPUTED
@@ -14,6 +14,7 @@
  *   hazhendu_combine (either of the two, as asked):              the sum over k of tau^k phi_k(tau G) w_k, for 1 to 4 vectors w_0, w_1, ...
  *   hazhendu_phi_action:                                         phi_k(tau G) v
  *   hazhendu_phi_action_batched:                                 phi_0(tau G) v, phi_1(tau G) v, ..., phi_p(tau G) v
+ *   hazhendu_taylor_plan:                                        what a Taylor job over this matrix, tau and degree would report, before it is run
  *   hazhendu_check_generator:                                    the norm of G, which is the largest sum of the sizes in a row, and the first row that has it
  *   hazhendu_phi_combination_transposed, hazhendu_phi_combination_krylov_transposed, hazhendu_phi_action_transposed,
  *   hazhendu_phi_action_batched_transposed, hazhendu_check_transposed:
@@ -209,7 +210,7 @@
  *
  * WHAT A CALL CHANGES
  *
- *   accepted           out is the answer; the needed length of work holds +0, the rest is unchanged
+ *   accepted           out is the answer, which a plan has not; the needed length of work holds +0, the rest is unchanged
  *   refused, 1 to 26   out and work are unchanged, and so after 30 to 33
  *   refused, 27 to 29  out is the state after the last accepted substep, the needed length of work holds +0. If no substep was accepted
  *                      (28 or 29 in the first), out is w_0 scaled by a power of two and back: its numbers, but for those so small beside
@@ -263,6 +264,10 @@ enum {
     HAZHENDU_MAX_WINDOW = 1024,
     HAZHENDU_MAX_RUNS = 16
 };
+
+/* The rule of hazhendu_choose: entries and rows together, and applications of a plan, up to which Taylor is taken; the m tried after 28. */
+enum { HAZHENDU_SMALL = 400, HAZHENDU_MILD = 600 };
+#define HAZHENDU_OTHER_M {60, 20, 15}
 
 /* Why a job or a join is refused, and the double reported with it. The checks of a job run in number order, but for 33 directly after 14;
    those of a transposed call are 1 to 6, with a mass 7 to 10, without one 9 and 11, then 30, then 11 for a column (of the transposed
@@ -367,6 +372,12 @@ static inline size_t hazhendu_dimension(size_t n, size_t count, size_t m)
 static inline bool hazhendu_sizes_allowed(size_t n, size_t entries, size_t count)
 {
     return n <= HAZHENDU_MAX_ROWS && entries <= HAZHENDU_MAX_ENTRIES && count >= 1 && count <= HAZHENDU_MAX_VECTORS;
+}
+
+/* For hazhendu_taylor_plan: with a mass a place for each entry. */
+static inline size_t hazhendu_plan_work(size_t entries, bool with_mass)
+{
+    return with_mass && entries <= HAZHENDU_MAX_ENTRIES ? entries : 0;
 }
 
 /* For hazhendu_phi_combination, and for hazhendu_combine by Taylor. */
@@ -513,6 +524,19 @@ uint32_t hazhendu_combine(
     double *out, size_t out_len,
     double *work, size_t work_len,
     double *value, uint64_t *first, uint64_t *second, uint64_t *third, double *shortest, double *last);
+
+/* The plan of a Taylor job alone: s, plan_m, mu and the applications that its run over this matrix, tau and degree would report, by either of
+   hazhendu_phi_combination and hazhendu_phi_action; a batch makes p + 1 times as many applications. It is refused as they are by 1 to 11, 14, 33,
+   24 and 25, and they not otherwise by these; then by 26. work needs hazhendu_plan_work, nothing without a mass. */
+uint32_t hazhendu_taylor_plan(
+    size_t n,
+    const uint32_t *starts, size_t starts_len,
+    const uint32_t *cols, size_t cols_len,
+    const double *vals, size_t vals_len,
+    bool with_mass, const double *mass, size_t mass_len,
+    double tau, uint32_t degree,
+    double *work, size_t work_len,
+    double *value, uint32_t *s, uint32_t *plan_m, uint64_t *applications);
 
 /* ---- a Krylov run that is paused after its start and after each substep */
 
@@ -856,6 +880,28 @@ static inline uint32_t hazhendu_check(const struct hazhendu_matrix *a, double *n
     uint32_t number = hazhendu_check_generator(HAZHENDU_MATRIX(a), norm, row);
     hazhendu_leave(saved);
     return number;
+}
+
+/* The plan of a Taylor soak alone, before it is run: work as hazhendu_plan_work says. */
+static inline uint32_t hazhendu_plan(const struct hazhendu_matrix *a, double tau, uint32_t degree, double *work, size_t work_len,
+    struct hazhendu_report *report)
+{
+    double none = 0;
+    uint32_t saved = hazhendu_enter(), number;
+    *report = hazhendu_no_report();
+    number = hazhendu_taylor_plan(HAZHENDU_MATRIX(a), tau, degree, work ? work : &none, work ? work_len : 0, &report->value, &report->s,
+        &report->plan_m, &report->applications);
+    hazhendu_leave(saved);
+    return number;
+}
+
+/* Which solver to take, by the answer of hazhendu_plan (docs/CHOOSING.md): Taylor for small models and mild ones, else Krylov. Where Krylov is
+   then refused by 28, take another m of HAZHENDU_OTHER_M in turn, then Taylor. */
+static inline struct hazhendu_options hazhendu_choose(const struct hazhendu_matrix *a, uint32_t number, const struct hazhendu_report *plan)
+{
+    bool no_plan = number == HAZHENDU_ARGUMENT_NOT_FINITE || number == HAZHENDU_NO_PLAN;
+    bool small = a->n <= HAZHENDU_SMALL && a->entries <= HAZHENDU_SMALL - a->n, mild = plan->applications <= HAZHENDU_MILD;
+    return no_plan || (number == HAZHENDU_ACCEPTED && !small && !mild) ? hazhendu_by_krylov() : hazhendu_by_taylor();
 }
 
 /* The sum over k of tau^k phi_k(tau G) w_k: w is count * n long, out n. */

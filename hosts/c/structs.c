@@ -209,6 +209,32 @@ static void logged(void)
     expect(told.record == 1 && told.not_a_number && told.results == 0 && told.field_left && shown[0][0] == 7, "what it tells");
 }
 
+/* A plan is what its run reports, and the solver is taken by it. */
+static void plans(void)
+{
+    struct hazhendu_report plan, report;
+    struct hazhendu_options options;
+    const struct hazhendu_matrix bare = {N, ENTRIES, starts, cols, vals, NULL}, many = {HAZHENDU_SMALL, 1, NULL, NULL, NULL, NULL};
+    memset(work, 1, sizeof work);
+    double mark = work[ENTRIES];
+    expect(hazhendu_plan_work(ENTRIES, true) == ENTRIES && hazhendu_plan_work(ENTRIES, false) == 0, "hazhendu_plan_work");
+    expect(hazhendu_plan(&a, 60, 30, work, WORK, &plan) == 0 && plan.applications == (uint64_t)plan.s * plan.plan_m, "hazhendu_plan");
+    expect(work[ENTRIES - 1] == 0 && work[ENTRIES] == mark, "what it clears");
+    options = hazhendu_choose(&a, 0, &plan);
+    expect(!options.krylov && hazhendu_soak(&a, 60, COUNT, w, &options, out, work, WORK, &report) == 0, "a small model by Taylor");
+    expect(memcmp(&plan, &report, sizeof plan) == 0, "a plan is its run's report");
+    expect(hazhendu_plan(&a, 60, 30, work, ENTRIES - 1, &plan) == HAZHENDU_WORK_LENGTH, "memory for the quotients");
+    expect(hazhendu_plan(&bare, 60, 30, NULL, 0, &plan) == 0 && plan.s > 0, "none without a mass");
+    expect(hazhendu_plan(&a, -1, 0, work, WORK, &plan) == HAZHENDU_TAU_RANGE && plan.value == -1 && plan.s == 0, "14 before 33");
+    expect(hazhendu_plan(&a, 60, 31, work, WORK, &plan) == HAZHENDU_DEGREE_RANGE, "33");
+    uint32_t number = hazhendu_plan(&a, 1e12, 30, work, 0, &plan);
+    expect(number == HAZHENDU_NO_PLAN && hazhendu_choose(&a, number, &plan).krylov, "without a plan by Krylov");
+    plan.applications = HAZHENDU_MILD;
+    expect(!hazhendu_choose(&many, 0, &plan).krylov, "a mild one by Taylor");
+    plan.applications++;
+    expect(hazhendu_choose(&many, 0, &plan).krylov && !hazhendu_choose(&many, HAZHENDU_TAU_RANGE, &plan).krylov, "a stiff one by Krylov");
+}
+
 static void others(void)
 {
     struct hazhendu_report report;
@@ -237,6 +263,7 @@ static void in_environment(uint32_t state, const char *what)
     expect(!hazhendu_environment_is_usual(), what);
     expect(hazhendu_soak(&a, 60, COUNT, w, &options, again, work, WORK, &report) == 0 && memcmp(again, usual, sizeof usual) == 0, what);
     others();
+    plans();
     runs();
     rotated();
     staged();
@@ -248,6 +275,7 @@ static void in_environment(uint32_t state, const char *what)
 int main(void)
 {
     soaks();
+    plans();
     runs();
     rotated();
     staged();

@@ -113,6 +113,55 @@ class Soaks(unittest.TestCase):
         self.assertEqual((again.number, str(again)), (27, str(refused)))
 
 
+class Plans(unittest.TestCase):
+    def setUp(self):
+        self.a, self.mass = plate(12)
+        self.n = self.a.shape[0]
+        self.w = [np.cos(np.arange(self.n)), np.ones(self.n)]
+
+    def test_a_plan_is_what_its_run_reports(self):
+        for mass in (None, self.mass):
+            for transposed in (False, True):
+                for tau, degree in ((0.0, 30), (3.0, 30), (40.0, 7)):
+                    plan = hazhendu.plan(self.a, tau, mass, degree=degree, transposed=transposed)
+                    ran = hazhendu.phi_combination(self.a, tau, self.w, mass, degree=degree, transposed=transposed).report
+                    self.assertEqual(plan, ran)
+                    self.assertEqual(plan.applications, plan.s * plan.m)
+        for tau, degree, number in ((-1.0, 0, 14), (1.0, 0, 33), (1e12, 30, 25), (1e308, 30, 24)):
+            with self.assertRaises(hazhendu.Refused) as caught:
+                hazhendu.plan(self.a, tau, self.mass, degree=degree)
+            self.assertEqual(caught.exception.number, number)
+
+    def test_auto_is_the_call_that_it_takes(self):
+        for tau, named in ((0.5, "taylor"), (3000.0, "krylov")):
+            auto = hazhendu.soak(self.a, tau, self.w, self.mass)
+            soaked = hazhendu.soak(self.a, tau, self.w, self.mass, solver=named)
+            np.testing.assert_array_equal(auto.field, soaked.field)
+            self.assertEqual(auto.report, soaked.report)
+            self.assertTrue(auto.chosen[0].startswith(named), auto.chosen)
+            self.assertEqual(soaked.chosen, ())
+        self.assertTrue(hazhendu.soak(self.a, 1e11, [np.zeros(self.n)], self.mass).chosen[0].startswith("krylov with m 40: taylor is refused by 25"))
+        with self.assertRaises(hazhendu.Refused) as caught:
+            hazhendu.soak(self.a, -1.0, self.w, self.mass)
+        self.assertEqual(caught.exception.number, 14)
+        with self.assertRaises(ValueError):
+            hazhendu.soak(self.a, 1.0, self.w, self.mass, solver="euler")
+
+    def test_after_28_another_m(self):
+        """The command's stiff model, with rows beside it that touch nothing."""
+        files = os.path.join(os.path.dirname(os.path.abspath(__file__)), "..", "soak", "cases", "files")
+        numbers = {name: np.loadtxt(os.path.join(files, f"stiff-wide-{name}.txt")).ravel() for name in ("mass", "start", "heating")}
+        a = sparse.csr_matrix(scipy.io.mmread(os.path.join(files, "stiff-wide.mtx.gz")))
+        w = [numbers["start"], numbers["heating"]]
+        with self.assertRaises(hazhendu.Refused) as caught:
+            hazhendu.soak(a, 7200.0, w, numbers["mass"], solver="krylov", m=30, tol=1e-8)
+        self.assertEqual(caught.exception.number, 28)
+        auto = hazhendu.soak(a, 7200.0, w, numbers["mass"], m=30, tol=1e-8)
+        self.assertEqual(auto.chosen[1], "krylov with m 60: krylov with m 30 is refused by 28")
+        other = hazhendu.soak(a, 7200.0, w, numbers["mass"], solver="krylov", m=60, tol=1e-8)
+        np.testing.assert_array_equal(auto.field, other.field)
+
+
 class PausedRuns(unittest.TestCase):
     def setUp(self):
         self.a, self.mass = plate(6)
@@ -367,7 +416,7 @@ class Logs(unittest.TestCase):
         """The field after each record as a soak of its own."""
         field = self.field
         for duration, level in zip(self.durations, self.levels):
-            field = hazhendu.soak(self.a, duration, [field, self.load * level], self.mass).field
+            field = hazhendu.soak(self.a, duration, [field, self.load * level], self.mass, solver="taylor").field
             yield field
 
     def refused(self, durations=None, levels=None, field=None, load=None, window=2, node=7):
@@ -466,7 +515,7 @@ class Refusals(unittest.TestCase):
         self.assertEqual(self.refused(a, 1.0, w, limit=0, **krylov)[0], 19)
         self.assertEqual(self.refused(a, 1.0, w, limit=2**40, **krylov)[0], 20)
         self.assertEqual(self.refused(a, 1.0, w, degree=2**32 + 30)[0], 33)
-        self.assertEqual(self.refused(a, 1e300, w)[0], 25)
+        self.assertEqual(self.refused(a, 1e300, w, solver="taylor")[0], 25)
         with self.assertRaises(hazhendu.Refused) as caught:
             hazhendu.phi_action(a, 1.0, 4, [1.0, 2.0])
         self.assertEqual((caught.exception.number, caught.exception.value_is), (13, "the index"))

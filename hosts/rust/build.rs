@@ -1,10 +1,11 @@
 //! Links the proved code, target/staticlib/libexports.a, libexports_transposed.a, libexports_paused.a, libexports_stages.a,
-//! libexports_ambient.a and libexports_rotation.a; hosts/library writes what is missing or older than its sources.
+//! libexports_ambient.a, libexports_rotation.a and libexports_plan.a; hosts/library writes what is missing or older than its sources.
 
 use std::path::Path;
 use std::process::{exit, Command};
 
-const PROVED: [&str; 6] = ["exports", "exports_transposed", "exports_paused", "exports_stages", "exports_ambient", "exports_rotation"];
+const PROVED: [&str; 7] =
+    ["exports", "exports_transposed", "exports_paused", "exports_stages", "exports_ambient", "exports_rotation", "exports_plan"];
 
 fn main() {
     let root = Path::new(env!("CARGO_MANIFEST_DIR")).join("../..");

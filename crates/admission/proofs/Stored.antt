@@ -9,7 +9,7 @@ use lib.ListN.{length, replicate, length-replicate}
 use lib.Ieee.{Float}
 use Rattle.lists.specs.Window.{window, splice}
 use Rattle.lists.specs.Frame.{Kept}
-use Rattle.lists.proofs.Window.{length-splice, window-splice-same, splice-cover}
+use Rattle.lists.proofs.Window.{length-splice, window-splice-same}
 use Rattle.lists.proofs.Frame.{Wrote, wrote, untouched, kept-all, kept-by, kept-on, kept-wider}
 use Rattle.doubles.specs.F64.{+0}
 use Rattle.general_operator.specs.Csr.{Csr, csr, Valid}
@@ -57,13 +57,6 @@ module _ (n : ℕ) (starts cols : List ℕ) (vals : List Float) (b : Bool) (mass
           → csr n starts cols (values t q vals (splice q (stored (csr n starts cols vals) (given t mass)) w₀)) ≡ quotients (csr n starts cols vals) (given t mass)
       go true h = ap (csr n starts cols) (window-splice-same q (length vals) _ w₀ (length-normalise (csr n starts cols vals) mass) (h refl))
       go false h = refl
-
--- what was written into the needed part is cleared with it
-pub clear-over : (need p : ℕ) (y w₀ : List Float) {w₁ : List Float} → w₁ ≡ splice p y w₀ → p + length y ≤ need → cleared need w₁ ≡ cleared need w₀
-unfolding cleared
-clear-over need p y w₀ e h =
-    let l = length-replicate need +0 in
-    ap (splice 0 (replicate need +0)) e ∙ splice-cover 0 p (replicate need +0) y w₀ (omega arith) (omega arith)
 
 -- a job in the memory w₀: its generator passed, and what it stores is last of what the job needs
 pub record Held (starts cols : List ℕ) (vals mass : List Float) (g : Shape) (d need : ℕ) (l : Layout) (w₀ : List Float) : Type 0 where

@@ -35,7 +35,7 @@ pub struct Schedule {
     pub m: u32,
 }
 
-fn check_schedule(m_max: u32, norm: f64, tau: f64) -> Schedule
+pub fn check_schedule(m_max: u32, norm: f64, tau: f64) -> Schedule
     ensures { λ r. ⌜ r ≡ schedule «m_max» norm tau ⌝ }
 {
     let arg = phi_shift::argument(tau, norm);

@@ -20,9 +20,9 @@ use Rattle.lists.proofs.Window.{length-window, splice-snoc}
 use Rattle.doubles.specs.F64.{at}
 use Rattle.generator_action.specs.Generator.{Generator}
 use Rattle.combination.specs.Call.{Call, ends}
-use Rattle.phi_action.specs.declared.TaylorAnswer.{TaylorAnswer}
-use Rattle.phi_action.specs.declared.TaylorAnswer.the-variants as taylor
-use Rattle.phi_action.specs.declared.TaylorReport.{TaylorReport}
+use Rattle.taylor_job.specs.declared.TaylorAnswer.{TaylorAnswer}
+use Rattle.taylor_job.specs.declared.TaylorAnswer.the-variants as taylor
+use Rattle.taylor_job.specs.declared.TaylorReport.{TaylorReport}
 use Rattle.ambient_record.specs.Record.{record-call}
 use Rattle.ambient_checks.specs.Log.{Log}
 use Rattle.ambient_checks.specs.Inner.{field-of}
@@ -67,11 +67,11 @@ module _ (node i : ℕ) (o t : List Float) {a : TaylorAnswer} where
   unfolding turn-at settle results-of
   refused-turn e = (λ memory. rw (e, one-less i) refl, (omega arith, λ t₀ h. rw (one-less i) h))
 
-  pub nan-turn : {r : TaylorReport} → a ≡ taylor.Soaked r → true ≡ isNan (at o node) → Settled node i a o t (NotANumber (i + 1)) t × Shown i (NotANumber (i + 1)) t t
+  pub nan-turn : {r : TaylorReport} → a ≡ taylor.Result r → true ≡ isNan (at o node) → Settled node i a o t (NotANumber (i + 1)) t × Shown i (NotANumber (i + 1)) t t
   unfolding turn-at settle shown results-of
   nan-turn e n = (λ memory. rw (e, ← n, one-less i) refl, (omega arith, λ t₀ h. rw (one-less i) h))
 
-  pub shown-turn : {r : TaylorReport} → a ≡ taylor.Soaked r → false ≡ isNan (at o node) → i < length t → Settled node i a o t Logged (set t i (at o node)) × Shown i Logged t (set t i (at o node))
+  pub shown-turn : {r : TaylorReport} → a ≡ taylor.Result r → false ≡ isNan (at o node) → i < length t → Settled node i a o t Logged (set t i (at o node)) × Shown i Logged t (set t i (at o node))
   unfolding turn-at settle shown results-of
   shown-turn e n l = (λ memory. rw (e, ← n, shown-more i t (at o node) l) refl, (omega arith, λ t₀ h. grown i t t₀ (at o node) l h))
 

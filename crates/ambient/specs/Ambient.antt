@@ -15,8 +15,8 @@ use Rattle.checks.specs.declared.Checked.{Checked}
 use Rattle.checks.specs.declared.Checked.the-variants.{Sound, Refused}
 use Rattle.generator_action.specs.Generator.{Generator}
 use Rattle.combination.specs.Call.{Call, ends}
-use Rattle.phi_action.specs.declared.TaylorAnswer.{TaylorAnswer}
-use Rattle.phi_action.specs.declared.TaylorAnswer.the-variants as taylor
+use Rattle.taylor_job.specs.declared.TaylorAnswer.{TaylorAnswer}
+use Rattle.taylor_job.specs.declared.TaylorAnswer.the-variants as taylor
 use Rattle.ambient_record.specs.Record.{record-call, open-Record}
 use Rattle.ambient_checks.specs.Log.{Log, records-of, Places, field-checks, log-checks, open-Log}
 use Rattle.ambient.specs.declared.AmbientAnswer.{AmbientAnswer}
@@ -46,7 +46,7 @@ shown false i t c temperatures = on (record { field = c .output; output = c .out
 -- a refusal ends it with the field before that record, or with nothing changed at the first
 unfoldable pub settle : ℕ → ℕ → List Float → Call TaylorAnswer → TaylorAnswer → Turn Progress Ended
 settle node i temperatures c (taylor.Refusal k x) = out (ended (Refusal k x (i + 1)) (c .output) (c .memory) temperatures)
-settle node i temperatures c (taylor.Soaked r) = shown (isNan (at (c .output) node)) i (at (c .output) node) c temperatures
+settle node i temperatures c (taylor.Result r) = shown (isNan (at (c .output) node)) i (at (c .output) node) c temperatures
 
 -- record i + 1
 unfoldable pub record-step : Generator → Log → List Float → ℕ → ℕ → Progress → Turn Progress Ended

@@ -2,7 +2,7 @@
 use checks::Checked;
 use generator_action::MatrixAnswer;
 use generator_action::Shape;
-use phi_action::TaylorAnswer;
+use taylor_job::TaylorAnswer;
 ghost use mathlib.Core.Path.{_≡_};
 ghost use mathlib.Core.List.{List};
 ghost use Prim.Native.Nat.{_+_, _-_, _≤_, _<_};
@@ -43,7 +43,7 @@ fn settle(
     let record = i as u32 + 1;
     match answer {
         TaylorAnswer::Refusal(k, x) => AmbientAnswer::Refusal(k, x, record),
-        TaylorAnswer::Soaked(_) => {
+        TaylorAnswer::Result(_) => {
             let t = out[node];
             if t != t {
                 return AmbientAnswer::NotANumber(record);
@@ -146,7 +146,7 @@ pub fn ambient(
 ) -> AmbientAnswer
     ensures { λ r. ⌜ logging r (now (out .exit)) (now (work .exit)) (now (temperatures .exit)) (now (largest .exit)) (now (smallest .exit)) ≡ ambient (forward (csr n (now (starts .entry)) (now (cols .entry)) (now (vals .entry))) (given «with_mass» (now (mass .entry)))) (log-of (now (durations .entry)) (now (levels .entry))) (now (field .entry)) (now (load .entry)) window node (now (out .entry)) (now (work .entry)) (results (now (temperatures .entry)) (now (largest .entry)) (now (smallest .entry))) ⌝ }
 {
-    let matrix = generator_action::check_generator(n, starts, cols, vals, with_mass, mass);
+    let matrix = generator_checks::check_generator(n, starts, cols, vals, with_mass, mass);
     let MatrixAnswer::Norm(norm, _) = matrix else {
         return AmbientAnswer::Refusal(
             generator_action::number(matrix),

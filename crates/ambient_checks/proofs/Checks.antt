@@ -12,6 +12,7 @@ use Rattle.checks.specs.declared.Checked.the-variants.{Sound}
 use Rattle.checks.proofs.First.{sound-cons, sound-append}
 use Rattle.general_operator.proofs.Sound.{or-false}
 use Rattle.combination.specs.Checks.{length-checks}
+use Rattle.lists.proofs.Tests.{above-0}
 use Rattle.ambient_checks.specs.Log.{Log, records-of, Places, field-checks, log-checks}
 
 -- ---- 15 to 17
@@ -34,10 +35,6 @@ fields-known n field load output e =
     }
 
 -- ---- 38 to 40
-above-0 : (k : ℕ) → (k ≡ 0 → ⊥) → 1 ≤ k
-above-0 zero h = absurd (h refl)
-above-0 (suc k) h = omega arith
-
 pub record Logged (n : ℕ) (log : Log) (W node : ℕ) (r : Places) : Type 0 where
   pub wide : 1 ≤ W
   pub narrow : W ≤ 1024

@@ -17,7 +17,7 @@ use Rattle.ambient_checks.specs.Log.{Log}
 use Rattle.ambient.specs.declared.AmbientAnswer.{AmbientAnswer}
 use Rattle.ambient.specs.declared.AmbientAnswer.the-variants.{Refusal}
 use Rattle.ambient.specs.Ambient.{ambient-checks, ended, Results, places-of, Logging, written, unless-log-refused, ambient}
-use Rattle.ambient_record.proofs.OneRecord.{clear-more}
+use Rattle.combination.proofs.Cleared.{cleared-less}
 use Rattle.ambient_claims.specs.Ran.{record-need, Ran, NanAt, RefusedAt}
 use Rattle.ambient_claims.proofs.Answers.{whole, refused-at}
 
@@ -29,7 +29,7 @@ module _ (g : Generator) (log : Log) (start load : List Float) (node : ℕ) (out
   memory-ran (suc i) f o m xs r =
       r .memory-is
       ∙ ap (cleared (record-need g)) (memory-ran i (r .field) (r .out) (r .lent) (r .shown) (r .earlier))
-      ∙ clear-more (record-need g) (record-need g) memory (omega arith)
+      ∙ cleared-less (record-need g) (record-need g) memory (omega arith)
 
   -- and after a NaN temperature
   pub memory-nan : (i : ℕ) (o m xs : List Float) → NanAt g log start load node output memory i o m xs → m ≡ cleared (record-need g) memory
@@ -38,7 +38,7 @@ module _ (g : Generator) (log : Log) (start load : List Float) (node : ℕ) (out
   memory-nan (suc i) o m xs c =
       c .memory-is
       ∙ ap (cleared (record-need g)) (memory-ran i (c .field) (c .out) (c .lent) xs (c .ran))
-      ∙ clear-more (record-need g) (record-need g) memory (omega arith)
+      ∙ cleared-less (record-need g) (record-need g) memory (omega arith)
 
   -- a record that ran had room, and so has every later one
   pub room-ran : (i : ℕ) (f o m xs : List Float) → Ran g log start load node output memory (suc i) f o m xs → record-need g ≤ length m

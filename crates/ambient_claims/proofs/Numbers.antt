@@ -23,7 +23,7 @@ use Rattle.generator_action.specs.Generator.{Generator, forward}
 use Rattle.combination.specs.Combination.{further, eta-of}
 use Rattle.combination.specs.Call.{ends}
 use Rattle.combination.specs.Checks.{count-checks, time-checks, degree-checks, plan-checks, length-checks, finite-checks, magnitude-checks, schedule-checks, memory-checks, vector-checks-by, vector-checks, sweep-checks, taylor-need}
-use Rattle.phi_action.specs.Calls.{combination-checks}
+use Rattle.taylor_job.specs.Calls.{combination-checks}
 use Rattle.demand_3.proofs.Never23.{InRange, combination-no-number}
 use Rattle.ambient_checks.specs.Log.{Log, records-of, Places, field-checks, log-checks}
 use Rattle.ambient_checks.proofs.Checks.{Logged, log-known}

@@ -13,9 +13,9 @@ use Rattle.checks.specs.declared.Checked.{Checked}
 use Rattle.checks.specs.declared.Checked.the-variants.{Sound, Refused}
 use Rattle.generator_action.specs.Generator.{Generator}
 use Rattle.combination.specs.Call.{Call, ends, cleared}
-use Rattle.phi_action.specs.Calls.{combination-checks}
-use Rattle.phi_action.specs.declared.TaylorAnswer.{TaylorAnswer}
-use Rattle.phi_action.specs.declared.TaylorAnswer.the-variants as taylor
+use Rattle.taylor_job.specs.Calls.{combination-checks}
+use Rattle.taylor_job.specs.declared.TaylorAnswer.{TaylorAnswer}
+use Rattle.taylor_job.specs.declared.TaylorAnswer.the-variants as taylor
 use Rattle.ambient_checks.specs.Log.{Log}
 use Rattle.ambient.specs.declared.AmbientAnswer.the-variants.{Refusal, NotANumber}
 use Rattle.ambient.specs.Ambient.{Progress, Ended, ended, shown, settle, record-step, begun}
@@ -55,7 +55,7 @@ module _ (g : Generator) (log : Log) (start load : List Float) (node : ℕ) (out
   gave-settled : (i : ℕ) (xs o m : List Float) (a : TaylorAnswer) → Gave a → settle node i xs (ends a o m) a ≡ shown (isNan (at o node)) i (at o node) (ends a o m) xs
   unfolding settle
   gave-settled i xs o m (taylor.Refusal k x) h = absurd h
-  gave-settled i xs o m (taylor.Soaked r) h = refl
+  gave-settled i xs o m (taylor.Result r) h = refl
 
   pub outcome : (i : ℕ) (p : Progress) → Outcome i p
   unfolding settle shown

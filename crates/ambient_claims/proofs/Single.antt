@@ -23,9 +23,9 @@ use Rattle.combination.specs.Combination.{further, eta-of, combination-operator
 use Rattle.combination.specs.Call.{Call, ends, unless-refused, cleared}
 use Rattle.combination.specs.Checks.{plan-checks, vector-checks, magnitude-checks, schedule-checks, memory-checks, sweep-checks, taylor-need}
 use Rattle.admission.proofs.Admitted.{sweeps-known}
-use Rattle.phi_action.specs.Calls.{Fields, after-plan, soaked, combination-checks, combination-run, phi-combination}
-use Rattle.phi_action.specs.declared.TaylorAnswer.{TaylorAnswer}
-use Rattle.phi_action.specs.declared.TaylorAnswer.the-variants as taylor
+use Rattle.taylor_job.specs.Calls.{Fields, after-plan, swept-fields, combination-checks, combination-run, phi-combination}
+use Rattle.taylor_job.specs.declared.TaylorAnswer.{TaylorAnswer}
+use Rattle.taylor_job.specs.declared.TaylorAnswer.the-variants as taylor
 use Rattle.ambient_record.specs.Record.{wider, record-call}
 use Rattle.ambient_record.proofs.OneRecord.{checks-wider}
 use Rattle.ambient_claims.specs.Ran.{Gave, record-need}
@@ -107,7 +107,7 @@ module _ (g : Generator) (tau level : Float) (f load o m : List Float) where
       let P = plan-of (length m - n) e in
       let l = room-of (length m - n) e in
       let q = g .matrix in
-      let run = soaked (combination-operator q (further n w) tau 1 (eta-of n (further n w) tau 1 .eta)) tau (combination-start n w 1 (eta-of n (further n w) tau 1 .inv)) in
+      let run = swept-fields (combination-operator q (further n w) tau 1 (eta-of n (further n w) tau 1 .eta)) tau (combination-start n w 1 (eta-of n (further n w) tau 1 .inv)) in
       let x = passed-run (sweep-plan 30 tau q (row-sum-norm q)) (P .plan) run (row-sum-norm q) (taylor-need n 1 (g .stored)) (taylor-need n 1 (g .stored + n)) (P .is) in
       let s : single ≡ combination-run g tau 30 1 w (further n w) o m = ap (λ (r : Checked). unless-refused taylor.Refusal r o m (combination-run g tau 30 1 w (further n w) o m)) (sym (other-room (length m - n) (length m) e (omega (arith, l)))) in
       record {

@@ -11,15 +11,15 @@ use Rattle.checks.specs.First.{first}
 use Rattle.checks.specs.declared.Checked.the-variants.{Refused}
 use Rattle.generator_action.specs.Generator.{Generator}
 use Rattle.combination.specs.Call.{Call, cleared}
-use Rattle.phi_action.specs.Calls.{combination-checks, phi-combination}
-use Rattle.phi_action.specs.declared.TaylorAnswer.{TaylorAnswer}
-use Rattle.phi_action.specs.declared.TaylorAnswer.the-variants.{Refusal, Soaked}
+use Rattle.taylor_job.specs.Calls.{combination-checks, phi-combination}
+use Rattle.taylor_job.specs.declared.TaylorAnswer.{TaylorAnswer}
+use Rattle.taylor_job.specs.declared.TaylorAnswer.the-variants.{Refusal, Result}
 use Rattle.ambient_checks.specs.Log.{Log, records-of}
 
 -- a call that gave a result
 abbrev pub Gave : TaylorAnswer → Type 0
 Gave (Refusal k x) = ⊥
-Gave (Soaked r) = Unit {0}
+Gave (Result r) = Unit {0}
 
 -- what a record needs of the working memory: n doubles more than its combination
 abbrev pub record-need : Generator → ℕ

@@ -35,12 +35,13 @@ use Rattle.admission.specs.declared.Job.{Job}
 use Rattle.admission.proofs.Admitted.{coupled-in, sweeps-known, length-start}
 use Rattle.combination.proofs.Ends.{refused-by, runs}
 use Rattle.combination.proofs.Further.{further-behind, start-of}
-use Rattle.admission.proofs.Stored.{clear-over, quotients-rows}
-use Rattle.phi_action.specs.Calls.{Fields, after-plan, report, soaked, combination-checks, combination-run, phi-combination}
-use Rattle.phi_action.specs.Inner.{Allowed, plan-by, operator-by, job-end}
-use Rattle.phi_action.specs.declared.TaylorAnswer.{TaylorAnswer}
-use Rattle.phi_action.specs.declared.TaylorAnswer.the-variants as taylor
-use Rattle.phi_action.proofs.Jobs.{planned}
+use Rattle.combination.proofs.Cleared.{clear-over, cleared-less}
+use Rattle.admission.proofs.Stored.{quotients-rows}
+use Rattle.taylor_job.specs.Calls.{Fields, after-plan, report, swept-fields, combination-checks, combination-run, phi-combination}
+use Rattle.taylor_job.specs.Inner.{Allowed, plan-by, operator-by, job-end}
+use Rattle.taylor_job.specs.declared.TaylorAnswer.{TaylorAnswer}
+use Rattle.taylor_job.specs.declared.TaylorAnswer.the-variants as taylor
+use Rattle.taylor_job.proofs.Jobs.{planned}
 use Rattle.ambient_checks.specs.Inner.{early-checks, record-job}
 use Rattle.ambient_record.specs.Record.{wider, record-call}
 use Rattle.ambient_record.specs.Inner.{record-end}
@@ -49,11 +50,6 @@ pub spliced-long : (p : ℕ) (xs w₀ : List Float) {w₁ : List Float} → w₁
 spliced-long p xs w₀ e = ap length e ∙ length-splice p xs w₀
 
 -- ---- n doubles more
--- what was cleared is cleared with more
-pub clear-more : (need more : ℕ) (w : List Float) → need ≤ more → cleared more (cleared need w) ≡ cleared more w
-unfolding cleared
-clear-more need more w h = clear-over more 0 (replicate need +0) w {w₁ = cleared need w} refl (omega (arith, length-replicate need +0))
-
 -- a job that clears n doubles more than its combination needed
 pub ended-wider : (j : Job) (q : Csr) (run : SweepPlan → Fields) (w₀ w₂ : List Float) {x : TaylorAnswer} {out₁ w₃ : List Float}
     → ends x out₁ (cleared (j .need) w₂) ≡ job-end j q run w₀
@@ -63,9 +59,9 @@ ended-wider j q run w₀ w₂ {x} {out₁} {w₃} e e₃ =
     let more = j .need + j .g .n in
     let m =
     e₃
-    ∙ sym (clear-more (j .need) more w₂ (omega arith))
+    ∙ sym (cleared-less (j .need) more w₂ (omega arith))
     ∙ ap (λ (c : Call TaylorAnswer). cleared more (c .memory)) e
-    ∙ clear-more (j .need) more w₀ (omega arith) in
+    ∙ cleared-less (j .need) more w₀ (omega arith) in
     λ i. ends (e i .answer) (e i .output) (m i)
 
 -- 26 with n doubles more, and 26 of n doubles less
@@ -195,7 +191,7 @@ module _
       pub record-is : {c : Call TaylorAnswer} {w₁ out₁ : List Float}
           → w₁ ≡ splice 0 (combination-start (g .n) v 1 (j .inv)) w₀
           → out₁ ≡ f
-          → c ≡ record-end j (matrix-of (j .g) starts cols vals mass) (soaked (operator-by j (matrix-of (j .g) starts cols vals mass) out₁) (j .tau) (window 0 (j .g .n + j .d) w₁)) w₁
+          → c ≡ record-end j (matrix-of (j .g) starts cols vals mass) (swept-fields (operator-by j (matrix-of (j .g) starts cols vals mass) out₁) (j .tau) (window 0 (j .g .n + j .d) w₁)) w₁
           → c ≡ record-call (after-checks gs a m g) tau level v load out w₀
       unfolding record-call phi-combination combination-run combination-operator
       record-is {c} {w₁} {out₁} e₁ eo h =
@@ -204,7 +200,7 @@ module _
           let y = combination-start (g .n) v 1 (J .inv) in
           let more = J .need + g .n in
           let p = plan-by J q in
-          let run = soaked (operator-by J q f) tau in
+          let run = swept-fields (operator-by J q f) tau in
           let start : w₁ ≡ splice 0 y w₀ = rw ej at e₁ in
           let ran : c ≡ record-end J q (run (window 0 (g .n + 1) w₁)) w₁ = rw (ej, eo) at h in
           let ly = length-start (g .n) v 1 (J .inv) (omega (arith, lv)) in

@@ -6,9 +6,9 @@ use Rattle.general_operator.specs.Csr.{Csr}
 use Rattle.combination.specs.Call.{Call, ends, cleared}
 use Rattle.admission.specs.declared.Job.{Job}
 use Rattle.phi_action_helpers.specs.declared.SweepPlan.{SweepPlan}
-use Rattle.phi_action.specs.Calls.{Fields, report}
-use Rattle.phi_action.specs.Inner.{plan-by}
-use Rattle.phi_action.specs.declared.TaylorAnswer.{TaylorAnswer}
+use Rattle.taylor_job.specs.Calls.{Fields, report}
+use Rattle.taylor_job.specs.Inner.{plan-by}
+use Rattle.taylor_job.specs.declared.TaylorAnswer.{TaylorAnswer}
 
 -- how a record that passed ends: n doubles more than its combination needed are cleared
 abbrev pub record-end : Job → Csr → (SweepPlan → Fields) → List Float → Call TaylorAnswer

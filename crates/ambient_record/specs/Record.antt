@@ -6,8 +6,8 @@ use Rattle.vectors.specs.Vectors.{scale}
 use Rattle.generator_action.specs.Generator.{Generator}
 use Rattle.expmv.specs.Select.{M-MAX}
 use Rattle.combination.specs.Call.{Call}
-use Rattle.phi_action.specs.Calls.{phi-combination, open-Calls}
-use Rattle.phi_action.specs.declared.TaylorAnswer.{TaylorAnswer}
+use Rattle.taylor_job.specs.Calls.{phi-combination, open-Calls}
+use Rattle.taylor_job.specs.declared.TaylorAnswer.{TaylorAnswer}
 
 -- n doubles more of working memory
 abbrev pub wider : Generator → Generator

@@ -2,8 +2,8 @@
 use admission::Job;
 use checks::Checked;
 use generator_action::Shape;
-use phi_action::TaylorAnswer;
 use phi_action_helpers::SweepArgs;
+use taylor_job::TaylorAnswer;
 ghost use mathlib.Core.Path.{_≡_};
 ghost use mathlib.Core.List.{List};
 ghost use Prim.Native.Nat.{_+_, _≤_};
@@ -16,8 +16,8 @@ ghost use Rattle.generator_action.specs.Mass.{given};
 ghost use Rattle.generator_action.specs.Known.{Passed};
 ghost use Rattle.combination.specs.Call.{ends};
 ghost use Rattle.admission.specs.Inner.{Coupled, matrix-of, after-checks};
-ghost use Rattle.phi_action.specs.Calls.{soaked};
-ghost use Rattle.phi_action.specs.Inner.{operator-by, Allowed};
+ghost use Rattle.taylor_job.specs.Calls.{swept-fields};
+ghost use Rattle.taylor_job.specs.Inner.{operator-by, Allowed};
 ghost use Rattle.ambient_checks.specs.Inner.{field-of};
 ghost use Rattle.ambient_record.specs.Record.{record-call};
 ghost use Rattle.ambient_record.specs.Inner.{record-end};
@@ -34,13 +34,13 @@ fn run_record(
 ) -> TaylorAnswer
     requires { ⌜ Allowed (now starts) (now cols) (now vals) (now mass) (now work) j ⌝ }
     requires { ⌜ Coupled (j .b) (j .g .n) (j .d) (length (now out)) × (length (now out) ≡ j .g .n) × (j .need + j .g .n ≤ length (now work)) ⌝ }
-    ensures { λ r. ⌜ ends r (now (out .exit)) (now (work .exit)) ≡ record-end j (matrix-of (j .g) (now (starts .entry)) (now (cols .entry)) (now (vals .entry)) (now (mass .entry))) (soaked (operator-by j (matrix-of (j .g) (now (starts .entry)) (now (cols .entry)) (now (vals .entry)) (now (mass .entry))) (now (out .entry))) (j .tau) (window 0 (j .g .n + j .d) (now (work .entry)))) (now (work .entry)) ⌝ }
+    ensures { λ r. ⌜ ends r (now (out .exit)) (now (work .exit)) ≡ record-end j (matrix-of (j .g) (now (starts .entry)) (now (cols .entry)) (now (vals .entry)) (now (mass .entry))) (swept-fields (operator-by j (matrix-of (j .g) (now (starts .entry)) (now (cols .entry)) (now (vals .entry)) (now (mass .entry))) (now (out .entry))) (j .tau) (window 0 (j .g .n + j .d) (now (work .entry)))) (now (work .entry)) ⌝ }
 {
     let g = j.g;
-    let l = phi_action::layout(g.n, j.d, g.with_mass);
+    let l = taylor_job::layout(g.n, j.d, g.with_mass);
     let b = j.b;
     let n = l.n;
-    let p = phi_action::prepare(starts, cols, vals, mass, work, j);
+    let p = taylor_job::prepare(starts, cols, vals, mass, work, j);
     let x = SweepArgs {
         l: l,
         b: b,
@@ -49,7 +49,7 @@ fn run_record(
     };
     let applied = phi_action_helpers::run_sweeps(starts, cols, vals, out, work, x);
     vectors::copy_from(out, 0, work, 0, n);
-    phi_action::finish(work, j.need + g.n, p, applied)
+    taylor_job::finish(work, j.need + g.n, p, applied)
 }
 
 // A record: its checks, then its run. The field is the first one or the output's.

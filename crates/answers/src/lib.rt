@@ -1,16 +1,16 @@
 // Answers as the numbers that an exported function hands back, and solvers from the numbers handed in.
 use generator_action::MatrixAnswer;
-use join::JoinAnswer;
+use join_checks::JoinAnswer;
 use krylov_job::KrylovAnswer;
 use krylov_job::KrylovPhiOptions;
-use phi_action::TaylorAnswer;
-use phi_krylov::PhiAnswer;
-use phi_krylov::PhiSolver;
+use phi_solver::PhiAnswer;
+use phi_solver::PhiSolver;
+use taylor_job::TaylorAnswer;
 ghost use mathlib.Core.Path.{_≡_};
 ghost use Rattle.answers.specs.Told.{numbers, matrix-numbers, join-numbers, taylor-numbers, krylov-numbers, phi-numbers, run-numbers, options, solver};
 
 // The result is 0 or the refusal's number; `value` is the norm or the refusal's double.
-pub fn tell_matrix(answer: MatrixAnswer, value: &mut f64, row: &mut usize) -> u32
+pub fn matrix_numbers(answer: MatrixAnswer, value: &mut f64, row: &mut usize) -> u32
     ensures { λ r. ⌜ numbers r (now (value .exit)) (now (row .exit)) 0 0 ≡ matrix-numbers answer ⌝ }
 {
     match answer {
@@ -28,7 +28,7 @@ pub fn tell_matrix(answer: MatrixAnswer, value: &mut f64, row: &mut usize) -> u3
 }
 
 // The result is 0 or the refusal's number; `value` is 0 or the refusal's double.
-pub fn tell_join(answer: JoinAnswer, value: &mut f64, entries: &mut usize) -> u32
+pub fn join_numbers(answer: JoinAnswer, value: &mut f64, entries: &mut usize) -> u32
     ensures { λ r. ⌜ numbers r (now (value .exit)) (now (entries .exit)) 0 0 ≡ join-numbers answer ⌝ }
 {
     match answer {
@@ -46,7 +46,7 @@ pub fn tell_join(answer: JoinAnswer, value: &mut f64, entries: &mut usize) -> u3
 }
 
 // The result is 0 or the refusal's number; `value` is mu or the refusal's double.
-pub fn tell_taylor(
+pub fn taylor_numbers(
     answer: TaylorAnswer,
     value: &mut f64,
     s: &mut u32,
@@ -63,7 +63,7 @@ pub fn tell_taylor(
             *applications = 0;
             k
         }
-        TaylorAnswer::Soaked(report) => {
+        TaylorAnswer::Result(report) => {
             *value = report.mu;
             *s = report.s;
             *m = report.m;
@@ -74,7 +74,7 @@ pub fn tell_taylor(
 }
 
 // The result is 0 or the refusal's number; `value` is the estimate or the refusal's double. A refusal has the counts and steps 0.
-pub fn tell_krylov(
+pub fn krylov_numbers(
     answer: KrylovAnswer,
     value: &mut f64,
     substeps: &mut usize,
@@ -95,7 +95,7 @@ pub fn tell_krylov(
             *last = 0.0;
             k
         }
-        KrylovAnswer::Soaked(report) => {
+        KrylovAnswer::Result(report) => {
             *value = report.est_error;
             *substeps = report.substeps;
             *matvecs = report.matvecs;
@@ -108,7 +108,7 @@ pub fn tell_krylov(
 }
 
 // The result is 0 or the refusal's number; `value` and the counts are told as of the evaluator used.
-pub fn tell_phi(
+pub fn phi_numbers(
     answer: PhiAnswer,
     value: &mut f64,
     first: &mut u64,

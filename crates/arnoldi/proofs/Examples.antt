@@ -18,12 +18,12 @@ moves m = record { operator = augmented (csr 1 (0 ∷ 0 ∷ []) [] []) 1 (1f ∷
 
 -- two columns span the whole space, so nothing is left of the second product
 spans : arnoldi (moves 2) (+0 ∷ nat 2 ∷ []) (nat 2)
-    ≡ breakdown (record { columns = record { v = (+0 ∷ 1f ∷ []) ∷ (1f ∷ +0 ∷ []) ∷ []; h = set (replicate 16 +0) 4 1f; applied = 2 }; mb = 2; hn = +0 })
+    ≡ breakdown (record { columns = record { v = (+0 ∷ 1f ∷ []) ∷ (1f ∷ +0 ∷ []) ∷ []; h = set (replicate 16 +0) 1 1f; applied = 2 }; mb = 2; hn = +0 })
 unfolding open-Basis
 spans = refl
 
 -- with M = 1 the second product is the last one
 stops : arnoldi (moves 1) (+0 ∷ nat 2 ∷ []) (nat 2)
-    ≡ full (record { v = (+0 ∷ 1f ∷ []) ∷ (1f ∷ +0 ∷ []) ∷ []; h = set (set (replicate 9 +0) 3 1f) 7 1f; applied = 2 }) +0
+    ≡ full (record { v = (+0 ∷ 1f ∷ []) ∷ (1f ∷ +0 ∷ []) ∷ []; h = set (set (replicate 9 +0) 1 1f) 5 1f; applied = 2 }) +0
 unfolding open-Basis
 stops = refl

@@ -14,6 +14,7 @@ use Rattle.lists.proofs.Bounds.{column-within, cell-within}
 use Rattle.lists.proofs.Window.{length-window, length-splice, window-splice-after, window-splice-same, splice-splice, splice-window, set-splice-after, set-splice-in}
 use Rattle.vectors.specs.Vectors.{axpy}
 use Rattle.dot.specs.Dot.{dot}
+use Rattle.hess_product.specs.HessProduct.{place}
 use Rattle.vectors.proofs.Laws.{length-axpy}
 use Rattle.arnoldi.specs.Basis.{Rest, lessen, orthogonal}
 use Rattle.arnoldi.specs.Memory.{column, rest-at}
@@ -34,7 +35,7 @@ module _ (v : ℕ → List Float) (dim j : ℕ) where
   orthogonal-ext u (suc i) r e =
       let s = orthogonal-ext u i r (λ k l. e k (omega arith)) in
       let d = e i (omega arith) in
-      λ t. record { z = axpy (neg (dot (s t .z) (d t))) (d t) (s t .z); h = set (s t .h) (i * dim + j) (dot (s t .z) (d t)) }
+      λ t. record { z = axpy (neg (dot (s t .z) (d t))) (d t) (s t .z); h = set (s t .h) (place dim i j) (dot (s t .z) (d t)) }
 
   pub orthogonal-long : (i n : ℕ) (r : Rest) → length (r .z) ≡ n → ((k : ℕ) → k < i → length (v k) ≡ n) → length (orthogonal v dim j i r .z) ≡ n
   unfolding orthogonal iter lessen
@@ -49,7 +50,7 @@ module _ (v : ℕ → List Float) (dim j : ℕ) where
   orthogonal-h-long zero r = refl
   orthogonal-h-long (suc i) r =
       let s = orthogonal v dim j i r in
-      length-set (s .h) (i * dim + j) (dot (s .z) (v i)) ∙ orthogonal-h-long i r
+      length-set (s .h) (place dim i j) (dot (s .z) (v i)) ∙ orthogonal-h-long i r
 
 pub column-is : (n : ℕ) (w : List Float) (k : ℕ) → window (k * n) n w ≡ column n w k
 unfolding column
@@ -67,7 +68,7 @@ began n q r dim j w = sym (rw (orthogonal-none, splice-window r (dim * dim) w) (
 pub turn : (n q r dim j i : ℕ) (w₀ s s₂ : List Float) (c : Float) → j * n + n ≤ q → q + n ≤ r → r + dim * dim ≤ length w₀ → j < dim → i < j + 1
     → (let R = orthogonal (column n w₀) dim j i (rest-at n q r dim w₀) in s ≡ splice q (R .z) (splice r (R .h) w₀))
     → c ≡ dot (window q n s) (window (i * n) n s)
-    → s₂ ≡ splice q (axpy (neg c) (window (i * n) n (set s (r + (i * dim + j)) c)) (window q n (set s (r + (i * dim + j)) c))) (set s (r + (i * dim + j)) c)
+    → s₂ ≡ splice q (axpy (neg c) (window (i * n) n (set s (r + place dim i j) c)) (window q n (set s (r + place dim i j) c))) (set s (r + place dim i j) c)
     → (let R = orthogonal (column n w₀) dim j (i + 1) (rest-at n q r dim w₀) in s₂ ≡ splice q (R .z) (splice r (R .h) w₀))
 unfolding lessen
 turn n q r dim j i w₀ s s₂ c a b d jd l es ec e₂ =
@@ -76,11 +77,11 @@ turn n q r dim j i w₀ s s₂ c a b d jd l es ec e₂ =
     let R = orthogonal v dim j i f in
     let u = R .z in
     let g = dot u (v i) in
-    let k = i * dim + j in
+    let k = place dim i j in
     let x = splice r (R .h) w₀ in
     let x₁ = splice r (set (R .h) k g) w₀ in
     let cj : i * n + n ≤ j * n + n = omega (arith, column-within i (j + 1) n l) in
-    let cd : k < dim * dim = cell-within i dim dim j (omega arith) jd in
+    let cd : k < dim * dim = cell-within j dim dim i jd (omega arith) in
     let lx : length x ≡ length w₀ = length-splice r (R .h) w₀ in
     let lx₁ : length x₁ ≡ length w₀ = length-splice r (set (R .h) k g) w₀ in
     let lh : length (R .h) ≡ dim * dim = orthogonal-h-long v dim j i f ∙ length-window r (dim * dim) w₀ d in

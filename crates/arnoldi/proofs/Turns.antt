@@ -8,6 +8,7 @@ use native.Mathlib.Numerals.{add-one}
 use native.Mathlib.Omega.{arith}
 use lib.ListN.{length, getD, set, take, drop}
 use lib.Ieee.{Float}
+use Rattle.hess_product.specs.HessProduct.{place}
 use Rattle.lists.specs.Bounds.{Disjoint}
 use Rattle.lists.specs.Loop.{tabulate}
 use Rattle.lists.specs.Window.{window, splice}
@@ -125,14 +126,14 @@ module _ (l : Layout) (b : Coupling) (k : Krylov) (starts cols : List ℕ) (vals
       }
 
   -- the corrector's entry of h is stored
-  pub cornered : {v x : ℕ} (w : List Float) → Room l b k (matrix-at l starts cols vals w) v x (length w) → Spared l k w (set w (k .h + ((k .m + 1) * (k .m + 2) + k .m)) 1f)
+  pub cornered : {v x : ℕ} (w : List Float) → Room l b k (matrix-at l starts cols vals w) v x (length w) → Spared l k w (set w (k .h + place (k .m + 2) (k .m + 1) (k .m)) 1f)
   cornered w r =
-      let cell = cell-within (k .m + 1) (k .m + 2) (k .m + 2) (k .m) (omega arith) (omega arith) in
+      let cell = cell-within (k .m) (k .m + 2) (k .m + 2) (k .m + 1) (omega arith) (omega arith) in
       spared-by (spared-all w) (wrote-set w _ 1f) (omega arith) (omega arith)
 
   -- and then the last product made
   pub ended : {v x : ℕ} (w₀ w₁ : List Float) (avnorm : Float) → Room l b k (matrix-at l starts cols vals w₀) v x (length w₀)
-      → (let u = set w₀ (k .h + ((k .m + 1) * (k .m + 2) + k .m)) 1f in
+      → (let u = set w₀ (k .h + place (k .m + 2) (k .m + 1) (k .m)) 1f in
       w₁ ≡ splice (l .w) (apply (setting-at l b k (matrix-at l starts cols vals u) vectors) (column (l .n + l .d) u (k .m))) (splice (l .av) (apply-generator (matrix-at l starts cols vals u) (window (k .m * (l .n + l .d)) (l .n) u)) u))
       → avnorm ≡ norm2 (take (l .w + (l .n + l .d) - l .w) (drop (l .w) w₁))
       → Ended l k (setting-at l b k (matrix-at l starts cols vals w₀) vectors) w₀ w₁ avnorm
@@ -140,8 +141,8 @@ module _ (l : Layout) (b : Coupling) (k : Krylov) (starts cols : List ℕ) (vals
   ended w₀ w₁ avnorm r e₁ ea =
       let m = l .n + l .d in
       let dim = k .m + 2 in
-      let e = (k .m + 1) * dim + k .m in
-      let cell : e < dim * dim = cell-within (k .m + 1) dim dim (k .m) (omega arith) (omega arith) in
+      let e = place dim (k .m + 1) (k .m) in
+      let cell : e < dim * dim = cell-within (k .m) dim dim (k .m + 1) (omega arith) (omega arith) in
       let u = set w₀ (k .h + e) 1f in
       let t₀ = wrote-set w₀ (k .h + e) 1f in
       let l₀ = wrote-long t₀ in
@@ -180,7 +181,7 @@ module _ (l : Layout) (b : Coupling) (k : Krylov) (q : Csr) (vectors : List Floa
   -- one more column
   pub at-column : {v x : ℕ} (w₂ : List Float) → Room l b k q v x (length w₀) → j < k .m → Rested l k (setting-at l b k q vectors) j w₀ w₁ → hn ≡ norm2 (take (l .w + (l .n + l .d) - l .w) (drop (l .w) w₁))
       → c ≡ broken (setting-at l b k q vectors) beta j hn → c ≡ false
-      → w₂ ≡ splice ((j + 1) * (l .n + l .d)) (scale (1f ⊘ hn) (window (l .w) (l .n + l .d) w₁)) (set w₁ (k .h + ((j + 1) * (k .m + 2) + j)) hn)
+      → w₂ ≡ splice ((j + 1) * (l .n + l .d)) (scale (1f ⊘ hn) (window (l .w) (l .n + l .d) w₁)) (set w₁ (k .h + place (k .m + 2) (j + 1) j) hn)
       → (grown-at l k (j + 1) (On (a + 1)) w₂ ≡ arnoldi-step (setting-at l b k q vectors) beta j (columns-at l k (j + 1) a w₀)) × Spared l k w₀ w₂
   unfolding grown-at arnoldi-step extend column
   at-column w₂ r g t eh ec el e₂ =
@@ -188,8 +189,8 @@ module _ (l : Layout) (b : Coupling) (k : Krylov) (q : Csr) (vectors : List Floa
       let dim = k .m + 2 in
       let R = rest (setting-at l b k q vectors) j (columns-at l k (j + 1) 0 w₀) in
       let h : hn ≡ norm2 (R .z) = rw (part-window (l .w) m w₁, t .z-is) at eh in
-      let e = (j + 1) * dim + j in
-      let cell : e < dim * dim = cell-within (j + 1) dim dim j (omega arith) (omega arith) in
+      let e = place dim (j + 1) j in
+      let cell : e < dim * dim = cell-within j dim dim (j + 1) (omega arith) (omega arith) in
       let next = column-within (j + 1) (k .m + 1) m (omega arith) in
       let l₁ = t .spared .kept .long in
       let t₁ = wrote-set w₁ (k .h + e) hn in

@@ -11,6 +11,7 @@ use Rattle.doubles.specs.F64.{_⊗_, _⊘_, _⩽_, bits, +0, 1f, maxNum}
 use Rattle.sqrt.specs.Sqrt.{sqrt, open-Sqrt}
 use Rattle.vectors.specs.Vectors.{axpy, scale, open-Vectors}
 use Rattle.dot.specs.Dot.{dot, open-Dot}
+use Rattle.hess_product.specs.HessProduct.{place}
 use Rattle.phi_action_helpers.specs.Augmented.{Augmented, aug-matvec, open-Augmented}
 
 -- `norm2`
@@ -29,7 +30,7 @@ pub record Setting : Type 0 where
   pub tol : Float
   pub m : ℕ
 
--- how many values a field has, and how long a row of the small matrix is
+-- how many values a field has, and how long a column of the small matrix is
 abbrev pub len : Setting → ℕ
 len p = p .operator .matrix .n + p .operator .d
 
@@ -55,7 +56,7 @@ pub record Rest : Type 0 where
 unfoldable pub lessen : (ℕ → List Float) → ℕ → ℕ → ℕ → Rest → Rest
 lessen v dim j i r =
     let c = dot (r .z) (v i) in
-    record { z = axpy (neg c) (v i) (r .z); h = set (r .h) (i * dim + j) c }
+    record { z = axpy (neg c) (v i) (r .z); h = set (r .h) (place dim i j) c }
 
 -- the product of column j less its parts along columns 0 to j: one pass of modified Gram-Schmidt
 unfoldable pub orthogonal : (ℕ → List Float) → ℕ → ℕ → ℕ → Rest → Rest
@@ -78,7 +79,7 @@ broken p beta j hn = hn ⩽ BREAKDOWN ⊗ maxNum (p .anorm) 1f && (eqb (j + 1) (
 unfoldable pub extend : Setting → ℕ → Columns → Rest → Float → Bool → Turn Columns Breakdown
 extend p j b r hn true = out (record { columns = record { v = b .v; h = r .h; applied = suc (b .applied) }; mb = j + 1; hn = hn })
 extend p j b r hn false =
-    on (record { v = b .v ++ (scale (1f ⊘ hn) (r .z) ∷ []); h = set (r .h) ((j + 1) * dim p + j) hn; applied = suc (b .applied) })
+    on (record { v = b .v ++ (scale (1f ⊘ hn) (r .z) ∷ []); h = set (r .h) (place (dim p) (j + 1) j) hn; applied = suc (b .applied) })
 
 unfoldable pub arnoldi-step : Setting → Float → ℕ → Columns → Turn Columns Breakdown
 arnoldi-step p beta j b =
@@ -95,7 +96,7 @@ pub data Basis : Type 0 where
 unfoldable pub close : Setting → Turn Columns Breakdown → Basis
 close p (out b) = breakdown b
 close p (on b) =
-    full (record { v = b .v; h = set (b .h) ((p .m + 1) * dim p + p .m) 1f; applied = suc (b .applied) }) (norm2 (apply p (getD (b .v) (p .m) [])))
+    full (record { v = b .v; h = set (b .h) (place (dim p) (p .m + 1) (p .m)) 1f; applied = suc (b .applied) }) (norm2 (apply p (getD (b .v) (p .m) [])))
 
 unfoldable pub first-column : Setting → List Float → Float → Columns
 first-column p y beta = record { v = scale (1f ⊘ beta) y ∷ []; h = replicate (dim p * dim p) +0; applied = 0 }

@@ -9,6 +9,7 @@ use Rattle.lists.specs.Loop.{tabulate}
 use Rattle.lists.specs.Walk.{Turn, on, out}
 use Rattle.lists.specs.Window.{window, splice}
 use Rattle.doubles.specs.F64.{+0, 1f}
+use Rattle.hess_product.specs.HessProduct.{place}
 use Rattle.general_operator.specs.Csr.{Csr}
 use Rattle.phi_action_helpers.specs.declared.Layout.{Layout}
 use Rattle.phi_action_helpers.specs.declared.Coupling.{Coupling}
@@ -85,6 +86,6 @@ pub record Rested (l : Layout) (k : Krylov) (p : Setting) (j : ℕ) (w₀ w : Li
 -- the last product is made
 pub record Ended (l : Layout) (k : Krylov) (p : Setting) (w₀ w : List Float) (avnorm : Float) : Type 0 where
   pub v-is : tabulate (k .m + 1) (column (l .n + l .d) w) ≡ tabulate (k .m + 1) (column (l .n + l .d) w₀)
-  pub h-is : window (k .h) ((k .m + 2) * (k .m + 2)) w ≡ set (window (k .h) ((k .m + 2) * (k .m + 2)) w₀) ((k .m + 1) * (k .m + 2) + k .m) 1f
+  pub h-is : window (k .h) ((k .m + 2) * (k .m + 2)) w ≡ set (window (k .h) ((k .m + 2) * (k .m + 2)) w₀) (place (k .m + 2) (k .m + 1) (k .m)) 1f
   pub avnorm-is : avnorm ≡ norm2 (apply p (column (l .n + l .d) w₀ (k .m)))
   pub spared : Spared l k w₀ w

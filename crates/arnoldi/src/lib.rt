@@ -8,6 +8,7 @@ ghost use Rattle.lists.specs.Walk.{on, walk};
 ghost use Rattle.lists.specs.Window.{window, splice};
 ghost use Rattle.doubles.specs.F64.{_⊘_, +0, 1f};
 ghost use Rattle.vectors.specs.Vectors.{scale};
+ghost use Rattle.hess_product.specs.HessProduct.{place};
 ghost use Rattle.general_operator.specs.Csr.{csr, apply-generator};
 ghost use Rattle.phi_action_helpers.specs.Laid.{matrix-at};
 ghost use Rattle.phi_action_helpers.specs.declared.Coupling.{Coupling};
@@ -21,7 +22,7 @@ use phi_action_helpers::Scales;
 const BREAKDOWN: f64 = 1e-12;
 
 // A run's memory and what stays the same during it: M + 1 columns of n + d values from place 0, the product from the Layout's w,
-// the small matrix of (M + 2) squared from h, the field of n + d from y, then the Layout's av and q.
+// the small matrix of (M + 2) squared from h, column by column, the field of n + d from y, then the Layout's av and q.
 pub struct Krylov {
     pub m: usize,
     pub h: usize,
@@ -90,7 +91,7 @@ fn orthogonal(work: &mut [f64], z_at: usize, h_at: usize, dim: usize, len: usize
     let mut c = dot::dot(&s[z_at..z_end], &s[0..len]);
     for i in 0..j {
         let at = i * len;
-        let e = i * dim + j;
+        let e = j * dim + i;
         work[h_at + e] = c;
         c = dot::axpy_dot_in(work, z_at, at, at + len, len, -c);
     }
@@ -139,10 +140,10 @@ fn push(work: &mut [f64], z_at: usize, h_at: usize, dim: usize, len: usize, j: u
     requires { ⌜ «z_at» + len ≤ «h_at» ⌝ }
     requires { ⌜ «h_at» + dim * dim ≤ length (now work) ⌝ }
     requires { ⌜ j + 1 < dim ⌝ }
-    ensures { λ _. ⌜ now (work .exit) ≡ splice ((j + 1) * len) (scale (1f ⊘ hn) (window «z_at» len (now (work .entry)))) (set (now (work .entry)) («h_at» + ((j + 1) * dim + j)) hn) ⌝ }
+    ensures { λ _. ⌜ now (work .exit) ≡ splice ((j + 1) * len) (scale (1f ⊘ hn) (window «z_at» len (now (work .entry)))) (set (now (work .entry)) («h_at» + place dim (j + 1) j) hn) ⌝ }
 {
     let c = j + 1;
-    let e = c * dim + j;
+    let e = j * dim + c;
     work[h_at + e] = hn;
     vectors::scaled_in(work, c * len, z_at, len, 1.0 / hn);
 }
@@ -234,7 +235,7 @@ fn end(
     let m = k.m;
     let z = l.w;
     let end = z + (l.n + l.d);
-    work[k.h + ((m + 1) * (m + 2) + m)] = 1.0;
+    work[k.h + (m * (m + 2) + (m + 1))] = 1.0;
     apply_in(starts, cols, vals, vectors, work, l, b, k, m);
     norm2(&work[z..end])
 }

@@ -16,14 +16,11 @@ use Rattle.checks.proofs.First.{passes, stops, not-ne}
 use Rattle.general_operator.specs.Csr.{Csr, csr}
 use Rattle.general_operator.specs.Checks.{wrong-rows, wrong-entries, shape-checks, row-checks, entry-checks, matrix-checks}
 use Rattle.generator_action.specs.Mass.{Mass, mass-checks, sum-checks, norm-checks, bound-checks, generator-checks}
+use Rattle.lists.proofs.Tests.{or-true}
 use Rattle.byte_arrays.proofs.Alike.{Alike, stopped, in-front, behind}
 use Rattle.byte_arrays.proofs.Cuts.{Both, both-on, Refuses}
 
 -- ---- lengths that no matrix of 64 rows has
-or-true : (b : Bool) → (b || true) ≡ true
-or-true true = refl
-or-true false = refl
-
 wrong : (n l : ℕ) → n ≤ 64 → 512 ≤ l → wrong-rows n l ≡ true
 unfolding wrong-rows
 wrong n l few h = ap (λ (t : Bool). eqb n 0 || t) (not-ne {a = l} {b = n + 1} (λ e. absurd (omega (arith, few, h, e)))) ∙ or-true (eqb n 0)

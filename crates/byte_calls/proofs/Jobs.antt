@@ -20,11 +20,11 @@ use Rattle.generator_action.specs.Generator.{Generator}
 use Rattle.combination.specs.Call.{Call, ends, unless-refused}
 use Rattle.combination.specs.Combination.{further, eta-of}
 use Rattle.combination.specs.Checks.{count-checks, index-checks, time-checks, degree-checks, plan-checks, length-checks, finite-checks, schedule-checks, memory-checks, taylor-need, vector-checks-by, vector-checks, sweep-checks, job-checks}
-use Rattle.phi_action.specs.Calls.{combination-checks, action-checks, phi-combination, phi-action, phi-action-batched}
-use Rattle.phi_action.specs.declared.TaylorAnswer.the-variants as taylor
+use Rattle.taylor_job.specs.Calls.{combination-checks, action-checks, phi-combination, phi-action, phi-action-batched}
+use Rattle.taylor_job.specs.declared.TaylorAnswer.the-variants as taylor
 use Rattle.krylov_job.specs.KrylovCall.{bound, dimension, option-checks, run-checks, krylov-need, krylov-checks-by, krylov-checks, phi-combination-krylov}
 use Rattle.krylov_job.specs.declared.KrylovAnswer.the-variants as krylov
-use Rattle.phi_krylov.specs.Combine.{answering}
+use Rattle.phi_solver.specs.Combine.{answering}
 use Rattle.answers.specs.Told.{Numbers, numbers, taylor-numbers, krylov-numbers, options}
 use Rattle.byte_arrays.proofs.Parts.{Part, Columns}
 use Rattle.byte_arrays.proofs.Cuts.{Refuses, Recut, Uncut, job-cut}

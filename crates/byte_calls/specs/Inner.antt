@@ -4,9 +4,9 @@ use Prim.Native.Nat.{ℕ}
 use lib.Ieee.{Float}
 use Rattle.generator_action.specs.Generator.{Generator}
 use Rattle.combination.specs.Call.{Call}
-use Rattle.phi_action.specs.Calls.{phi-combination, phi-action, phi-action-batched}
+use Rattle.taylor_job.specs.Calls.{phi-combination, phi-action, phi-action-batched}
 use Rattle.krylov_job.specs.KrylovCall.{phi-combination-krylov}
-use Rattle.phi_krylov.specs.Combine.{answering}
+use Rattle.phi_solver.specs.Combine.{answering}
 use Rattle.answers.specs.Told.{Numbers, numbers, run-numbers, taylor-numbers, krylov-numbers, options}
 use Rattle.byte_calls.specs.declared.Told.{Told}
 use Rattle.byte_calls.specs.declared.PhiCall.{PhiCall}

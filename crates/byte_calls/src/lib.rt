@@ -1,6 +1,6 @@
 // The four calls as one, for the exports on bytes: which call, and what it tells by value.
 use krylov_job::KrylovAnswer;
-use phi_action::TaylorAnswer;
+use taylor_job::TaylorAnswer;
 ghost use mathlib.Core.Path.{_≡_};
 ghost use Rattle.answers.specs.Told.{numbers, run-numbers, taylor-numbers, krylov-numbers};
 ghost use Rattle.byte_arrays.specs.Inner.{lengths-told};
@@ -75,7 +75,7 @@ pub fn of_taylor(answer: TaylorAnswer) -> Told
 {
     match answer {
         TaylorAnswer::Refusal(k, x) => told_taylor(k, x, 0, 0, 0),
-        TaylorAnswer::Soaked(r) => told_taylor(0, r.mu, r.s, r.m, r.applications),
+        TaylorAnswer::Result(r) => told_taylor(0, r.mu, r.s, r.m, r.applications),
     }
 }
 
@@ -84,7 +84,7 @@ pub fn of_krylov(answer: KrylovAnswer) -> Told
 {
     match answer {
         KrylovAnswer::Refusal(k, x) => told_krylov(k, x, 0, 0, 0, 0.0, 0.0),
-        KrylovAnswer::Soaked(r) => told_krylov(
+        KrylovAnswer::Result(r) => told_krylov(
             0,
             r.est_error,
             r.substeps,
@@ -105,7 +105,7 @@ pub fn reported(t: Told, starts: usize, mass: usize, out: usize, v: usize) -> To
     r
 }
 
-pub fn tell_taylor(
+pub fn taylor_numbers(
     t: Told,
     value: &mut f64,
     s: &mut u32,
@@ -121,7 +121,7 @@ pub fn tell_taylor(
     t.number
 }
 
-pub fn tell_krylov(
+pub fn krylov_numbers(
     t: Told,
     value: &mut f64,
     substeps: &mut usize,

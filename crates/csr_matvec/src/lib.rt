@@ -7,17 +7,24 @@ ghost use Rattle.lists.specs.Bounds.{Disjoint, Apart};
 ghost use Rattle.general_operator.specs.Csr.{csr, Valid, row-product, apply-generator};
 ghost use Rattle.csr_matvec.specs.Values.{values, Stored};
 
-// One row: the entries from `from` up to `to`.
+// One row: the entries from `from` up to `to`, two a turn.
 pub fn row_product(cols: &[u32], vals: &[f64], x: &[f64], from: usize, to: usize) -> f64
     requires { ⌜ (from ≤ to) × ((to ≤ length (now cols)) × (to ≤ length (now vals))) ⌝ }
     requires { ⌜ ((k : ℕ) → k < length (now cols) → getD (now cols) k 0 < length (now x)) ⌝ }
     ensures { λ r. ⌜ r ≡ row-product (now (cols .entry)) (now (vals .entry)) (now (x .entry)) from to ⌝ }
 {
     let mut s = 0.0;
-    let count = to - from;
-    for j in 0..count {
-        let c = cols[from + j] as usize;
-        s = s + vals[from + j] * x[c];
+    let mut k = from;
+    while 2 <= to - k {
+        let c = cols[k] as usize;
+        let d = cols[k + 1] as usize;
+        s = s + vals[k] * x[c];
+        s = s + vals[k + 1] * x[d];
+        k = k + 2;
+    }
+    if k < to {
+        let c = cols[k] as usize;
+        return -(s + vals[k] * x[c]);
     }
     -s
 }
@@ -29,10 +36,11 @@ pub fn csr_matvec(starts: &[u32], cols: &[u32], vals: &[f64], src: &[f64], dst: 
     ensures { λ _. ⌜ now (dst .exit) ≡ apply-generator (csr (length (now (dst .entry))) (now (starts .entry)) (now (cols .entry)) (now (vals .entry))) (now (src .entry)) ⌝ }
 {
     let n = dst.len();
+    let mut from = starts[0] as usize;
     for i in 0..n {
-        let from = starts[i] as usize;
         let to = starts[i + 1] as usize;
         dst[i] = row_product(cols, vals, src, from, to);
+        from = to;
     }
 }
 
@@ -53,11 +61,12 @@ fn matvec_in(
     ensures { λ _. ⌜ now (work .exit) ≡ splice «dst_at» (apply-generator (csr n (now (starts .entry)) (now (cols .entry)) (now (vals .entry))) (window «src_at» n (now (work .entry)))) (now (work .entry)) ⌝ }
 {
     let src_end = src_at + n;
+    let mut from = starts[0] as usize;
     for i in 0..n {
-        let from = starts[i] as usize;
         let to = starts[i + 1] as usize;
         let s = row_product(cols, vals, &work[src_at..src_end], from, to);
         work[dst_at + i] = s;
+        from = to;
     }
 }
 
@@ -80,12 +89,13 @@ fn quotients_in(
 {
     let q_end = q_at + count;
     let src_end = src_at + n;
+    let mut from = starts[0] as usize;
     for i in 0..n {
-        let from = starts[i] as usize;
         let to = starts[i + 1] as usize;
         let w = &work[..];
         let s = row_product(cols, &w[q_at..q_end], &w[src_at..src_end], from, to);
         work[dst_at + i] = s;
+        from = to;
     }
 }
 

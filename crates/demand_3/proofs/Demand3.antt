@@ -37,7 +37,7 @@ use Rattle.phi_krylov_arnoldi.specs.declared.KrylovPhiReport.{KrylovPhiReport}
 use Rattle.krylov_job.specs.KrylovCall.{bound, dimension, option-checks, bound-checks, run-checks, krylov-need, krylov-checks-by, krylov-checks, after-run, combination-run-krylov, phi-combination-krylov}
 use Rattle.krylov_job.specs.declared.KrylovPhiOptions.{KrylovPhiOptions}
 use Rattle.krylov_job.specs.declared.KrylovAnswer.{KrylovAnswer}
-use Rattle.krylov_job.specs.declared.KrylovAnswer.the-variants.{Refusal, Soaked}
+use Rattle.krylov_job.specs.declared.KrylovAnswer.the-variants.{Refusal, Result}
 use Rattle.demand_3.specs.Krylov.{Zeros, KrylovCost, AtLimit, Exactly27}
 use Rattle.demand_3.specs.Demand3.{start-of, krylov-run, clamped, OneProduct, Demand3}
 use Rattle.demand_3.proofs.Start.{vectors-finite, start-finite}
@@ -94,17 +94,17 @@ module _
       omega (arith, n)
 
   -- ---- a result is that of a job that no check refuses, and of a run that finished
-  accepted : (c : Checked) (e : End) (need : ℕ) {r : KrylovPhiReport} → unless-refused Refusal c output memory (after-run n need memory e) .answer ≡ Soaked r
+  accepted : (c : Checked) (e : End) (need : ℕ) {r : KrylovPhiReport} → unless-refused Refusal c output memory (after-run n need memory e) .answer ≡ Result r
       → (Sound ≡ c) × ((s : State) × ((e ≡ finished s) × (s .report ≡ r) × (window 0 n (s .y) ≡ unless-refused Refusal c output memory (after-run n need memory e) .output)))
   unfolding unless-refused after-run
   accepted Sound (finished s) need f = (refl, (s, (refl, same f, refl)))
     where
-      same : {x y : KrylovPhiReport} → Soaked x ≡ Soaked y → x ≡ y
+      same : {x y : KrylovPhiReport} → Result x ≡ Result y → x ≡ y
       same g = cc
   accepted Sound (refused k x s) need f = let z : zero ≡ 1 = cc in absurd (omega (arith, z))
   accepted (Refused k x) e need f = let z : zero ≡ 1 = cc in absurd (omega (arith, z))
 
-  pub krylov-cost : {r : KrylovPhiReport} → call .answer ≡ Soaked r → KrylovCost n M (o .«max_substeps») (start-of g tau count w) (call .output) (krylov-run g tau count w o) r
+  pub krylov-cost : {r : KrylovPhiReport} → call .answer ≡ Result r → KrylovCost n M (o .«max_substeps») (start-of g tau count w) (call .output) (krylov-run g tau count w o) r
   unfolding combination-run-krylov phi-combination-krylov
   krylov-cost {r} e =
       let h = accepted (first checks) _ _ e in
@@ -205,12 +205,12 @@ module _
   unfolding combination-run-krylov phi-combination-krylov
   krylov-no-33 x e = refused-by-none 33 (λ y. not-by 33 checks low-33) (λ k l m n. absurd (omega (arith, m, n))) (first checks) _ _ refl (λ r z s. expv-late _ tau _ (o .tol) (o .m) (o .«max_substeps») (start-of g tau count w)) e
 
-  pub zeros-idle : Sound ≡ first checks → Zeros (start-of g tau count w) → call .answer ≡ Soaked (record { matvecs = 0; substeps = 0; rejected = 0; «est_error» = +0; shortest = +0; last = +0 })
+  pub zeros-idle : Sound ≡ first checks → Zeros (start-of g tau count w) → call .answer ≡ Result (record { matvecs = 0; substeps = 0; rejected = 0; «est_error» = +0; shortest = +0; last = +0 })
   unfolding combination-run-krylov phi-combination-krylov unless-refused after-run idle
   zeros-idle e z = rw (← e, expv-idle _ tau _ (o .tol) (o .m) (o .«max_substeps») (start-of g tau count w) z) refl
 
   -- M as it is clamped
-  pub krylov-claim : {r : KrylovPhiReport} → call .answer ≡ Soaked r → KrylovCost n (clamped (o .m) (n + (count - 1))) (o .«max_substeps») (start-of g tau count w) (call .output) (krylov-run g tau count w o) r
+  pub krylov-claim : {r : KrylovPhiReport} → call .answer ≡ Result r → KrylovCost n (clamped (o .m) (n + (count - 1))) (o .«max_substeps») (start-of g tau count w) (call .output) (krylov-run g tau count w o) r
   unfolding dimension clamp-m
   krylov-claim e = krylov-cost e
 

@@ -20,7 +20,7 @@ use Rattle.transpose.proofs.Passed.{transposed-norm-in-range}
 use Rattle.combination.specs.Combination.{further, eta-of}
 use Rattle.combination.specs.Checks.{out-of-range, count-checks, index-checks, time-checks, degree-checks, plan-checks, length-checks, finite-checks, magnitude-checks, schedule-checks, memory-checks, vector-checks-by, vector-checks, sweep-checks, job-checks, taylor-need}
 use Rattle.combination.proofs.Range.{in-range, no-23}
-use Rattle.phi_action.specs.Calls.{combination-checks, action-checks}
+use Rattle.taylor_job.specs.Calls.{combination-checks, action-checks}
 use Rattle.krylov_job.specs.KrylovCall.{bound, dimension, option-checks, bound-checks, run-checks, krylov-need, krylov-checks-by, krylov-checks}
 use Rattle.krylov_job.specs.declared.KrylovPhiOptions.{KrylovPhiOptions}
 

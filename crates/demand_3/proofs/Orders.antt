@@ -8,7 +8,7 @@ use Rattle.checks.specs.First.{Check}
 use Rattle.general_operator.specs.Csr.{Csr}
 use Rattle.generator_action.specs.Generator.{forward}
 use Rattle.transpose.specs.Transpose.{Lent, transposed, open-Transpose}
-use Rattle.phi_action.specs.Calls.{combination-checks, action-checks, open-Calls}
+use Rattle.taylor_job.specs.Calls.{combination-checks, action-checks, open-Calls}
 use Rattle.krylov_job.specs.declared.KrylovPhiOptions.{KrylovPhiOptions}
 use Rattle.krylov_job.specs.KrylovCall.{krylov-checks, open-KrylovCall}
 

@@ -15,7 +15,7 @@ use Rattle.phi_action_helpers.specs.Augmented.{Augmented}
 use Rattle.phi_action_helpers.specs.Sweeps.{shifted, rescale, Horner, horner-step, aug-horner-outer, Swept, sweep, run-sweeps}
 use Rattle.phi_action_helpers.specs.declared.SweepPlan.{SweepPlan}
 use Rattle.combination.specs.Combination.{init-aug-vector}
-use Rattle.phi_action.specs.Calls.{Fields, soaked, batch-step, batched}
+use Rattle.taylor_job.specs.Calls.{Fields, swept-fields, batch-step, batched}
 use Rattle.phi_batch.proofs.Batch.{soak-counted, batch-counted}
 use Rattle.demand_3.specs.Products.{term, swept, field-at, products}
 
@@ -58,10 +58,10 @@ module _ (b : Augmented) (tau : Float) (p : SweepPlan) where
   all-counted : (runs : ℕ) (start : ℕ → List Float) → length (stack runs (λ i. products b tau p (start i))) ≡ runs * (p .s * p .m)
   all-counted runs start = length-stack runs (p .s * p .m) _ (λ i. products-counted b tau p (start i))
 
-  pub one-made : (y : List Float) → Made b tau 1 (λ _. y) p (soaked b tau y p)
-  unfolding soaked stack
+  pub one-made : (y : List Float) → Made b tau 1 (λ _. y) p (swept-fields b tau y p)
+  unfolding swept-fields stack
   one-made y =
-      let c : soaked b tau y p .applied ≡ 1 * (p .s * p .m) = soak-counted b tau y p ∙ sym (one-mul _) in
+      let c : swept-fields b tau y p .applied ≡ 1 * (p .s * p .m) = soak-counted b tau y p ∙ sym (one-mul _) in
       record { applications = c ∙ sym (all-counted 1 (λ _. y)); counted = c; fields = ap (window 0 (b .matrix .n)) (run-made b tau p y) }
 
   module _ (v : List Float) (inv : Float) where
@@ -69,7 +69,7 @@ module _ (b : Augmented) (tau : Float) (p : SweepPlan) where
     start k = init-aug-vector (b .matrix .n) v inv k
 
     batch-fields : (k : ℕ) → batched b tau v inv k p .fields ≡ stack k (λ i. window 0 (b .matrix .n) (field-at b tau p (start i) (p .s)))
-    unfolding batched batch-step soaked iter stack
+    unfolding batched batch-step swept-fields iter stack
     batch-fields zero = refl
     batch-fields (suc k) =
         ap (λ (l : List Float). l ++ window 0 (b .matrix .n) (run-sweeps b tau p (start k) .y)) (batch-fields k)

@@ -39,20 +39,20 @@ use Rattle.phi_shift.proofs.Chosen.{plan-chosen, plan-bounded, chosen-least}
 use Rattle.combination.specs.Call.{Call, unless-refused}
 use Rattle.combination.specs.Combination.{further, eta-of, combination-operator, action-operator}
 use Rattle.combination.specs.Checks.{no-row, out-of-range, count-checks, index-checks, time-checks, degree-checks, plan-checks, length-checks, not-finite-at, finite-checks, magnitude-checks, schedule-checks, memory-checks, vector-checks-by, vector-checks, sweep-checks, job-checks, taylor-need}
-use Rattle.phi_action.specs.declared.TaylorReport.{TaylorReport}
-use Rattle.phi_action.specs.declared.TaylorAnswer.{TaylorAnswer}
-use Rattle.phi_action.specs.declared.TaylorAnswer.the-variants.{Refusal, Soaked}
-use Rattle.phi_action.specs.Calls.{Fields, after-plan, combination-checks, combination-run, phi-combination, action-checks, phi-action, phi-action-batched}
+use Rattle.taylor_job.specs.declared.TaylorReport.{TaylorReport}
+use Rattle.taylor_job.specs.declared.TaylorAnswer.{TaylorAnswer}
+use Rattle.taylor_job.specs.declared.TaylorAnswer.the-variants.{Refusal, Result}
+use Rattle.taylor_job.specs.Calls.{Fields, after-plan, combination-checks, combination-run, phi-combination, action-checks, phi-action, phi-action-batched}
 use Rattle.demand_3.specs.Taylor.{norm-of, row-fits, TaylorCost, NoRowFits, Exactly25, DegreeRefused, Exactly33, ValueRefused, Exactly17, TaylorClaim}
 use Rattle.demand_3.specs.Demand3.{start-of, operator-of, action-start, action-of}
 use Rattle.demand_3.proofs.Products.{Made, one-made, batch-made}
 
-reported : {a b : TaylorReport} → Soaked a ≡ Soaked b → a ≡ b
+reported : {a b : TaylorReport} → Result a ≡ Result b → a ≡ b
 reported e = cc
 
 -- an accepted answer, and its output, are those of a job whose checks all passed
-accepted : (x : Checked) (output memory : List Float) (end : Call TaylorAnswer) {r : TaylorReport} → unless-refused Refusal x output memory end .answer ≡ Soaked r
-    → (end .answer ≡ Soaked r) × (end .output ≡ unless-refused Refusal x output memory end .output)
+accepted : (x : Checked) (output memory : List Float) (end : Call TaylorAnswer) {r : TaylorReport} → unless-refused Refusal x output memory end .answer ≡ Result r
+    → (end .answer ≡ Result r) × (end .output ≡ unless-refused Refusal x output memory end .output)
 unfolding unless-refused
 accepted Sound output memory end e = (e, refl)
 accepted (Refused k x) output memory end e = let z : zero ≡ 1 = cc in absurd (omega (arith, z))
@@ -62,7 +62,7 @@ unfolding admissible quotient degree
 fits-is cap arg j = refl
 
 module _ (tau : Float) (cap : ℕ) (b : Augmented) (runs : ℕ) (start : ℕ → List Float) (run : SweepPlan → Fields) (made : (p : SweepPlan) → Made b tau runs start p (run p)) where
-  of-plan : (need : ℕ) (output memory : List Float) (x : PlanAnswer) {r : TaylorReport} → sweep-plan cap tau (b .matrix) (norm-of b) ≡ x → after-plan need tau (norm-of b) output memory x run .answer ≡ Soaked r
+  of-plan : (need : ℕ) (output memory : List Float) (x : PlanAnswer) {r : TaylorReport} → sweep-plan cap tau (b .matrix) (norm-of b) ≡ x → after-plan need tau (norm-of b) output memory x run .answer ≡ Result r
       → TaylorCost tau cap b runs start (after-plan need tau (norm-of b) output memory x run .output) r
   unfolding after-plan argument
   of-plan need output memory NoPlan e f = let z : zero ≡ 1 = cc in absurd (omega (arith, z))
@@ -72,7 +72,7 @@ module _ (tau : Float) (cap : ℕ) (b : Augmented) (runs : ℕ) (start : ℕ →
       (record { planned = e; capped = plan-bounded cap tau (b .matrix) (norm-of b) e .m-allowed; chosen = c; least = λ j l e. chosen-least c j l (fits-is cap _ j ∙ e); applications = made p .applications; counted = made p .counted; fields = made p .fields })
 
   pub of-call : (x : Checked) (need : ℕ) (output memory : List Float) {r : TaylorReport}
-      → unless-refused Refusal x output memory (after-plan need tau (norm-of b) output memory (sweep-plan cap tau (b .matrix) (norm-of b)) run) .answer ≡ Soaked r
+      → unless-refused Refusal x output memory (after-plan need tau (norm-of b) output memory (sweep-plan cap tau (b .matrix) (norm-of b)) run) .answer ≡ Result r
       → TaylorCost tau cap b runs start (unless-refused Refusal x output memory (after-plan need tau (norm-of b) output memory (sweep-plan cap tau (b .matrix) (norm-of b)) run) .output) r
   of-call x need output memory {r} e =
       let h = accepted x output memory _ e in
@@ -303,7 +303,7 @@ module _
   norm = row-sum-norm (g .matrix)
 
   module _ (cap count : ℕ) (w output memory : List Float) where
-    combination-cost : {r : TaylorReport} → phi-combination g tau cap count w output memory .answer ≡ Soaked r
+    combination-cost : {r : TaylorReport} → phi-combination g tau cap count w output memory .answer ≡ Result r
         → TaylorCost tau cap (operator-of g tau count w) 1 (λ _. start-of g tau count w) (phi-combination g tau cap count w output memory .output) r
     unfolding combination-run phi-combination combination-operator
     combination-cost e = of-call tau cap (operator-of g tau count w) 1 _ _ (λ p. one-made (operator-of g tau count w) tau p (start-of g tau count w)) _ _ output memory e
@@ -380,12 +380,12 @@ module _
     unfolding action-checks job-checks plan-checks time-checks degree-checks length-checks finite-checks
     action-in-order wanted = refl
 
-    action-cost : {r : TaylorReport} → phi-action g tau cap k v output memory .answer ≡ Soaked r
+    action-cost : {r : TaylorReport} → phi-action g tau cap k v output memory .answer ≡ Result r
         → TaylorCost tau cap (action-of g v) 1 (λ _. action-start g v k) (phi-action g tau cap k v output memory .output) r
     unfolding phi-action action-operator
     action-cost e = of-call tau cap (action-of g v) 1 _ _ (λ p. one-made (action-of g v) tau p (action-start g v k)) _ _ output memory e
 
-    batch-cost : {r : TaylorReport} → phi-action-batched g tau cap k v output memory .answer ≡ Soaked r
+    batch-cost : {r : TaylorReport} → phi-action-batched g tau cap k v output memory .answer ≡ Result r
         → TaylorCost tau cap (action-of g v) (suc k) (action-start g v) (phi-action-batched g tau cap k v output memory .output) r
     unfolding phi-action-batched action-operator
     batch-cost e = of-call tau cap (action-of g v) (suc k) _ _ (λ p. batch-made (action-of g v) tau p v (eta-scaling (sup v) .inv) (suc k)) _ _ output memory e

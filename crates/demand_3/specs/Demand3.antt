@@ -15,11 +15,11 @@ use Rattle.doubles.specs.F64.{if_then_else_, +0}
 use Rattle.checks.specs.First.{first}
 use Rattle.checks.specs.declared.Checked.the-variants.{Sound}
 use Rattle.combination.specs.Combination.{further, eta-of, combination-operator, combination-start, action-operator, init-aug-vector}
-use Rattle.phi_action.specs.Calls.{combination-checks, phi-combination, action-checks, phi-action, phi-action-batched}
+use Rattle.taylor_job.specs.Calls.{combination-checks, phi-combination, action-checks, phi-action, phi-action-batched}
 use Rattle.phi_krylov_arnoldi.specs.declared.KrylovPhiReport.{KrylovPhiReport}
 use Rattle.krylov_job.specs.KrylovCall.{bound, krylov-checks, phi-combination-krylov}
 use Rattle.krylov_job.specs.declared.KrylovPhiOptions.{KrylovPhiOptions}
-use Rattle.krylov_job.specs.declared.KrylovAnswer.the-variants.{Refusal, Soaked}
+use Rattle.krylov_job.specs.declared.KrylovAnswer.the-variants.{Refusal, Result}
 use Rattle.demand_3.specs.Trace.{Run, run-of}
 use Rattle.demand_3.specs.Krylov.{Zeros, KrylovCost, Exactly27}
 use Rattle.demand_3.specs.Taylor.{Rows, TaylorClaim}
@@ -72,13 +72,13 @@ pub record Demand3 (g : Generator) (tau : Float) (output memory : List Float) : 
   pub batch : (cap p : ℕ) (v : List Float)
       → TaylorClaim (phi-action-batched g tau cap p v output memory) (action-checks g tau cap p v (length output) (suc p * g .matrix .n) (length memory)) tau cap v (action-of g v) (suc p) (action-start g v)
   -- Krylov: the counts are those of what the run did, and bounded; the rounded sum of its steps is 1 at the last; 27 exactly at the limit
-  pub krylov : (count : ℕ) (w : List Float) (o : KrylovPhiOptions) {r : KrylovPhiReport} → phi-combination-krylov g tau count w o output memory .answer ≡ Soaked r
+  pub krylov : (count : ℕ) (w : List Float) (o : KrylovPhiOptions) {r : KrylovPhiReport} → phi-combination-krylov g tau count w o output memory .answer ≡ Result r
       → KrylovCost (g .matrix .n) (clamped (o .m) (g .matrix .n + (count - 1))) (o .«max_substeps») (start-of g tau count w) (phi-combination-krylov g tau count w o output memory .output) (krylov-run g tau count w o) r
   pub at-limit : (count : ℕ) (w : List Float) (o : KrylovPhiOptions)
       → Exactly27 (phi-combination-krylov g tau count w o output memory) (krylov-checks g tau count w o (length output) (length memory)) (o .«max_substeps») (krylov-run g tau count w o)
   -- a start of zeros gives a result, all counts and steps 0
   pub zeros : (count : ℕ) (w : List Float) (o : KrylovPhiOptions) → Sound ≡ first (krylov-checks g tau count w o (length output) (length memory)) → Zeros (start-of g tau count w)
-      → phi-combination-krylov g tau count w o output memory .answer ≡ Soaked (record { matvecs = 0; substeps = 0; rejected = 0; «est_error» = +0; shortest = +0; last = +0 })
+      → phi-combination-krylov g tau count w o output memory .answer ≡ Result (record { matvecs = 0; substeps = 0; rejected = 0; «est_error» = +0; shortest = +0; last = +0 })
   -- 25 and 33 are Taylor's alone
   pub no-25 : (count : ℕ) (w : List Float) (o : KrylovPhiOptions) (x : Float) → phi-combination-krylov g tau count w o output memory .answer ≡ Refusal 25 x → ⊥
   pub no-33 : (count : ℕ) (w : List Float) (o : KrylovPhiOptions) (x : Float) → phi-combination-krylov g tau count w o output memory .answer ≡ Refusal 33 x → ⊥

@@ -20,9 +20,9 @@ use Rattle.phi_action_helpers.specs.declared.SweepPlan.{SweepPlan}
 use Rattle.phi_shift.specs.Plan.{plan, sweep-plan, Chosen}
 use Rattle.phi_shift.specs.declared.PlanAnswer.the-variants.{Plan}
 use Rattle.combination.specs.Call.{Call}
-use Rattle.phi_action.specs.declared.TaylorReport.{TaylorReport}
-use Rattle.phi_action.specs.declared.TaylorAnswer.{TaylorAnswer}
-use Rattle.phi_action.specs.declared.TaylorAnswer.the-variants.{Refusal, Soaked}
+use Rattle.taylor_job.specs.declared.TaylorReport.{TaylorReport}
+use Rattle.taylor_job.specs.declared.TaylorAnswer.{TaylorAnswer}
+use Rattle.taylor_job.specs.declared.TaylorAnswer.the-variants.{Refusal, Result}
 use Rattle.demand_3.specs.Products.{field-at, products}
 
 -- the norm of the generator
@@ -109,7 +109,7 @@ Exactly17 c cs values = (x : Float) → (c .answer ≡ Refusal 17 x → ValueRef
 
 -- a Taylor call on these vectors: what it did where it gave a result; 33, 17 and 25; and never 27, which is of Krylov runs
 pub record TaylorClaim (c : Call TaylorAnswer) (cs : List Check) (tau : Float) (cap : ℕ) (vectors : List Float) (b : Augmented) (runs : ℕ) (start : ℕ → List Float) : Type 0 where
-  pub accepted : {r : TaylorReport} → c .answer ≡ Soaked r → TaylorCost tau cap b runs start (c .output) r
+  pub accepted : {r : TaylorReport} → c .answer ≡ Result r → TaylorCost tau cap b runs start (c .output) r
   pub no-degree : Exactly33 c cs cap
   pub no-value : Exactly17 c cs vectors
   pub no-plan : Exactly25 c cs tau cap (norm-of b)

@@ -7,9 +7,9 @@ use mathlib.Core.Bool.{Bool, true, false, not, _&&_, _||_, true≢false, Bool·b
 use lib.IntN.{ℤ}
 use lib.Dec.{T, ltb, eqb}
 use lib.Ieee.{Float, nan, inf, fin, binary64, up, down, lt, eq, div, ofBits, isNan}
-use lib.Ieee.Fits.{up-pos}
+use lib.Ieee.Fits.{up-pos, down-pos}
 use borrow.Author.Tests.{eqb-true, ltb-true, lt-ltb}
-use Rattle.doubles.specs.F64.{+0, +∞}
+use Rattle.doubles.specs.F64.{_⋖_, +0, +∞}
 
 and-true : (a b : Bool) → (a && b) ≡ true → a ≡ true
 and-true true b h = refl
@@ -17,6 +17,11 @@ and-true false b h = h
 
 pub positive-size : (m : ℕ) (e : ℤ) → 0 < suc m * up e
 positive-size m e = mul-pos (zero-lt-suc m) (up-pos e)
+
+-- a zero is below a number above 0
+pub zero-below : (e : ℤ) (n : ℕ) (d : ℤ) → (fin false 0 e ⋖ fin false (suc n) d) ≡ true
+unfolding lt
+zero-below e n d = lt-ltb (0 * up e * down d) (suc n * up d * down e) (rw (zero-mul (up e), zero-mul (down d)) (mul-pos (positive-size n d) (down-pos e)))
 
 not-zero : (a b : ℕ) → 0 < a → a * 1 ≡ 0 * b → ⊥
 not-zero a b h e = lt-irrefl 0 (subst (λ (z : ℕ). 0 < z) (sym (mul-one a) ∙ e ∙ zero-mul b) h)

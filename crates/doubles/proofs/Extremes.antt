@@ -57,7 +57,7 @@ nonneg-max (fin false m e) (fin s n d) h = go (fin false m e ⋖ fin false n d)
     go true = tt
     go false = tt
 
-replaced-number : (x y : Float) (b : Bool) → T (not (isNan x)) → replaced x y b ≡ (if b then y else x)
+pub replaced-number : (x y : Float) (b : Bool) → T (not (isNan x)) → replaced x y b ≡ (if b then y else x)
 unfolding replaced isNan
 replaced-number nan y b p = absurd p
 replaced-number (inf s) y b p = refl

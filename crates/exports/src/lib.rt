@@ -5,13 +5,13 @@ ghost use Rattle.general_operator.specs.Csr.{csr};
 ghost use Rattle.generator_action.specs.Mass.{given};
 ghost use Rattle.generator_action.specs.Generator.{forward};
 ghost use Rattle.generator_action.specs.Answer.{matrix-answer};
-ghost use Rattle.join.specs.Join.{join-call};
-ghost use Rattle.phi_action.specs.Calls.{phi-combination, phi-action, phi-action-batched};
+ghost use Rattle.join_checks.specs.Join.{join-call};
+ghost use Rattle.taylor_job.specs.Calls.{phi-combination, phi-action, phi-action-batched};
 ghost use Rattle.krylov_job.specs.KrylovCall.{phi-combination-krylov};
-ghost use Rattle.phi_krylov.specs.Combine.{answering, combine};
+ghost use Rattle.phi_solver.specs.Combine.{answering, combine};
 ghost use Rattle.answers.specs.Told.{numbers, matrix-numbers, join-told, telling-join, taylor-numbers, krylov-numbers, phi-numbers, run-numbers, options, solver};
 
-// `generator_action::check_generator`, told by `tell_matrix`.
+// `generator_checks::check_generator`, told by `matrix_numbers`.
 #[no_mangle]
 pub extern "C" fn hazhendu_check_generator(
     n: usize,
@@ -25,11 +25,11 @@ pub extern "C" fn hazhendu_check_generator(
 ) -> u32
     ensures { λ r. ⌜ numbers r (now (value .exit)) (now (row .exit)) 0 0 ≡ matrix-numbers (matrix-answer (csr n (now (starts .entry)) (now (cols .entry)) (now (vals .entry))) (given «with_mass» (now (mass .entry)))) ⌝ }
 {
-    let answer = generator_action::check_generator(n, starts, cols, vals, with_mass, mass);
-    answers::tell_matrix(answer, value, row)
+    let answer = generator_checks::check_generator(n, starts, cols, vals, with_mass, mass);
+    answers::matrix_numbers(answer, value, row)
 }
 
-// `join::join`, told by `tell_join`: the barrel first, then the mount, then the slices of the result.
+// `join::join`, told by `join_numbers`: the barrel first, then the mount, then the slices of the result.
 #[no_mangle]
 pub extern "C" fn hazhendu_join(
     n_a: usize,
@@ -61,10 +61,10 @@ pub extern "C" fn hazhendu_join(
         cols,
         vals,
     );
-    answers::tell_join(answer, value, entries)
+    answers::join_numbers(answer, value, entries)
 }
 
-// `phi_action::phi_combination`, told by `tell_taylor`.
+// `phi_action::phi_combination`, told by `taylor_numbers`.
 #[no_mangle]
 pub extern "C" fn hazhendu_phi_combination(
     n: usize,
@@ -100,10 +100,10 @@ pub extern "C" fn hazhendu_phi_combination(
         out,
         work,
     );
-    answers::tell_taylor(answer, value, s, m, applications)
+    answers::taylor_numbers(answer, value, s, m, applications)
 }
 
-// `phi_action::phi_action`, told by `tell_taylor`.
+// `phi_action::phi_action`, told by `taylor_numbers`.
 #[no_mangle]
 pub extern "C" fn hazhendu_phi_action(
     n: usize,
@@ -139,10 +139,10 @@ pub extern "C" fn hazhendu_phi_action(
         out,
         work,
     );
-    answers::tell_taylor(answer, value, s, m, applications)
+    answers::taylor_numbers(answer, value, s, m, applications)
 }
 
-// `phi_batch::phi_action_batched`, told by `tell_taylor`.
+// `phi_batch::phi_action_batched`, told by `taylor_numbers`.
 #[no_mangle]
 pub extern "C" fn hazhendu_phi_action_batched(
     n: usize,
@@ -178,10 +178,10 @@ pub extern "C" fn hazhendu_phi_action_batched(
         out,
         work,
     );
-    answers::tell_taylor(answer, value, s, m, applications)
+    answers::taylor_numbers(answer, value, s, m, applications)
 }
 
-// `phi_krylov::phi_combination_krylov`, told by `tell_krylov`.
+// `phi_krylov::phi_combination_krylov`, told by `krylov_numbers`.
 #[no_mangle]
 pub extern "C" fn hazhendu_phi_combination_krylov(
     n: usize,
@@ -222,10 +222,10 @@ pub extern "C" fn hazhendu_phi_combination_krylov(
         out,
         work,
     );
-    answers::tell_krylov(answer, value, substeps, matvecs, rejected, shortest, last)
+    answers::krylov_numbers(answer, value, substeps, matvecs, rejected, shortest, last)
 }
 
-// `phi_krylov::combine`, told by `tell_phi`.
+// `phi_solver::combine`, told by `phi_numbers`.
 #[no_mangle]
 pub extern "C" fn hazhendu_combine(
     n: usize,
@@ -255,7 +255,7 @@ pub extern "C" fn hazhendu_combine(
 {
     let o = answers::options(tol, m, max_substeps);
     let chosen = answers::solver(krylov, degree, o);
-    let answer = phi_krylov::combine(
+    let answer = phi_solver::combine(
         chosen,
         n,
         starts,
@@ -269,5 +269,5 @@ pub extern "C" fn hazhendu_combine(
         out,
         work,
     );
-    answers::tell_phi(answer, value, first, second, third, shortest, last)
+    answers::phi_numbers(answer, value, first, second, third, shortest, last)
 }

@@ -10,7 +10,7 @@ ghost use Rattle.ambient.specs.Inner.{results};
 ghost use Rattle.exports_ambient.specs.Told.{ambient-numbers, ambient-told, ambient-call, telling};
 
 // The result is 0 or the refusal's number; `value` is the refusal's double, NaN where a temperature is, else 0; `record` is 0 where none is named.
-fn tell_ambient(answer: AmbientAnswer, value: &mut f64, record: &mut u32) -> u32
+fn ambient_told(answer: AmbientAnswer, value: &mut f64, record: &mut u32) -> u32
     ensures { λ r. ⌜ ambient-numbers r (now (value .exit)) (now («record» .exit)) ≡ ambient-told answer ⌝ }
 {
     match answer {
@@ -32,7 +32,7 @@ fn tell_ambient(answer: AmbientAnswer, value: &mut f64, record: &mut u32) -> u32
     }
 }
 
-// `ambient::ambient`, told by `tell_ambient`.
+// `ambient::ambient`, told by `ambient_told`.
 #[no_mangle]
 pub extern "C" fn hazhendu_ambient(
     n: usize,
@@ -76,5 +76,5 @@ pub extern "C" fn hazhendu_ambient(
         largest,
         smallest,
     );
-    tell_ambient(answer, value, record)
+    ambient_told(answer, value, record)
 }

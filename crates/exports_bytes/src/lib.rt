@@ -9,9 +9,9 @@ ghost use Rattle.general_operator.specs.Csr.{csr};
 ghost use Rattle.generator_action.specs.Mass.{given};
 ghost use Rattle.generator_action.specs.Generator.{forward};
 ghost use Rattle.combination.specs.Call.{ends};
-ghost use Rattle.phi_action.specs.Calls.{phi-combination, phi-action, phi-action-batched};
+ghost use Rattle.taylor_job.specs.Calls.{phi-combination, phi-action, phi-action-batched};
 ghost use Rattle.krylov_job.specs.KrylovCall.{phi-combination-krylov};
-ghost use Rattle.phi_krylov.specs.Combine.{answering};
+ghost use Rattle.phi_solver.specs.Combine.{answering};
 ghost use Rattle.le_bytes.specs.Bytes.{numbers-of, doubles-of};
 ghost use Rattle.answers.specs.Told.{numbers, run-numbers, taylor-numbers, krylov-numbers, options};
 ghost use Rattle.byte_arrays.specs.Large.{large};
@@ -271,7 +271,7 @@ pub extern "C" fn hazhendu_phi_combination_bytes(
         out,
         work,
     );
-    byte_calls::tell_taylor(t, value, s, m, applications)
+    byte_calls::taylor_numbers(t, value, s, m, applications)
 }
 
 // `phi_action::phi_action`.
@@ -313,7 +313,7 @@ pub extern "C" fn hazhendu_phi_action_bytes(
         out,
         work,
     );
-    byte_calls::tell_taylor(t, value, s, m, applications)
+    byte_calls::taylor_numbers(t, value, s, m, applications)
 }
 
 // `phi_batch::phi_action_batched`.
@@ -355,7 +355,7 @@ pub extern "C" fn hazhendu_phi_action_batched_bytes(
         out,
         work,
     );
-    byte_calls::tell_taylor(t, value, s, m, applications)
+    byte_calls::taylor_numbers(t, value, s, m, applications)
 }
 
 // `phi_krylov::phi_combination_krylov`.
@@ -401,5 +401,5 @@ pub extern "C" fn hazhendu_phi_combination_krylov_bytes(
         out,
         work,
     );
-    byte_calls::tell_krylov(t, value, substeps, matvecs, rejected, shortest, last)
+    byte_calls::krylov_numbers(t, value, substeps, matvecs, rejected, shortest, last)
 }

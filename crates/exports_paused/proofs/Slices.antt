@@ -9,6 +9,7 @@ use lib.ListN.{length, set, length-set}
 use lib.Ieee.{Float}
 use borrow.Author.Tests.{eqb-true, eq-eqb}
 use Rattle.lists.specs.Window.{splice}
+use Rattle.lists.proofs.Tests.{and-both}
 use Rattle.lists.proofs.Window.{set-splice, splice-snoc, splice-whole}
 use Rattle.doubles.specs.F64.{if_then_else_}
 use Rattle.paused_run.specs.declared.PausedRun.{PausedRun}
@@ -39,14 +40,10 @@ module _ {A : Type 0} (l : List A) (a b c d e f g h : A) where
       ap (λ (x : List A). set x 9 j) e₉ ∙ splice-snoc 0 (a ∷ b ∷ c ∷ d ∷ e ∷ f ∷ g ∷ h ∷ i ∷ []) l j ∙ splice-whole _ l (sym n)
 
 -- ---- the lengths
-both : (a b : Bool) → (a && b) ≡ true → (a ≡ true) × (b ≡ true)
-both true b e = (refl, e)
-both false b e = (e, cc)
-
 pub fitting : (numbers : List Float) (counts : List ℕ) → fits numbers counts ≡ true → (length numbers ≡ 10) × (length counts ≡ 8)
 unfolding fits
 fitting numbers counts e =
-    let q = both (eqb (length numbers) 10) (eqb (length counts) 8) e in
+    let q = and-both (eqb (length numbers) 10) (eqb (length counts) 8) e in
     (eqb-true _ _ (q .0), eqb-true _ _ (q .1))
 
 module _ (s : PausedRun) (numbers : List Float) (counts : List ℕ) where

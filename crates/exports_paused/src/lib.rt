@@ -140,7 +140,7 @@ pub fn write_run(run: PausedRun, numbers: &mut [f64], counts: &mut [usize])
 }
 
 // The result is 0 or the refusal's number; `value` is the estimate or the refusal's double.
-pub fn tell_start(
+pub fn start_state(
     answer: StartAnswer,
     numbers: &mut [f64],
     counts: &mut [usize],
@@ -169,7 +169,7 @@ fn ran(k: u32) -> bool
 }
 
 // The same of a step; a refusal before the substep writes no state.
-pub fn tell_step(
+pub fn step_state(
     answer: StepAnswer,
     numbers: &mut [f64],
     counts: &mut [usize],
@@ -203,7 +203,7 @@ pub fn field_end(numbers: &[f64], counts: &[usize], field: usize) -> usize
     0
 }
 
-// `paused_start::start`, told by `tell_start`.
+// `paused_start::start`, told by `start_state`.
 #[no_mangle]
 pub extern "C" fn hazhendu_krylov_start(
     n: usize,
@@ -244,7 +244,7 @@ pub extern "C" fn hazhendu_krylov_start(
         work,
         &mut field[0..to],
     );
-    tell_start(answer, numbers, counts, value)
+    start_state(answer, numbers, counts, value)
 }
 
 pub fn tolerance(with_tol: bool, tol: f64) -> Tolerance
@@ -256,7 +256,7 @@ pub fn tolerance(with_tol: bool, tol: f64) -> Tolerance
     Tolerance::Same
 }
 
-// `paused_step::step`, told by `tell_step`.
+// `paused_step::step`, told by `step_state`.
 #[no_mangle]
 pub extern "C" fn hazhendu_krylov_step(
     n: usize,
@@ -297,5 +297,5 @@ pub extern "C" fn hazhendu_krylov_step(
         work,
         field,
     );
-    tell_step(answer, numbers, counts, value)
+    step_state(answer, numbers, counts, value)
 }

@@ -18,7 +18,7 @@ use Rattle.doubles.specs.F64.{if_then_else_}
 use Rattle.paused_run.specs.declared.PausedRun.{PausedRun}
 use Rattle.rotation.specs.Unit.{run-at}
 use Rattle.rotation.specs.declared.Rotation.{Rotation}
-use Rattle.rotation.proofs.Queue.{and-both}
+use Rattle.lists.proofs.Tests.{and-both}
 use Rattle.exports_paused.specs.Told.{numbers-of, counts-of, fits, held, no-run, run-of, State, state, written}
 use Rattle.exports_rotation.specs.Told.{unit-counts, unit-fits, kept-or}
 

@@ -189,7 +189,7 @@ pub extern "C" fn hazhendu_rotation_next(queues: &[usize]) -> usize
     16
 }
 
-// `rotation_turns::join`, told by `exports_paused::tell_start`; `place` is the place taken, 16 if none.
+// `rotation_turns::join`, told by `exports_paused::start_state`; `place` is the place taken, 16 if none.
 #[no_mangle]
 pub extern "C" fn hazhendu_rotation_join(
     n: usize,
@@ -239,10 +239,10 @@ pub extern "C" fn hazhendu_rotation_join(
     let answer = joined.answer;
     *place = joined.place;
     keep_unit(left, joined.place, units, queues);
-    exports_paused::tell_start(answer, numbers, counts, value)
+    exports_paused::start_state(answer, numbers, counts, value)
 }
 
-// `rotation_turns::turn`, told by `exports_paused::tell_step`; `place` is the place whose turn it was, 16 if none.
+// `rotation_turns::turn`, told by `exports_paused::step_state`; `place` is the place whose turn it was, 16 if none.
 #[no_mangle]
 pub extern "C" fn hazhendu_rotation_turn(
     n: usize,
@@ -290,5 +290,5 @@ pub extern "C" fn hazhendu_rotation_turn(
     let answer = turned.answer;
     *place = turned.place;
     keep_unit(left, turned.place, units, queues);
-    exports_paused::tell_step(answer, numbers, counts, value)
+    exports_paused::step_state(answer, numbers, counts, value)
 }

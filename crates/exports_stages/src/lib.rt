@@ -5,13 +5,13 @@ ghost use Rattle.combination.specs.Call.{ends};
 ghost use Rattle.general_operator.specs.Csr.{csr};
 ghost use Rattle.generator_action.specs.Mass.{given};
 ghost use Rattle.generator_action.specs.Generator.{forward};
-ghost use Rattle.phi_krylov.specs.Combine.{answering};
+ghost use Rattle.phi_solver.specs.Combine.{answering};
 ghost use Rattle.stage_checks.specs.Inner.{schedule-of};
 ghost use Rattle.stages.specs.Stages.{staged};
 ghost use Rattle.exports_stages.specs.Told.{staged-numbers, staged-told};
 
 // The result is 0 or the refusal's number; `value` is 0 or the refusal's double; `stage` is 0 where no stage was refused.
-fn tell_staged(
+fn staged_told(
     answer: StagedAnswer,
     value: &mut f64,
     stage: &mut u32,
@@ -41,7 +41,7 @@ fn tell_staged(
     }
 }
 
-// `stages::stages`, told by `tell_staged`.
+// `stages::stages`, told by `staged_told`.
 #[no_mangle]
 pub extern "C" fn hazhendu_stages(
     n: usize,
@@ -88,5 +88,5 @@ pub extern "C" fn hazhendu_stages(
         out,
         work,
     );
-    tell_staged(answer, value, stage, applications, substeps, rejected)
+    staged_told(answer, value, stage, applications, substeps, rejected)
 }

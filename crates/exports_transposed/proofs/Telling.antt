@@ -4,7 +4,7 @@ use mathlib.Core.Path.{_≡_, ap}
 use lib.Ieee.{Float}
 use Rattle.combination.specs.Call.{ends}
 use Rattle.answers.specs.Told.{Numbers}
-use Rattle.phi_krylov.proofs.Dispatch.{answered}
+use Rattle.phi_solver.proofs.Dispatch.{answered}
 use Rattle.transpose.specs.Transpose.{Buffers}
 use Rattle.transposed.specs.Transposed.{Lending, lends}
 use Rattle.exports_transposed.specs.Telling.{telling, matrix-told}

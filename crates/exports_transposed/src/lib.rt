@@ -9,7 +9,7 @@ ghost use Rattle.transposed.specs.Transposed.{lends, phi-combination-transposed
 ghost use Rattle.answers.specs.Told.{numbers, run-numbers, matrix-numbers, taylor-numbers, krylov-numbers, options};
 ghost use Rattle.exports_transposed.specs.Telling.{telling, matrix-told};
 
-// `transpose::check_transposed`, told by `tell_matrix`.
+// `transposed_checks::check_transposed`, told by `matrix_numbers`.
 #[no_mangle]
 pub extern "C" fn hazhendu_check_transposed(
     n: usize,
@@ -26,7 +26,7 @@ pub extern "C" fn hazhendu_check_transposed(
 ) -> u32
     ensures { λ r. ⌜ matrix-told (numbers r (now (value .exit)) (now (row .exit)) 0 0) (buffers (now («t_starts» .exit)) (now («t_cols» .exit)) (now («t_vals» .exit))) ≡ matrix-told (matrix-numbers (transposed-answer (csr n (now (starts .entry)) (now (cols .entry)) (now (vals .entry))) (given «with_mass» (now (mass .entry))) (lengths (buffers (now («t_starts» .entry)) (now («t_cols» .entry)) (now («t_vals» .entry)))))) (buffers-after (csr n (now (starts .entry)) (now (cols .entry)) (now (vals .entry))) (given «with_mass» (now (mass .entry))) (buffers (now («t_starts» .entry)) (now («t_cols» .entry)) (now («t_vals» .entry)))) ⌝ }
 {
-    let answer = transpose::check_transposed(
+    let answer = transposed_checks::check_transposed(
         n,
         starts,
         cols,
@@ -37,10 +37,10 @@ pub extern "C" fn hazhendu_check_transposed(
         t_cols,
         t_vals,
     );
-    answers::tell_matrix(answer, value, row)
+    answers::matrix_numbers(answer, value, row)
 }
 
-// `transposed::phi_combination_transposed`, told by `tell_taylor`.
+// `transposed::phi_combination_transposed`, told by `taylor_numbers`.
 #[no_mangle]
 pub extern "C" fn hazhendu_phi_combination_transposed(
     n: usize,
@@ -82,10 +82,10 @@ pub extern "C" fn hazhendu_phi_combination_transposed(
         out,
         work,
     );
-    answers::tell_taylor(answer, value, s, m, applications)
+    answers::taylor_numbers(answer, value, s, m, applications)
 }
 
-// `transposed::phi_action_transposed`, told by `tell_taylor`.
+// `transposed::phi_action_transposed`, told by `taylor_numbers`.
 #[no_mangle]
 pub extern "C" fn hazhendu_phi_action_transposed(
     n: usize,
@@ -127,10 +127,10 @@ pub extern "C" fn hazhendu_phi_action_transposed(
         out,
         work,
     );
-    answers::tell_taylor(answer, value, s, m, applications)
+    answers::taylor_numbers(answer, value, s, m, applications)
 }
 
-// `transposed::phi_action_batched_transposed`, told by `tell_taylor`.
+// `transposed::phi_action_batched_transposed`, told by `taylor_numbers`.
 #[no_mangle]
 pub extern "C" fn hazhendu_phi_action_batched_transposed(
     n: usize,
@@ -172,10 +172,10 @@ pub extern "C" fn hazhendu_phi_action_batched_transposed(
         out,
         work,
     );
-    answers::tell_taylor(answer, value, s, m, applications)
+    answers::taylor_numbers(answer, value, s, m, applications)
 }
 
-// `transposed::phi_combination_krylov_transposed`, told by `tell_krylov`.
+// `transposed::phi_combination_krylov_transposed`, told by `krylov_numbers`.
 #[no_mangle]
 pub extern "C" fn hazhendu_phi_combination_krylov_transposed(
     n: usize,
@@ -222,5 +222,5 @@ pub extern "C" fn hazhendu_phi_combination_krylov_transposed(
         out,
         work,
     );
-    answers::tell_krylov(answer, value, substeps, matvecs, rejected, shortest, last)
+    answers::krylov_numbers(answer, value, substeps, matvecs, rejected, shortest, last)
 }

@@ -113,7 +113,7 @@ pub extern "C" fn hazhendu_phi_combination_transposed_bytes(
         out,
         work,
     );
-    byte_calls::tell_taylor(t, value, s, m, applications)
+    byte_calls::taylor_numbers(t, value, s, m, applications)
 }
 
 // `transposed::phi_action_transposed`.
@@ -161,7 +161,7 @@ pub extern "C" fn hazhendu_phi_action_transposed_bytes(
         out,
         work,
     );
-    byte_calls::tell_taylor(t, value, s, m, applications)
+    byte_calls::taylor_numbers(t, value, s, m, applications)
 }
 
 // `transposed::phi_action_batched_transposed`.
@@ -209,7 +209,7 @@ pub extern "C" fn hazhendu_phi_action_batched_transposed_bytes(
         out,
         work,
     );
-    byte_calls::tell_taylor(t, value, s, m, applications)
+    byte_calls::taylor_numbers(t, value, s, m, applications)
 }
 
 // `transposed::phi_combination_krylov_transposed`.
@@ -261,7 +261,7 @@ pub extern "C" fn hazhendu_phi_combination_krylov_transposed_bytes(
         out,
         work,
     );
-    byte_calls::tell_krylov(t, value, substeps, matvecs, rejected, shortest, last)
+    byte_calls::krylov_numbers(t, value, substeps, matvecs, rejected, shortest, last)
 }
 
 // What is told of a matrix: 0 or the refusal's number, the norm or the refusal's double, and the row.
@@ -306,7 +306,7 @@ fn check_answer(
     );
     let mut value = 0.0f64;
     let mut row = 0usize;
-    let number = answers::tell_matrix(answer, &mut value, &mut row);
+    let number = answers::matrix_numbers(answer, &mut value, &mut row);
     let told = byte_arrays::reported(number, value, starts.len() / 4, mass_len / 8, 0, 0);
     RowTold {
         number: number,
@@ -315,7 +315,7 @@ fn check_answer(
     }
 }
 
-// `transpose::check_transposed`.
+// `transposed_checks::check_transposed`.
 #[no_mangle]
 pub extern "C" fn hazhendu_check_transposed_bytes(
     n: usize,

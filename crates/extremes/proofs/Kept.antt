@@ -12,15 +12,9 @@ use Rattle.lists.specs.Loop.{iter}
 use Rattle.lists.proofs.Bounds.{lt-or-le}
 use Rattle.doubles.specs.F64.{if_then_else_, _⩽_, _⋖_, +0, at, replaced, maxNum, minNum}
 use Rattle.doubles.proofs.Total.{⩽-refl, ⩽-trans, ⩽-or-⋖, ⋖-⩽, ⋖-apart, le-number-right}
-use Rattle.doubles.proofs.Extremes.{min-of-two}
+use Rattle.doubles.proofs.Extremes.{replaced-number, min-of-two}
 use Rattle.extremes.specs.Extremes.{unsigned-zero, window-start, extreme, largest, smallest}
 use Rattle.extremes.proofs.Windows.{start-within}
-
-replaced-number : (x y : Float) (b : Bool) → T (not (isNan x)) → replaced x y b ≡ (if b then y else x)
-unfolding replaced isNan
-replaced-number nan y b p = absurd p
-replaced-number (inf s) y b p = refl
-replaced-number (fin s m d) y b p = refl
 
 -- the maximum of two numbers is the one that is at least the other
 pub max-of-two : (x y : Float) → T (not (isNan x)) → T (not (isNan y)) → ((maxNum x y ≡ x) × T (y ⩽ x)) ⊎ ((maxNum x y ≡ y) × T (x ⩽ y))

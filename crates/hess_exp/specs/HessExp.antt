@@ -1,4 +1,4 @@
--- `hess_exp_e1` (phi_krylov_arnoldi.rs): e ^ (t H) e_1 for the leading mx rows and columns of h, which is stored in rows of dim, row r with
+-- `hess_exp_e1` (phi_krylov_arnoldi.rs): e ^ (t H) e_1 for the leading mx rows and columns of h, which is stored in columns of dim, row r with
 -- entries from column r - 1 on; by Taylor sweeps on the vector. Definitions only.
 use mathlib.Core.List.{List, map}
 use Prim.Native.Nat.{ℕ, _+_, _*_}
@@ -10,11 +10,11 @@ use Rattle.doubles.specs.Sum.{sum, open-Sum}
 use Rattle.expmv.specs.Select.{select-s-m, M-MAX, open-Select}
 use Rattle.expmv.specs.declared.Selected.{Selected}
 use Rattle.expmv.specs.declared.Selected.the-variants.{NoRow, Row}
-use Rattle.hess_product.specs.HessProduct.{hess-product, open-HessProduct}
+use Rattle.hess_product.specs.HessProduct.{place, hess-product, open-HessProduct}
 
 -- the largest column sum of sizes; a NaN sum is dropped
 unfoldable pub column-sum-norm : List Float → ℕ → ℕ → Float
-column-sum-norm h dim mx = iter (λ c m. maxNum m (sum mx (λ r. abs (at h (r * dim + c))))) mx +0
+column-sum-norm h dim mx = iter (λ c m. maxNum m (sum mx (λ r. abs (at h (place dim r c))))) mx +0
 
 -- the sum so far and the last term
 pub record Terms : Type 0 where

@@ -5,12 +5,13 @@ use lib.Ieee.{Float}
 use Rattle.lists.specs.Window.{window}
 use Rattle.doubles.specs.F64.{if_then_else_, at, abs}
 use Rattle.doubles.specs.Sum.{sum}
+use Rattle.hess_product.specs.HessProduct.{place}
 use Rattle.hess_exp.specs.declared.SmallExp.{SmallExp}
 use Rattle.hess_exp.specs.HessExp.{Terms, Small, unplanned, column}
 
 -- the sum of the sizes in column c
 abbrev pub column-sum : List Float → ℕ → ℕ → ℕ → Float
-column-sum h dim mx c = sum mx (λ r. abs (at h (r * dim + c)))
+column-sum h dim mx c = sum mx (λ r. abs (at h (place dim r c)))
 
 abbrev pub terms : List Float → List Float → Terms
 terms y w = record { y = y; w = w }

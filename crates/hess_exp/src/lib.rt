@@ -18,12 +18,12 @@ pub struct SmallExp {
 
 fn column_sum(h: &[f64], dim: usize, mx: usize, c: usize) -> f64
     requires { ⌜ Leading (now h) dim mx ⌝ }
-    requires { ⌜ c < dim ⌝ }
+    requires { ⌜ c < mx ⌝ }
     ensures { λ r. ⌜ r ≡ column-sum (now (h .entry)) dim mx c ⌝ }
 {
     let mut s = 0.0;
     for r in 0..mx {
-        s = s + float::abs(h[r * dim + c]);
+        s = s + float::abs(h[c * dim + r]);
     }
     s
 }
@@ -110,7 +110,7 @@ fn hess_sweeps_in(
     hess_sweeps(h, dim, mx, ts, deg, s, &mut y[..mx], &mut w[..mx]);
 }
 
-// e ^ (t H) e_1 for the leading mx rows and columns of h, which is stored in rows of dim.
+// e ^ (t H) e_1 for the leading mx rows and columns of h, which is stored in columns of dim.
 pub fn hess_exp_e1(h: &[f64], dim: usize, mx: usize, t: f64) -> SmallExp
     requires { ⌜ (1 ≤ mx) × (mx ≤ 130) ⌝ }
     requires { ⌜ Leading (now h) dim mx ⌝ }

@@ -9,7 +9,7 @@ use Rattle.lists.specs.Loop.{tabulate}
 use Rattle.lists.proofs.Loop.{Filled, started, turned₀, read-after, finished-all, map-tabulate, tabulate-ext, length-tabulate, getD-tabulate}
 use Rattle.doubles.specs.F64.{_⊗_, at}
 use Rattle.hess_product.specs.HessProduct.{hess-product}
-use Rattle.hess_product.specs.Parts.{hess-row, row-part, four-parts}
+use Rattle.hess_product.specs.Parts.{hess-row, row-part, four-parts, put}
 use Rattle.hess_product.specs.declared.Four.{Four}
 use Rattle.hess_product.proofs.Rows.{row-is}
 
@@ -42,23 +42,24 @@ module _ (h : List Float) (dim mx : ℕ) (f : Float) (w₀ : List Float) where
     row-turn l e =
         record { within = omega (arith, l); filled = turned₀ (p .filled) (told r (omega arith) l (p .saved) e); saved = λ _. kept r (r + 1) (omega arith) refl }
 
-    pub rows-turn : {s : Four} → r + 4 ≤ mx → s ≡ four-parts h dim x w r mx → Placed (r + 4) (at w (r + 3)) (set (set (set (set w r (f ⊗ s .s0)) (r + 1) (f ⊗ s .s1)) (r + 2) (f ⊗ s .s2)) (r + 3) (f ⊗ s .s3))
-    rows-turn {s} l e = record { within = l; filled = w4; saved = λ _. kept (r + 3) (r + 4) (omega arith) (omega arith) }
-      where
-        next : (i j : ℕ) {u : List Float} {v : Float} → i + 1 ≡ j → Filled 0 i row w₀ u → v ≡ row i → Filled 0 j row w₀ (set u i v)
-        next i j {u} {v} d a b = subst (λ (k : ℕ). Filled 0 k row w₀ (set u i v)) d (turned₀ a b)
+    next : (i j : ℕ) {u : List Float} {v : Float} → i + 1 ≡ j → Filled 0 i row w₀ u → v ≡ row i → Filled 0 j row w₀ (set u i v)
+    next i j {u} {v} d a b = subst (λ (k : ℕ). Filled 0 k row w₀ (set u i v)) d (turned₀ a b)
 
-        w1 : Filled 0 (r + 1) row w₀ (set w r (f ⊗ s .s0))
-        w1 = next r (r + 1) refl (p .filled) (told r (omega arith) (omega (arith, l)) (p .saved) (ap (λ (z : Four). z .s0) e))
+    -- four rows from row i on, y being the old value before them
+    four-put : (i j : ℕ) {u : List Float} {y : Float} {s : Four} → r ≤ i → i + 4 ≤ mx → i + 4 ≡ j → (0 < i → y ≡ at w₀ (i - 1)) → Filled 0 i row w₀ u → s ≡ four-parts h dim y w i mx → Filled 0 j row w₀ (put u i f s)
+    four-put i j {u} {y} {s} l m d old a e =
+        let w1 = next i (i + 1) refl a (told i l (omega arith) old (ap (λ (z : Four). z .s0) e)) in
+        let w2 = next (i + 1) (i + 2) (omega arith) w1 (told (i + 1) (omega arith) (omega arith) (λ _. kept i (i + 1) l refl) (ap (λ (z : Four). z .s1) e)) in
+        let w3 = next (i + 2) (i + 3) (omega arith) w2 (told (i + 2) (omega arith) (omega arith) (λ _. kept (i + 1) (i + 2) (omega arith) (omega arith)) (ap (λ (z : Four). z .s2) e)) in
+        next (i + 3) j (omega (arith, d)) w3 (told (i + 3) (omega arith) (omega arith) (λ _. kept (i + 2) (i + 3) (omega arith) (omega arith)) (ap (λ (z : Four). z .s3) e))
 
-        w2 : Filled 0 (r + 2) row w₀ (set (set w r (f ⊗ s .s0)) (r + 1) (f ⊗ s .s1))
-        w2 = next (r + 1) (r + 2) (omega arith) w1 (told (r + 1) (omega arith) (omega (arith, l)) (λ _. kept r (r + 1) (omega arith) refl) (ap (λ (z : Four). z .s1) e))
-
-        w3 : Filled 0 (r + 3) row w₀ (set (set (set w r (f ⊗ s .s0)) (r + 1) (f ⊗ s .s1)) (r + 2) (f ⊗ s .s2))
-        w3 = next (r + 2) (r + 3) (omega arith) w2 (told (r + 2) (omega arith) (omega (arith, l)) (λ _. kept (r + 1) (r + 2) (omega arith) (omega arith)) (ap (λ (z : Four). z .s2) e))
-
-        w4 : Filled 0 (r + 4) row w₀ (set (set (set (set w r (f ⊗ s .s0)) (r + 1) (f ⊗ s .s1)) (r + 2) (f ⊗ s .s2)) (r + 3) (f ⊗ s .s3))
-        w4 = next (r + 3) (r + 4) (omega arith) w3 (told (r + 3) (omega arith) (omega (arith, l)) (λ _. kept (r + 2) (r + 3) (omega arith) (omega arith)) (ap (λ (z : Four). z .s3) e))
+    pub rows-turn : {s t : Four} → r + 8 ≤ mx → s ≡ four-parts h dim x w r mx → t ≡ four-parts h dim (at w (r + 3)) w (r + 4) mx → Placed (r + 8) (at w (r + 7)) (put (put w r f s) (r + 4) f t)
+    rows-turn l e d =
+        record {
+          within = l;
+          filled = four-put (r + 4) (r + 8) (omega arith) (omega arith) (omega arith) (λ _. kept (r + 3) (r + 4) (omega arith) (omega arith)) (four-put r (r + 4) (omega arith) (omega arith) refl (p .saved) (p .filled) e) d;
+          saved = λ _. kept (r + 7) (r + 8) (omega arith) (omega arith);
+        }
 
     -- a list of products by its places
     mapped : (xs : List Float) → length xs ≡ mx → ((k : ℕ) → k < mx → at xs k ≡ hess-row h dim mx w₀ k) → map (λ e. f ⊗ e) xs ≡ tabulate mx row

@@ -17,11 +17,11 @@ use Rattle.lists.proofs.Loop.{getD-tabulate, getD-map}
 use Rattle.lists.proofs.Places.{places-found}
 use Rattle.doubles.specs.F64.{at}
 use Rattle.general_operator.specs.Csr.{Csr, start}
-use Rattle.join.specs.Join.{place, holds, value, joined-columns, joined-value, joined-values, join}
-use Rattle.join.specs.Merge.{Ordered}
-use Rattle.join.proofs.Row.{held-at, rise}
-use Rattle.join.proofs.Steps.{held}
-use Rattle.join.proofs.Result.{values-long}
+use Rattle.join_checks.specs.Join.{place, holds, value, joined-columns, joined-value, joined-values, join}
+use Rattle.join_checks.specs.Inner.{Ordered}
+use Rattle.join_checks.proofs.Row.{held-at, rise}
+use Rattle.join_checks.proofs.Steps.{held}
+use Rattle.join_checks.proofs.Result.{values-long}
 
 -- row i of q has an entry in column j, at place k of the stored columns
 pub record Entry (q : Csr) (i j : ℕ) : Type 0 where

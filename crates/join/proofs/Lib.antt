@@ -1,8 +1,3 @@
-pub mod Values
-pub mod Row
-pub mod Steps
-pub mod Passes
-pub mod Result
 pub mod Entries
 pub mod Passing
 pub mod Theorems

@@ -13,6 +13,7 @@ use borrow.Author.Tests.{le-ltb, lt-leb, not-false, ltb-true}
 use Rattle.lists.specs.Find.{exists}
 use Rattle.lists.specs.Loop.{stack}
 use Rattle.lists.specs.Window.{window, splice}
+use Rattle.lists.proofs.Tests.{and-false}
 use Rattle.lists.proofs.Bounds.{lt-or-le}
 use Rattle.lists.proofs.Find.{none-below, exists-none}
 use Rattle.lists.proofs.Loop.{length-tabulate}
@@ -28,13 +29,13 @@ use Rattle.general_operator.specs.Checks.{matrix-checks}
 use Rattle.general_operator.proofs.Sound.{or-false}
 use Rattle.general_operator.proofs.Rows.{start-le}
 use Rattle.generator_action.specs.Known.{Finite}
-use Rattle.join.specs.declared.JoinAnswer.the-variants.{Joined}
-use Rattle.join.specs.declared.Lengths.{Lengths}
-use Rattle.join.specs.Join.{place, holds, value, joined-columns, joined-value, join, unordered, not-rising, input-checks, value-checks, pair-checks, result-checks, join-checks, written, join-call, Call, ends}
-use Rattle.join.specs.Merge.{Ordered, Fitting}
+use Rattle.join_checks.specs.declared.JoinAnswer.the-variants.{Joined}
+use Rattle.join_checks.specs.declared.Lengths.{Lengths}
+use Rattle.join_checks.specs.Join.{place, holds, value, joined-columns, joined-value, join, unordered, not-rising, input-checks, value-checks, pair-checks, result-checks, join-checks, written, join-call, Call, ends}
+use Rattle.join_checks.specs.Inner.{Ordered, Fitting}
 use Rattle.join.proofs.Passing.{valid-passes}
-use Rattle.join.proofs.Steps.{held}
-use Rattle.join.proofs.Result.{values-long, input-valid, ordered, same-n, fitting}
+use Rattle.join_checks.proofs.Steps.{held}
+use Rattle.join_checks.proofs.Result.{values-long, input-valid, ordered, same-n, fitting}
 use Rattle.join.proofs.Entries.{Entry, holds-entry, entry-holds, entry-place, start-is, row-ends, entry-held, entry-value, held-entry, result-rises}
 
 -- ---- 6 carries a sum: a value that is not finite is one of both
@@ -69,10 +70,6 @@ or-cases false t e = _⊎_.inr e
 or-second : (s t : Bool) → t ≡ true → (s || t) ≡ true
 or-second true t e = refl
 or-second false t e = e
-
-and-no : (s : Bool) → (s && false) ≡ false
-and-no true = refl
-and-no false = refl
 
 module _ (a b : Csr) (l : Lengths) (e : Sound ≡ first (join-checks a b l)) where
   abbrev c : Csr
@@ -157,7 +154,7 @@ module _ (a b : Csr) (l : Lengths) (e : Sound ≡ first (join-checks a b l)) whe
   unfolding not-rising
   row-fine i k h =
       ⊎-elim
-      (λ (m : start c i + k + 1 < start c (i + 1)). rw (lt-leb _ _ (result-rises a b i (start c i + k) h (omega arith) m)) (and-no (ltb (start c i + k + 1) (start c (i + 1)))))
+      (λ (m : start c i + k + 1 < start c (i + 1)). rw (lt-leb _ _ (result-rises a b i (start c i + k) h (omega arith) m)) (and-false (ltb (start c i + k + 1) (start c (i + 1)))))
       (λ (m : start c (i + 1) ≤ start c i + k + 1). rw (le-ltb _ _ m) refl)
       (lt-or-le (start c i + k + 1) (start c (i + 1)))
 

@@ -29,7 +29,8 @@ use Rattle.combination.specs.Checks.{count-checks, time-checks, length-checks, 
 use Rattle.admission.specs.Inner.{matrix-of, after-checks}
 use Rattle.admission.proofs.Admitted.{Vectors, vectors-known, first-within, further-within, coupled-in, enough-known, length-start}
 use Rattle.combination.proofs.Further.{length-further}
-use Rattle.admission.proofs.Stored.{quotients-rows, clear-over}
+use Rattle.combination.proofs.Cleared.{clear-over}
+use Rattle.admission.proofs.Stored.{quotients-rows}
 use Rattle.combination.proofs.Ends.{refused-by, runs}
 use Rattle.arnoldi.specs.declared.Krylov.{Krylov}
 use Rattle.phi_krylov_arnoldi.specs.Run.{End, finished, refused, clamp-m}

@@ -25,7 +25,7 @@ use Rattle.krylov_job.specs.KrylovCall.{bound, dimension, option-checks,
 use Rattle.krylov_job.specs.Memory.{krylov}
 use Rattle.krylov_job.specs.declared.KrylovPhiOptions.{KrylovPhiOptions}
 use Rattle.krylov_job.specs.declared.KrylovAnswer.{KrylovAnswer}
-use Rattle.krylov_job.specs.declared.KrylovAnswer.the-variants.{Refusal, Soaked}
+use Rattle.krylov_job.specs.declared.KrylovAnswer.the-variants.{Refusal, Result}
 use Rattle.krylov_job.specs.declared.RunJob.{RunJob}
 use Rattle.krylov_job.specs.declared.Eta.{Eta}
 use Rattle.krylov_job.specs.declared.Eta.the-variants.{Own, Began}
@@ -83,5 +83,5 @@ run-of j q vectors y =
 
 -- the answer that its end is told by
 unfoldable pub answer-of : RunAnswer → KrylovAnswer
-answer-of (Finished c r) = Soaked r
+answer-of (Finished c r) = Result r
 answer-of (Refused k x c r) = Refusal k x

@@ -18,7 +18,7 @@ use Rattle.combination.specs.Checks.{time-checks, length-checks, vector-checks-
 use Rattle.phi_krylov_arnoldi.specs.Run.{End, finished, refused, clamp-m, expv, open-Run}
 use Rattle.krylov_job.specs.declared.KrylovPhiOptions.{KrylovPhiOptions}
 use Rattle.krylov_job.specs.declared.KrylovAnswer.{KrylovAnswer}
-use Rattle.krylov_job.specs.declared.KrylovAnswer.the-variants.{Refusal, Soaked}
+use Rattle.krylov_job.specs.declared.KrylovAnswer.the-variants.{Refusal, Result}
 
 -- the bound of the augmented operator: tau * norm + 2
 unfoldable pub bound : Float → Float → Float
@@ -66,7 +66,7 @@ krylov-checks g tau count w o output memory =
 
 -- a run leaves its field, the last accepted one where it was refused, and clears what it needed
 unfoldable pub after-run : ℕ → ℕ → List Float → End → Call KrylovAnswer
-after-run n need memory (finished s) = ends (Soaked (s .report)) (window 0 n (s .y)) (cleared need memory)
+after-run n need memory (finished s) = ends (Result (s .report)) (window 0 n (s .y)) (cleared need memory)
 after-run n need memory (refused k x s) = ends (Refusal k x) (window 0 n (s .y)) (cleared need memory)
 
 -- a job that passed: w_0 is the first n values of v, w_1 to w_d are f

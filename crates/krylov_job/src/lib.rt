@@ -35,7 +35,7 @@ pub struct KrylovPhiOptions {
 // A refusal's number and double, or a report.
 pub enum KrylovAnswer {
     Refusal(u32, f64),
-    Soaked(KrylovPhiReport),
+    Result(KrylovPhiReport),
 }
 
 // M: m clamped to 2 .. max(2, len).

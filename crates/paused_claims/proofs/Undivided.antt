@@ -182,11 +182,11 @@ module _ (o : KrylovPhiOptions) (j : Job) (f : Scale) (by : pow2-scale (values-o
     goes-whole n z l m e = at-limit n (on z) l m e ∙ (λ a. ends (krylov-answer.Refusal 27 (z .report .«est_error»)) (sym (output-is (on z)) a) (sym (memory-is (on z)) a))
 
     finishes-whole : (z : State) → runs (replicate k q₀) (on (started q₀ y₀)) ≡ out (finished z)
-        → undivided o j limit (i .output) (i .memory) ≡ ends (krylov-answer.Soaked (relative-report (z .report) (euclidean y₀))) (left-in (out (finished z)) .output) (left-in (out (finished z)) .memory)
+        → undivided o j limit (i .output) (i .memory) ≡ ends (krylov-answer.Result (relative-report (z .report) (euclidean y₀))) (left-in (out (finished z)) .output) (left-in (out (finished z)) .memory)
     unfolding spent back scaled-back after-run
     finishes-whole z e =
         at-limit limit (out (finished z)) (le-trans some most) (omega arith) (after-end k limit (finished z) most e)
-        ∙ (λ a. ends (krylov-answer.Soaked (relative-report (z .report) (euclidean y₀))) (sym (output-is (out (finished z))) a) (sym (memory-is (out (finished z))) a))
+        ∙ (λ a. ends (krylov-answer.Result (relative-report (z .report) (euclidean y₀))) (sym (output-is (out (finished z))) a) (sym (memory-is (out (finished z))) a))
 
     fails-whole : (r : ℕ) (x : Float) (z : State) → runs (replicate k q₀) (on (started q₀ y₀)) ≡ out (refused r x z)
         → undivided o j limit (i .output) (i .memory) ≡ ends (krylov-answer.Refusal r x) (left-in (out (refused r x z)) .output) (left-in (out (refused r x z)) .memory)
@@ -307,4 +307,4 @@ zero-whole o j output memory field s e z =
     let a = the-start o j output memory field in
     let sound : Sound ≡ first (job-checks o j output memory) = a .only-accepted e .0 in
     let h = a .idle e z in
-    rw (← sound, zeros-none (values-of j) z) (λ k. ends (krylov-answer.Soaked (sym (h .unstepped .report) k)) (sym (h .output) k) (sym (h .cleared-memory) k))
+    rw (← sound, zeros-none (values-of j) z) (λ k. ends (krylov-answer.Result (sym (h .unstepped .report) k)) (sym (h .output) k) (sym (h .cleared-memory) k))

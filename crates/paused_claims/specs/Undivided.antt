@@ -39,7 +39,7 @@ undivided o j limit output memory = phi-combination-krylov (j .g) (j .tau) (j .c
 abbrev pub AsWhole : KrylovPhiOptions → Job → ℕ → List Float → List Float → PausedCall StepAnswer → StepAnswer → Type 0
 AsWhole o j k output memory c (Stepped s) =
     (s .ended ≡ false → undivided o j k output memory ≡ ends (krylov-answer.Refusal 27 (s .report .«est_error»)) (c .output) (c .memory))
-    × (s .ended ≡ true → undivided o j (o .«max_substeps») output memory ≡ ends (krylov-answer.Soaked (s .report)) (c .output) (c .memory))
+    × (s .ended ≡ true → undivided o j (o .«max_substeps») output memory ≡ ends (krylov-answer.Result (s .report)) (c .output) (c .memory))
 AsWhole o j k output memory c (Refusal r x s) = undivided o j (o .«max_substeps») output memory ≡ ends (krylov-answer.Refusal r x) (c .output) (c .memory)
 
 -- with the whole output, and enough working memory
@@ -66,4 +66,4 @@ pub record UndividedClaim (o : KrylovPhiOptions) (j : Job) (p : Past) : Type 0 w
 abbrev pub ZeroWhole : KrylovPhiOptions → Job → List Float → List Float → List Float → Type 0
 ZeroWhole o j output memory field =
     let c = start o j output memory field in
-    (s : PausedRun) → c .answer ≡ Started s → Zeros (values-of j) → undivided o j (o .«max_substeps») output memory ≡ ends (krylov-answer.Soaked (s .report)) (c .output) (c .memory)
+    (s : PausedRun) → c .answer ≡ Started s → Zeros (values-of j) → undivided o j (o .«max_substeps») output memory ≡ ends (krylov-answer.Result (s .report)) (c .output) (c .memory)

@@ -120,7 +120,7 @@ pub fn start(
 ) -> StartAnswer
     ensures { λ r. ⌜ leaves r (now (out .exit)) (now (work .exit)) (now (field .exit)) ≡ start o (record { g = forward (csr n (now (starts .entry)) (now (cols .entry)) (now (vals .entry))) (given «with_mass» (now (mass .entry))); tau = tau; count = count; w = now (w .entry) }) (now (out .entry)) (now (work .entry)) (now (field .entry)) ⌝ }
 {
-    let matrix = generator_action::check_generator(n, starts, cols, vals, with_mass, mass);
+    let matrix = generator_checks::check_generator(n, starts, cols, vals, with_mass, mass);
     let MatrixAnswer::Norm(norm, _) = matrix else {
         return StartAnswer::Refusal(
             generator_action::number(matrix),

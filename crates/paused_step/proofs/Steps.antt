@@ -30,7 +30,8 @@ use Rattle.combination.specs.Call.{cleared}
 use Rattle.combination.specs.Checks.{length-checks}
 use Rattle.admission.specs.Inner.{matrix-of}
 use Rattle.admission.proofs.Admitted.{first-within}
-use Rattle.admission.proofs.Stored.{quotients-rows, clear-over}
+use Rattle.combination.proofs.Cleared.{clear-over}
+use Rattle.admission.proofs.Stored.{quotients-rows}
 use Rattle.arnoldi.specs.Basis.{norm2}
 use Rattle.arnoldi.specs.Memory.{setting-at, Room}
 use Rattle.arnoldi.specs.declared.Krylov.{Krylov}

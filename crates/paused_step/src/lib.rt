@@ -48,7 +48,7 @@ fn substep_on(
     let len = j.g.n + j.d;
     let l = krylov_job::layout(j.g.n, j.d, j.k.m, j.g.with_mass);
     vectors::copy_from(work, j.k.y, field, 0, len);
-    generator_action::store_quotients(j.g.n, starts, cols, vals, j.g.with_mass, mass, work, l.q);
+    stored_quotients::store_quotients(j.g.n, starts, cols, vals, j.g.with_mass, mass, work, l.q);
     let k = Krylov {
         m: j.k.m,
         h: j.k.h,
@@ -163,7 +163,7 @@ pub fn step(
     if paused_run::over(run) {
         return StepAnswer::Refusal(31, float::not_a_number(), run);
     }
-    let matrix = generator_action::check_generator(n, starts, cols, vals, with_mass, mass);
+    let matrix = generator_checks::check_generator(n, starts, cols, vals, with_mass, mass);
     let MatrixAnswer::Norm(norm, _) = matrix else {
         return StepAnswer::Refusal(
             generator_action::number(matrix),

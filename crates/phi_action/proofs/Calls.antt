@@ -23,11 +23,11 @@ use Rattle.admission.specs.declared.Job.{Job}
 use Rattle.combination.proofs.Ends.{refused-by, runs}
 use Rattle.admission.proofs.Stored.{quotients-rows}
 use Rattle.admission.proofs.Admitted.{coupled-in, coupled-one, sweeps-known, Action, action-known, length-start, length-init}
-use Rattle.phi_action.specs.Inner.{Allowed, operator-by, job-end}
-use Rattle.phi_action.specs.Calls.{soaked, combination-checks, combination-run, phi-combination, action-checks, phi-action, batched, phi-action-batched}
-use Rattle.phi_action.specs.declared.TaylorAnswer.{TaylorAnswer}
-use Rattle.phi_action.specs.declared.TaylorAnswer.the-variants.{Refusal}
-use Rattle.phi_action.proofs.Jobs.{started-is, ends-planned}
+use Rattle.taylor_job.specs.Inner.{Allowed, operator-by, job-end}
+use Rattle.taylor_job.specs.Calls.{swept-fields, combination-checks, combination-run, phi-combination, action-checks, phi-action, batched, phi-action-batched}
+use Rattle.taylor_job.specs.declared.TaylorAnswer.{TaylorAnswer}
+use Rattle.taylor_job.specs.declared.TaylorAnswer.the-variants.{Refusal}
+use Rattle.taylor_job.proofs.Jobs.{started-is, ends-planned}
 
 -- ---- what a run takes from them
 pub known-action : (g : Shape) (tau : Float) (cap k : ℕ) (v : List Float) (output wanted memory : ℕ) {j : Job} → j ≡ action-job g tau cap k v output wanted memory → j .checked ≡ Sound
@@ -94,14 +94,14 @@ module _ {starts cols : List ℕ} {vals : List Float} (mass : List Float) {g : S
   -- ---- a combination that passed: w_0 is the first n values of v, w_1 to w_d are f
   pub ran : (tau : Float) (cap d : ℕ) (v f out w₀ : List Float) {j : Job} {c : Call TaylorAnswer} {w₁ : List Float} → d ≤ 3 → g .n ≤ length v → j ≡ combination-job g tau cap d f (length w₀) → j .checked ≡ Sound
       → w₁ ≡ splice 0 (combination-start (g .n) v d (j .inv)) w₀
-      → c ≡ job-end j (matrix-of (j .g) starts cols vals mass) (soaked (operator-by j (matrix-of (j .g) starts cols vals mass) f) (j .tau) (window 0 (j .g .n + j .d) w₁)) w₁
+      → c ≡ job-end j (matrix-of (j .g) starts cols vals mass) (swept-fields (operator-by j (matrix-of (j .g) starts cols vals mass) f) (j .tau) (window 0 (j .g .n + j .d) w₁)) w₁
       → c ≡ combination-run (after-checks gs a m g) tau cap d v f out w₀
   unfolding combination-run combination-operator taylor-need
   ran tau cap d v f out w₀ few l ej e e₁ h =
       let J = combination-job g tau cap d f (length w₀) in
       let q = quotients a m in
       let al = allowed-combination mass ok {work = w₀} f few ej e refl in
-      let run = soaked (operator-by J q f) tau in
+      let run = swept-fields (operator-by J q f) tau in
       let y = combination-start (g .n) v d (J .inv) in
       started-is J q run (g .n + d) y w₀ (length-start (g .n) v d (J .inv) l) (omega arith) (rw ej at (al .enough)) (rw ej at e₁) (rw ej at h)
       ∙ ends-planned (rw ej at al) out q (run y)
@@ -147,14 +147,14 @@ module _ {starts cols : List ℕ} {vals : List Float} (mass : List Float) {g : S
     refused-action e = refused-by Refusal _ out w₀ _ e told-one
 
     pub acted-is : {c : Call TaylorAnswer} {w₁ : List Float} → j .checked ≡ Sound → w₁ ≡ splice 0 (init-aug-vector (g .n) v (j .inv) k) w₀
-        → c ≡ job-end j (matrix-of (j .g) starts cols vals mass) (soaked (operator-by j (matrix-of (j .g) starts cols vals mass) v) (j .tau) (window 0 (j .g .n + j .d) w₁)) w₁
+        → c ≡ job-end j (matrix-of (j .g) starts cols vals mass) (swept-fields (operator-by j (matrix-of (j .g) starts cols vals mass) v) (j .tau) (window 0 (j .g .n + j .d) w₁)) w₁
         → c ≡ phi-action (after-checks gs a m g) tau cap k v out w₀
     unfolding phi-action action-operator taylor-need
     acted-is e e₁ f =
         let J = action-job g tau cap k v (length out) (g .n) (length w₀) in
         let q = quotients a m in
         let al = allowed tau cap k v out w₀ (g .n) ej e in
-        let run = soaked (operator-by J q v) tau in
+        let run = swept-fields (operator-by J q v) tau in
         let y = init-aug-vector (g .n) v (J .inv) k in
         runs Refusal _ out w₀ _ e told-one
         (started-is J q run (g .n + 3) y w₀ (length-init (g .n) v (J .inv) k (known-action g tau cap k v (length out) (g .n) (length w₀) ej e .whole)) (omega arith) (al .enough) (rw ej at e₁) (rw ej at f)

@@ -23,13 +23,13 @@ use Rattle.phi_action_helpers.specs.Laid.{operator-at, Laid, Lined}
 use Rattle.phi_action_helpers.proofs.Sweeps.{values-kept}
 use Rattle.phi_action_helpers.proofs.Counts.{run-counted}
 use Rattle.combination.specs.Combination.{init-aug-vector}
-use Rattle.phi_action.specs.Calls.{soaked, batch-step, batched}
-use Rattle.phi_action.proofs.Jobs.{soak-long}
+use Rattle.taylor_job.specs.Calls.{swept-fields, batch-step, batched}
+use Rattle.taylor_job.proofs.Jobs.{soak-long}
 use Rattle.admission.proofs.Admitted.{length-init}
 
 -- ---- one run
-pub soak-counted : (b : Augmented) (tau : Float) (y : List Float) (p : SweepPlan) → soaked b tau y p .applied ≡ p .s * p .m
-unfolding soaked
+pub soak-counted : (b : Augmented) (tau : Float) (y : List Float) (p : SweepPlan) → swept-fields b tau y p .applied ≡ p .s * p .m
+unfolding swept-fields
 soak-counted b tau y p = run-counted b tau p y
 
 -- ---- k runs
@@ -72,8 +72,8 @@ module _ {l : Layout} {b : Coupling} {starts cols : List ℕ} {vals v : List Flo
 
   pub batch-turn : {k a a′ : ℕ} {w₀ w w₁ w₂ out₀ out out′ : List Float} → Batch l b starts cols vals v tau inv p k a w₀ w out₀ out → Lined l → l .d ≡ 3 → length v ≡ l .n → l .n + 3 ≤ length w
       → w₁ ≡ splice 0 (init-aug-vector (l .n) v inv k) w
-      → a′ ≡ soaked (operator-at l b starts cols vals v w₁) tau (window 0 (l .n + l .d) w₁) p .applied
-      → out′ ≡ splice (k * l .n) (soaked (operator-at l b starts cols vals v w₁) tau (window 0 (l .n + l .d) w₁) p .fields) out
+      → a′ ≡ swept-fields (operator-at l b starts cols vals v w₁) tau (window 0 (l .n + l .d) w₁) p .applied
+      → out′ ≡ splice (k * l .n) (swept-fields (operator-at l b starts cols vals v w₁) tau (window 0 (l .n + l .d) w₁) p .fields) out
       → Kept 0 (l .q) +0 w₁ w₂
       → Batch l b starts cols vals v tau inv p (k + 1) (a + a′) w₀ w₂ out₀ out′
   unfolding batched batch-step iter
@@ -83,12 +83,12 @@ module _ {l : Layout} {b : Coupling} {starts cols : List ℕ} {vals v : List Flo
       let k₁ = kept-on (s .kept) (init-kept v inv k o d lv e₁) in
       let field : window 0 (l .n + l .d) w₁ ≡ y = rw d (ap (window 0 (l .n + 3)) e₁ ∙ window-splice-same 0 (l .n + 3) y w (length-init (l .n) v inv k lv) (omega arith)) in
       let same = values-kept (l .mass) (l .q) vals w₀ w₁ k₁ in
-      let ea′ : a′ ≡ soaked B tau y p .applied = rw (same, field) at ea in
-      let eo′ : out′ ≡ splice (k * l .n) (soaked B tau y p .fields) out = rw (same, field) at eo in
+      let ea′ : a′ ≡ swept-fields B tau y p .applied = rw (same, field) at ea in
+      let eo′ : out′ ≡ splice (k * l .n) (swept-fields B tau y p .fields) out = rw (same, field) at eo in
       let long = batch-long B tau v inv p k lv d in
       record {
         counted = rw (add-one k, s .counted, ea′) refl;
-        made = rw (add-one k) (eo′ ∙ ap (splice (k * l .n) (soaked B tau y p .fields)) (s .made) ∙ rw (zero-add (k * l .n)) at (splice-more 0 (k * l .n) (batched B tau v inv k p .fields) (soaked B tau y p .fields) out₀ long));
+        made = rw (add-one k) (eo′ ∙ ap (splice (k * l .n) (swept-fields B tau y p .fields)) (s .made) ∙ rw (zero-add (k * l .n)) at (splice-more 0 (k * l .n) (batched B tau v inv k p .fields) (swept-fields B tau y p .fields) out₀ long));
         kept = kept-on k₁ h;
       }
 

@@ -3,8 +3,8 @@ use admission::Job;
 use checks::Checked;
 use generator_action::MatrixAnswer;
 use generator_action::Shape;
-use phi_action::TaylorAnswer;
 use phi_action_helpers::SweepArgs;
+use taylor_job::TaylorAnswer;
 ghost use mathlib.Core.Path.{_≡_};
 ghost use mathlib.Core.List.{List};
 ghost use Prim.Native.Nat.{_+_, _*_, _≤_};
@@ -20,8 +20,8 @@ ghost use Rattle.generator_action.specs.Known.{Passed};
 ghost use Rattle.phi_action_helpers.specs.Laid.{operator-at, Ready, Lined};
 ghost use Rattle.combination.specs.Call.{ends};
 ghost use Rattle.admission.specs.Inner.{Coupled, matrix-of, after-checks};
-ghost use Rattle.phi_action.specs.Inner.{layout, operator-by, job-end, Allowed};
-ghost use Rattle.phi_action.specs.Calls.{batched, phi-action-batched};
+ghost use Rattle.taylor_job.specs.Inner.{layout, operator-by, job-end, Allowed};
+ghost use Rattle.taylor_job.specs.Calls.{batched, phi-action-batched};
 
 // The sweeps of phi_0 up to phi_(count - 1), one after the other; the products of all.
 fn sweep_batch(
@@ -46,7 +46,7 @@ fn sweep_batch(
     let mut applied = 0u64;
     for k in 0..count {
         admission::init_aug_vector(n, v, k, inv, work);
-        applied = applied + phi_action::swept_out(starts, cols, vals, v, out, k * n, work, x);
+        applied = applied + taylor_job::swept_out(starts, cols, vals, v, out, k * n, work, x);
     }
     applied
 }
@@ -69,9 +69,9 @@ fn run_batch(
     ensures { λ r. ⌜ ends r (now (out .exit)) (now (work .exit)) ≡ job-end j (matrix-of (j .g) (now (starts .entry)) (now (cols .entry)) (now (vals .entry)) (now (mass .entry))) (batched (operator-by j (matrix-of (j .g) (now (starts .entry)) (now (cols .entry)) (now (vals .entry)) (now (mass .entry))) (now (v .entry))) (j .tau) (now (v .entry)) (j .inv) count) (now (work .entry)) ⌝ }
 {
     let g = j.g;
-    let l = phi_action::layout(g.n, j.d, g.with_mass);
+    let l = taylor_job::layout(g.n, j.d, g.with_mass);
     let b = j.b;
-    let p = phi_action::prepare(starts, cols, vals, mass, work, j);
+    let p = taylor_job::prepare(starts, cols, vals, mass, work, j);
     let x = SweepArgs {
         l: l,
         b: b,
@@ -79,7 +79,7 @@ fn run_batch(
         p: p,
     };
     let applied = sweep_batch(starts, cols, vals, v, out, work, x, j.inv, count);
-    phi_action::finish(work, j.need, p, applied)
+    taylor_job::finish(work, j.need, p, applied)
 }
 
 // The batch over a generator that passed its checks. An index above 3 is refused before the output's length is computed.
@@ -129,7 +129,7 @@ pub fn phi_action_batched(
 ) -> TaylorAnswer
     ensures { λ r. ⌜ ends r (now (out .exit)) (now (work .exit)) ≡ phi-action-batched (forward (csr n (now (starts .entry)) (now (cols .entry)) (now (vals .entry))) (given «with_mass» (now (mass .entry)))) tau cap p (now (v .entry)) (now (out .entry)) (now (work .entry)) ⌝ }
 {
-    let matrix = generator_action::check_generator(n, starts, cols, vals, with_mass, mass);
+    let matrix = generator_checks::check_generator(n, starts, cols, vals, with_mass, mass);
     let MatrixAnswer::Norm(norm, _) = matrix else {
         return TaylorAnswer::Refusal(
             generator_action::number(matrix),

@@ -3,7 +3,7 @@ use mathlib.Core.Path.{_≡_, refl, sym}
 use mathlib.Core.Bool.{Bool, true, false, _&&_, true≢false}
 use mathlib.Core.List.{List}
 use Prim.Native.Nat.{ℕ, zero, suc, _*_, _<_}
-use native.Mathlib.Nat.{zero-mul, mul-pos, zero-lt-suc, eq-or-lt-of-le, le-of-suc-le-suc}
+use native.Mathlib.Nat.{zero-mul, eq-or-lt-of-le, le-of-suc-le-suc}
 use native.Mathlib.Omega.{arith}
 use mathlib.Core.Logic.{⊎-elim}
 use mathlib.Core.Path.{subst}
@@ -11,12 +11,11 @@ use lib.IntN.{ℤ}
 use lib.Dec.{T, lt→ltb, eqb}
 use lib.ListN.{length}
 use lib.Ieee.{Float, nan, inf, fin, up, down, lt, eq, ofBits}
-use borrow.Author.Tests.{eqb-false, lt-ltb, le-ltb}
-use lib.Ieee.Fits.{up-pos, down-pos}
+use borrow.Author.Tests.{eqb-false, le-ltb}
 use Rattle.doubles.proofs.Extremes.{nonneg-max}
 use Rattle.lists.specs.Loop.{iter}
 use Rattle.doubles.specs.F64.{if_then_else_, _⋖_, +0, at, abs, is-finite, replaced, maxNum, nonneg}
-use Rattle.doubles.proofs.Compare.{zero-cases, zero-equal}
+use Rattle.doubles.proofs.Compare.{zero-below, zero-cases, zero-equal}
 use Rattle.pow2.specs.Pow2.{sup}
 
 pub nonneg-sup : (x : List Float) → T (nonneg (sup x))
@@ -58,11 +57,6 @@ NoDigit (fin s (suc m) e) = ⊥
 no-digit : (x : Float) → IsZero x → NoDigit x
 no-digit = zero-cases NoDigit (λ s e. tt)
 
--- of a zero and a number above 0 the larger is the number
-small-first : (e : ℤ) (n : ℕ) (d : ℤ) → (fin false 0 e ⋖ fin false (suc n) d) ≡ true
-unfolding lt
-small-first e n d = lt-ltb (0 * up e * down d) (suc n * up d * down e) (rw (zero-mul (up e), zero-mul (down d)) (mul-pos (mul-pos (zero-lt-suc n) (up-pos d)) (down-pos e)))
-
 large-first : (a : ℕ) (e : ℤ) (d : ℤ) → (fin false a e ⋖ fin false 0 d) ≡ false
 unfolding lt
 large-first a e d = le-ltb (a * up e * down d) (0 * up d * down e) (rw (zero-mul (up d), zero-mul (down e)) (omega arith))
@@ -79,7 +73,7 @@ max-zero (fin true a e) v h f z = absurd h
 max-zero (fin false a e) nan h f z = absurd (true≢false (sym f))
 max-zero (fin false a e) (inf s) h f z = absurd (true≢false (sym f))
 max-zero (fin false zero e) (fin s zero d) h f z = (zero-equal false e, zero-equal s d)
-max-zero (fin false zero e) (fin s (suc n) d) h f z = absurd (no-digit (fin false (suc n) d) (rw (small-first e n d) at z))
+max-zero (fin false zero e) (fin s (suc n) d) h f z = absurd (no-digit (fin false (suc n) d) (rw (zero-below e n d) at z))
 max-zero (fin false (suc a) e) (fin s zero d) h f z = absurd (no-digit (fin false (suc a) e) (rw (large-first (suc a) e d) at z))
 max-zero (fin false (suc a) e) (fin s (suc n) d) h f z = absurd (go (fin false (suc a) e ⋖ fin false (suc n) d) z)
   where

@@ -14,6 +14,7 @@ use lib.Ieee.Order.{round-mono}
 use lib.Ieee.Scale.{round-same}
 use borrow.Author.Tests.{ltb-true, ltb-false, ne-eqb}
 use Rattle.doubles.proofs.Unique.{round-self}
+use Rattle.lists.proofs.Tests.{and-false}
 use Rattle.pow2.specs.declared.Prescale.the-variants.{By, None}
 use Rattle.pow2.specs.Pow2.{pow2-f64, usable, factors, scale-of}
 
@@ -101,11 +102,7 @@ factors-inside e h =
     down-in (pos (suc n)) h = omega arith
     down-in (negsuc n) h = h
 
-and-off : (t : Bool) → (t && false) ≡ false
-and-off true = refl
-and-off false = refl
-
 pub factors-outside : (e : ℤ) → 1024 ≤ natAbs e → factors e ≡ None
 unfolding factors
-factors-outside (pos n) h = rw (pow2-over n h, usable-over, and-off (usable (pow2-f64 (negℤ (pos n)))))
+factors-outside (pos n) h = rw (pow2-over n h, usable-over, and-false (usable (pow2-f64 (negℤ (pos n)))))
 factors-outside (negsuc n) h = rw (pow2-over (suc n) h, usable-over)

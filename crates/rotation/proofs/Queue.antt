@@ -10,6 +10,7 @@ use lib.ListN.{length, length-append, getD, set, drop, replicate}
 use borrow.Author.Tests.{ltb-true, leb-false}
 use Rattle.lists.specs.Loop.{tabulate}
 use Rattle.lists.specs.Window.{splice}
+use Rattle.lists.proofs.Tests.{and-both}
 use Rattle.lists.proofs.Find.{find-le, find-before}
 use Rattle.lists.proofs.Loop.{Filled, started, turned₀, length-tabulate, tabulate-ext}
 use Rattle.lists.proofs.Window.{splice-snoc, splice-parts}
@@ -17,10 +18,6 @@ use Rattle.paused_run.specs.declared.PausedRun.{PausedRun}
 use Rattle.rotation.specs.Unit.{waiting, queue-of, next-place, lowest-free, room, back}
 use Rattle.rotation.specs.Inner.{count-of, shifted, seat-of, end-of, passed-of}
 use Rattle.rotation.specs.declared.Rotation.{Rotation}
-
-pub and-both : (a b : Bool) → (a && b) ≡ true → (a ≡ true) × (b ≡ true)
-and-both true b e = (refl, e)
-and-both false b e = absurd (true≢false (sym e))
 
 -- ---- a queue that is filled from the front
 drop-replicate : {A : Type 0} (n m : ℕ) (z : A) → drop n (replicate m z) ≡ replicate (m - n) z

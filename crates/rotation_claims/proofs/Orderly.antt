@@ -20,6 +20,7 @@ use Rattle.paused_run.specs.declared.StepAnswer.{StepAnswer}
 use Rattle.rotation.specs.Unit.{vacant, unread, run-at, empty, waiting, UnitCall, unit-call, lowest-free, seated, join, run-left, back, passed-on, turn}
 use Rattle.rotation.specs.declared.Rotation.{Rotation}
 use Rattle.paused_claims.specs.History.{run-in}
+use Rattle.lists.proofs.Tests.{or-true, and-false}
 use Rattle.rotation_claims.specs.History.{Act, joins, takes-turn, Event, joined, turned, unit-after, event-of, unit-from, events-from, left-by, goes-on, unfinished-from, unfinished}
 use Rattle.rotation_claims.specs.Order.{times}
 use Rattle.rotation_claims.proofs.Queue.{times-append, times-here, times-other, times-none, waiting-few, queue-long}
@@ -91,14 +92,6 @@ orderly-empty =
 or-false : (b : Bool) → (b || false) ≡ b
 or-false true = refl
 or-false false = refl
-
-or-true : (b : Bool) → (b || true) ≡ true
-or-true true = refl
-or-true false = refl
-
-and-false : (b : Bool) → (b && false) ≡ false
-and-false true = refl
-and-false false = refl
 
 module _ {u : Rotation} {f : ℕ → Bool} (h : Orderly u f) where
   abbrev joined-flag : UnitCall StartAnswer → ℕ → Bool

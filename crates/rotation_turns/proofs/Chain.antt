@@ -3,21 +3,19 @@ use mathlib.Core.Path.{_≡_, refl, sym, ap, _∙_}
 use mathlib.Core.Bool.{Bool, true, false, _&&_}
 use mathlib.Core.List.{List, [], _∷_, _++_, append-assoc}
 use Prim.Native.Nat.{ℕ, zero, suc, _+_, _*_}
-use native.Mathlib.Nat.{zero-mul, mul-pos, zero-lt-suc}
+use native.Mathlib.Nat.{zero-mul}
 use native.Mathlib.Omega.{arith}
 use lib.IntN.{ℤ, pos, negsuc}
 use lib.Dec.{T}
 use lib.ListN.{length, length-append, replicate}
 use lib.Seq.{getD-append-seam}
 use lib.Ieee.{Float, nan, inf, fin, up, down, lt, eq, ofBits}
-use lib.Ieee.Fits.{up-pos, down-pos}
-use borrow.Author.Tests.{lt-ltb}
 use Rattle.lists.specs.Loop.{iter}
 use Rattle.lists.specs.Window.{window}
 use Rattle.lists.proofs.Loop.{iter-next}
 use Rattle.lists.proofs.Window.{window-whole}
 use Rattle.doubles.specs.F64.{if_then_else_, _⋖_, +0, 1f, at, abs, is-finite, replaced, maxNum, nonneg}
-use Rattle.doubles.proofs.Compare.{zero-cases}
+use Rattle.doubles.proofs.Compare.{zero-below, zero-cases}
 use Rattle.doubles.proofs.Extremes.{nonneg-max}
 use Rattle.pow2.specs.Pow2.{clamp, ceil-log2, eta-of, eta-scaling, sup, pow2-scale}
 use Rattle.pow2.specs.declared.Scale.{Scale}
@@ -38,10 +36,6 @@ NoDigit (fin s (suc m) e) = ⊥
 no-digit : (x : Float) → IsZero x → NoDigit x
 no-digit = zero-cases NoDigit (λ s e. tt)
 
-small-first : (e : ℤ) (n : ℕ) (d : ℤ) → (fin false 0 e ⋖ fin false (suc n) d) ≡ true
-unfolding lt
-small-first e n d = lt-ltb (0 * up e * down d) (suc n * up d * down e) (rw (zero-mul (up e), zero-mul (down d)) (mul-pos (mul-pos (zero-lt-suc n) (up-pos d)) (down-pos e)))
-
 -- the larger of two, one of which is above 0
 larger : (m : Float) → T (nonneg m) → (n : ℕ) (d : ℤ) → IsZero (maxNum m (abs (fin false (suc n) d))) → ⊥
 unfolding maxNum replaced
@@ -49,7 +43,7 @@ larger nan h n d z = absurd h
 larger (inf true) h n d z = absurd h
 larger (inf false) h n d z = absurd (no-digit (inf false) (unfold lt in z))
 larger (fin true a e) h n d z = absurd h
-larger (fin false zero e) h n d z = absurd (no-digit (fin false (suc n) d) (rw (small-first e n d) at z))
+larger (fin false zero e) h n d z = absurd (no-digit (fin false (suc n) d) (rw (zero-below e n d) at z))
 larger (fin false (suc a) e) h n d z = go (fin false (suc a) e ⋖ fin false (suc n) d) z
   where
     go : (b : Bool) → IsZero (if b then fin false (suc n) d else fin false (suc a) e) → ⊥

@@ -109,7 +109,7 @@ fn refused_full(
     if rotation::room(unit) {
         return Checked::Sound;
     }
-    let matrix = generator_action::check_generator(n, starts, cols, vals, with_mass, mass);
+    let matrix = generator_checks::check_generator(n, starts, cols, vals, with_mass, mass);
     let MatrixAnswer::Norm(norm, _) = matrix else {
         return Checked::Refused(
             generator_action::number(matrix),

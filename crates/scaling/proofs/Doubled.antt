@@ -42,10 +42,10 @@ use Rattle.combination.specs.Combination.{combination-operator}
 use Rattle.combination.specs.Call.{Call, unless-refused}
 use Rattle.combination.specs.Checks.{plan-checks, vector-checks}
 use Rattle.admission.proofs.Admitted.{Vectors, vectors-known, further-within, first-within, length-start}
-use Rattle.phi_action.specs.declared.TaylorReport.{TaylorReport}
-use Rattle.phi_action.specs.declared.TaylorAnswer.{TaylorAnswer}
-use Rattle.phi_action.specs.declared.TaylorAnswer.the-variants.{Refusal, Soaked}
-use Rattle.phi_action.specs.Calls.{Fields, report, after-plan, soaked, combination-checks, combination-run, phi-combination}
+use Rattle.taylor_job.specs.declared.TaylorReport.{TaylorReport}
+use Rattle.taylor_job.specs.declared.TaylorAnswer.{TaylorAnswer}
+use Rattle.taylor_job.specs.declared.TaylorAnswer.the-variants.{Refusal, Result}
+use Rattle.taylor_job.specs.Calls.{Fields, report, after-plan, swept-fields, combination-checks, combination-run, phi-combination}
 use Rattle.scaling.specs.Doubled.{doubled, CleanDoubled, operator-of, start-of, CleanJob, DoubledOutput, DoubledReport}
 use Rattle.scaling.proofs.Run.{run-scaled}
 use Rattle.scaling.proofs.Weights.{operators-scaled, start-scaled}
@@ -69,12 +69,12 @@ doubled-is j n x x' l l' h =
     ext-getD nan x' (doubled j x) (l' ∙ sym (length-doubled j x ∙ l)) (λ i m. scaled-times j (at x i) (at x' i) (h i (rw l' at m)) ∙ sym (doubled-at j x i (rw l (rw l' at m))))
 
 -- ---- an accepted job
-accepted : (x : Checked) (output memory : List Float) (end : Call TaylorAnswer) {r : TaylorReport} → unless-refused Refusal x output memory end .answer ≡ Soaked r → (Sound ≡ x) × (unless-refused Refusal x output memory end ≡ end)
+accepted : (x : Checked) (output memory : List Float) (end : Call TaylorAnswer) {r : TaylorReport} → unless-refused Refusal x output memory end .answer ≡ Result r → (Sound ≡ x) × (unless-refused Refusal x output memory end ≡ end)
 unfolding unless-refused
 accepted Sound output memory end e = (refl, refl)
 accepted (Refused k x) output memory end e = let z : zero ≡ 1 = cc in absurd (omega (arith, z))
 
-planned : (need : ℕ) (tau norm : Float) (output memory : List Float) (x : PlanAnswer) (run : SweepPlan → Fields) {r : TaylorReport} → after-plan need tau norm output memory x run .answer ≡ Soaked r
+planned : (need : ℕ) (tau norm : Float) (output memory : List Float) (x : PlanAnswer) (run : SweepPlan → Fields) {r : TaylorReport} → after-plan need tau norm output memory x run .answer ≡ Result r
     → (p : SweepPlan) × (x ≡ Plan p) × (after-plan need tau norm output memory x run .output ≡ run p .fields) × (after-plan need tau norm output memory x run .answer ≡ report p (run p .applied))
 unfolding after-plan
 planned need tau norm output memory NoPlan run e = let z : zero ≡ 1 = cc in absurd (omega (arith, z))
@@ -98,13 +98,13 @@ record Accepted (g : Generator) (q : Csr) (tau : Float) (cap count : ℕ) (w out
 
 module _ (g : Generator) (tau : Float) (cap count : ℕ) (w output memory : List Float) where
   abbrev fields : SweepPlan → Fields
-  fields p = soaked (operator-of (g .matrix) tau count w) tau (start-of (g .matrix) tau count w) p
+  fields p = swept-fields (operator-of (g .matrix) tau count w) tau (start-of (g .matrix) tau count w) p
 
   made : (p : SweepPlan) → (fields p .fields ≡ window 0 (g .matrix .n) (ran (g .matrix) tau count w p)) × (fields p .applied ≡ p .s * p .m)
-  unfolding soaked combination-operator
+  unfolding swept-fields combination-operator
   made p = (refl, run-counted _ tau p _)
 
-  known : {r : TaylorReport} → phi-combination g tau cap count w output memory .answer ≡ Soaked r → Accepted g (g .matrix) tau cap count w output memory
+  known : {r : TaylorReport} → phi-combination g tau cap count w output memory .answer ≡ Result r → Accepted g (g .matrix) tau cap count w output memory
   unfolding phi-combination combination-checks combination-run
   known e =
       let a = accepted _ output memory _ e in
@@ -151,7 +151,7 @@ run-doubled j q tau cap count w long p plan valid doubles time dw vectors cd c c
 
 -- ---- the theorem, over any generator whose matrix is valid where its checks pass, and holds doubles
 module _ (g g' : Generator) (same : g' .matrix ≡ g .matrix) where
-  known-same : (tau : Float) (cap count : ℕ) (w output memory : List Float) {r : TaylorReport} → phi-combination g' tau cap count w output memory .answer ≡ Soaked r → Accepted g' (g .matrix) tau cap count w output memory
+  known-same : (tau : Float) (cap count : ℕ) (w output memory : List Float) {r : TaylorReport} → phi-combination g' tau cap count w output memory .answer ≡ Result r → Accepted g' (g .matrix) tau cap count w output memory
   known-same tau cap count w output memory e = subst (λ (q : Csr). Accepted g' q tau cap count w output memory) same (known g' tau cap count w output memory e)
 
   pub doubled-output : (Sound ≡ first (g .checks) → Valid (g .matrix)) → Doubles (g .matrix .entries) → DoubledOutput g g'

@@ -6,7 +6,7 @@ use lib.Ieee.{Float, neg}
 use Rattle.doubles.specs.F64.{bits, +0, 1f, 2f, 1/2f}
 use Rattle.doubles.specs.Units.{open-Units}
 use Rattle.general_operator.specs.Csr.{Csr, csr}
-use Rattle.phi_action.specs.Calls.{open-Calls}
+use Rattle.taylor_job.specs.Calls.{open-Calls}
 use Rattle.scaling.specs.Doubled.{doubled, CleanDoubled, CleanJob}
 use Rattle.scaling.proofs.Tested.{clean-job, clean-doubled, open-Tested}
 

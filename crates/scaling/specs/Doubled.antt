@@ -19,9 +19,9 @@ use Rattle.phi_action_helpers.specs.declared.SweepPlan.{SweepPlan}
 use Rattle.phi_shift.specs.Plan.{sweep-plan}
 use Rattle.phi_shift.specs.declared.PlanAnswer.the-variants.{Plan}
 use Rattle.combination.specs.Combination.{further, gain, eta-of, combination-operator, combination-start}
-use Rattle.phi_action.specs.declared.TaylorReport.{TaylorReport}
-use Rattle.phi_action.specs.declared.TaylorAnswer.the-variants.{Soaked}
-use Rattle.phi_action.specs.Calls.{phi-combination}
+use Rattle.taylor_job.specs.declared.TaylorReport.{TaylorReport}
+use Rattle.taylor_job.specs.declared.TaylorAnswer.the-variants.{Result}
+use Rattle.taylor_job.specs.Calls.{phi-combination}
 use Rattle.scaling.specs.Operations.{InSweeps}
 
 -- N9, 'every vector is multiplied by 2 ^ j': each value, rounded once; j is any whole number
@@ -63,8 +63,8 @@ DoubledOutput g g' =
     (j : ℤ) (tau : Float) (cap count : ℕ) (w output memory output' memory' : List Float) (r r' : TaylorReport)
     → T (fits binary64 tau)
     → Doubles w
-    → phi-combination g tau cap count w output memory .answer ≡ Soaked r
-    → phi-combination g' tau cap count (doubled j w) output' memory' .answer ≡ Soaked r'
+    → phi-combination g tau cap count w output memory .answer ≡ Result r
+    → phi-combination g' tau cap count (doubled j w) output' memory' .answer ≡ Result r'
     → CleanDoubled j w
     → CleanJob (g .matrix) tau cap count w
     → CleanJob (g .matrix) tau cap count (doubled j w)
@@ -74,6 +74,6 @@ DoubledOutput g g' =
 abbrev pub DoubledReport : Generator → Generator → Type 0
 DoubledReport g g' =
     (j : ℤ) (tau : Float) (cap count : ℕ) (w output memory output' memory' : List Float) (told told' : TaylorReport)
-    → phi-combination g tau cap count w output memory .answer ≡ Soaked told
-    → phi-combination g' tau cap count (doubled j w) output' memory' .answer ≡ Soaked told'
+    → phi-combination g tau cap count w output memory .answer ≡ Result told
+    → phi-combination g' tau cap count (doubled j w) output' memory' .answer ≡ Result told'
     → phi-combination g' tau cap count (doubled j w) output' memory' .answer ≡ phi-combination g tau cap count w output memory .answer

@@ -21,10 +21,10 @@ use Rattle.generator_action.specs.Generator.{forward}
 use Rattle.pow2.specs.Pow2.{exact-pow2, eta-of}
 use Rattle.phi_shift.specs.Plan.{plan}
 use Rattle.combination.specs.Call.{Call, ends}
-use Rattle.phi_action.specs.declared.TaylorReport.{TaylorReport}
-use Rattle.phi_action.specs.declared.TaylorAnswer.{TaylorAnswer}
-use Rattle.phi_action.specs.declared.TaylorAnswer.the-variants.{Soaked}
-use Rattle.phi_action.specs.Calls.{phi-combination, open-Calls}
+use Rattle.taylor_job.specs.declared.TaylorReport.{TaylorReport}
+use Rattle.taylor_job.specs.declared.TaylorAnswer.{TaylorAnswer}
+use Rattle.taylor_job.specs.declared.TaylorAnswer.the-variants.{Result}
+use Rattle.taylor_job.specs.Calls.{phi-combination, open-Calls}
 use Rattle.scaling.specs.Doubled.{doubled, scaling-of, InJob, CleanJob}
 use Rattle.scaling.proofs.Tested.{job-bad, in-job, open-Tested}
 use Rattle.scaling_examples.specs.Words.{Normal, Words⊗, Words⊕, WordsDoubled}
@@ -84,11 +84,11 @@ abbrev told : TaylorReport
 told = record { s = 2; m = 25; mu = +0; applications = 50 }
 
 -- both are accepted, and these are their outputs
-once-out : job vectors ≡ ends (Soaked told) (bits 0x8030_0000_0000_0000 ∷ bits 0x0170_0000_0000_0000 ∷ bits 0x4010_0000_0000_0000 ∷ []) (replicate 11 +0)
+once-out : job vectors ≡ ends (Result told) (bits 0x8030_0000_0000_0000 ∷ bits 0x0170_0000_0000_0000 ∷ bits 0x4010_0000_0000_0000 ∷ []) (replicate 11 +0)
 unfolding open-Calls
 once-out = refl
 
-twice-out : job twice ≡ ends (Soaked told) (bits 0x803f_ffff_ffff_ffff ∷ bits 0x0180_0000_0000_0000 ∷ bits 0x4020_0000_0000_0000 ∷ []) (replicate 11 +0)
+twice-out : job twice ≡ ends (Result told) (bits 0x803f_ffff_ffff_ffff ∷ bits 0x0180_0000_0000_0000 ∷ bits 0x4020_0000_0000_0000 ∷ []) (replicate 11 +0)
 unfolding open-Calls
 twice-out = refl
 

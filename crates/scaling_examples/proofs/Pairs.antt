@@ -16,9 +16,9 @@ use Rattle.pow2.specs.Pow2.{eta-of}
 use Rattle.general_operator.specs.Csr.{csr}
 use Rattle.generator_action.specs.Generator.{Generator, forward}
 use Rattle.transpose.specs.Transpose.{lent, transposed, open-Transpose}
-use Rattle.phi_action.specs.declared.TaylorReport.{TaylorReport}
-use Rattle.phi_action.specs.declared.TaylorAnswer.the-variants.{Soaked}
-use Rattle.phi_action.specs.Calls.{phi-combination, open-Calls}
+use Rattle.taylor_job.specs.declared.TaylorReport.{TaylorReport}
+use Rattle.taylor_job.specs.declared.TaylorAnswer.the-variants.{Result}
+use Rattle.taylor_job.specs.Calls.{phi-combination, open-Calls}
 use Rattle.scaling.specs.Doubled.{doubled, scaling-of, DoubledOutput}
 use Rattle.scaling.proofs.Doubled.{doubled-forward, doubled-transposed}
 use Rattle.scaling.proofs.Tested.{job-bad, bad⊗, bad⊕, doubling-bad, clean-job, clean-doubled, open-Tested}
@@ -28,8 +28,8 @@ record Computed (j : ℤ) (g : Generator) (tau cap count : ℕ) (w : List ℕ) (
   doubling : doubling-bad j (map bits w) ≡ false
   operations : job-bad bad⊗ bad⊕ (g .matrix) (bits tau) cap count (map bits w) ≡ false
   operations' : job-bad bad⊗ bad⊕ (g .matrix) (bits tau) cap count (doubled j (map bits w)) ≡ false
-  accepted : phi-combination g (bits tau) cap count (map bits w) (replicate out +0) (replicate memory +0) .answer ≡ Soaked r
-  accepted' : phi-combination g (bits tau) cap count (doubled j (map bits w)) (replicate out +0) (replicate memory +0) .answer ≡ Soaked r
+  accepted : phi-combination g (bits tau) cap count (map bits w) (replicate out +0) (replicate memory +0) .answer ≡ Result r
+  accepted' : phi-combination g (bits tau) cap count (doubled j (map bits w)) (replicate out +0) (replicate memory +0) .answer ≡ Result r
 
 abbrev Doubled : ℤ → Generator → ℕ → ℕ → ℕ → List ℕ → ℕ → ℕ → Type 0
 Doubled j g tau cap count w out memory =

@@ -6,6 +6,7 @@ use Prim.Native.Nat.{ℕ, zero, suc, _+_, _-_, _*_, _≤_}
 use native.Mathlib.Omega.{arith}
 use lib.Dec.{eqb, ltb}
 use borrow.Author.Tests.{eqb-true, eqb-false, ne-eqb, not-false, ltb-false, le-ltb}
+use Rattle.lists.proofs.Tests.{and-both, above-0}
 use Rattle.lists.proofs.Bounds.{product-within}
 use Rattle.checks.specs.First.{refuse, first}
 use Rattle.checks.specs.declared.Checked.{Checked}
@@ -19,25 +20,17 @@ use Rattle.stage_checks.specs.Inner.{Even}
 use Rattle.stage_checks.specs.Schedule.{Schedule, stages-of, schedule-checks, further-need, wrong-slice, time-checks-of, stage-checks}
 
 -- ---- 37
-and-true : (a b : Bool) → (a && b) ≡ true → (a ≡ true) × (b ≡ true)
-and-true true b e = (refl, e)
-and-true false b e = (e, let z : zero ≡ 1 = cc in absurd (omega (arith, z)))
-
-above-0 : (k : ℕ) → (k ≡ 0 → ⊥) → 1 ≤ k
-above-0 zero h = absurd (h refl)
-above-0 (suc k) h = omega arith
-
 pub schedule-known : (s : Schedule) {r : Checked} → r ≡ Sound → r ≡ first (schedule-checks s) → Even s
 unfolding schedule-checks
 schedule-known s e f =
     let k = stages-of s in
     let a = or-false (eqb k 0) _ (sound-cons _ _ _ _ (sym e ∙ f) .0) in
     let b = or-false (ltb 64 k) _ (a .1) in
-    let c₁ = and-true _ _ (not-false _ (b .1)) in
-    let c₂ = and-true _ _ (c₁ .1) in
-    let c₃ = and-true _ _ (c₂ .1) in
-    let c₄ = and-true _ _ (c₃ .1) in
-    let c₅ = and-true _ _ (c₄ .1) in
+    let c₁ = and-both _ _ (not-false _ (b .1)) in
+    let c₂ = and-both _ _ (c₁ .1) in
+    let c₃ = and-both _ _ (c₂ .1) in
+    let c₄ = and-both _ _ (c₃ .1) in
+    let c₅ = and-both _ _ (c₄ .1) in
     record {
       some = above-0 k (eqb-false k 0 (a .0));
       most = ltb-false 64 k (b .0);

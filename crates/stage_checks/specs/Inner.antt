@@ -7,8 +7,8 @@ use lib.ListN.{length}
 use lib.Ieee.{Float}
 use Rattle.lists.specs.Walk.{Turn, on, out}
 use Rattle.combination.specs.Call.{Call, ends}
-use Rattle.phi_krylov.specs.declared.PhiAnswer.{PhiAnswer}
-use Rattle.phi_krylov.specs.declared.PhiAnswer.the-variants as phi
+use Rattle.phi_solver.specs.declared.PhiAnswer.{PhiAnswer}
+use Rattle.phi_solver.specs.declared.PhiAnswer.the-variants as phi
 use Rattle.stage_checks.specs.Schedule.{Schedule, stages-of, Progress}
 use Rattle.stage_checks.specs.declared.StagedAnswer.{StagedAnswer}
 use Rattle.stage_checks.specs.declared.StagedAnswer.the-variants.{Refusal}

@@ -10,10 +10,10 @@ use Rattle.doubles.specs.F64.{nat, at}
 use Rattle.checks.specs.First.{Check, refuse}
 use Rattle.combination.specs.Checks.{count-checks, time-checks, plan-checks, length-checks}
 use Rattle.combination.specs.Call.{Call, ends}
-use Rattle.phi_krylov.specs.declared.PhiSolver.{PhiSolver}
-use Rattle.phi_krylov.specs.declared.PhiSolver.the-variants.{Taylor, Krylov}
-use Rattle.phi_krylov.specs.declared.PhiAnswer.{PhiAnswer}
-use Rattle.phi_krylov.specs.declared.PhiAnswer.the-variants as phi
+use Rattle.phi_solver.specs.declared.PhiSolver.{PhiSolver}
+use Rattle.phi_solver.specs.declared.PhiSolver.the-variants.{Taylor, Krylov}
+use Rattle.phi_solver.specs.declared.PhiAnswer.{PhiAnswer}
+use Rattle.phi_solver.specs.declared.PhiAnswer.the-variants as phi
 use Rattle.stage_checks.specs.declared.Stage.{Stage}
 use Rattle.stage_checks.specs.declared.StagedReport.{StagedReport}
 use Rattle.stage_checks.specs.declared.StagedAnswer.{StagedAnswer}

@@ -1,8 +1,8 @@
 // The schedule of a soak in stages: its checks, the checks 12 to 17 of a stage, the first field of its run, and the counts.
 use checks::Checked;
 use krylov_job::KrylovPhiOptions;
-use phi_krylov::PhiAnswer;
-use phi_krylov::PhiSolver;
+use phi_solver::PhiAnswer;
+use phi_solver::PhiSolver;
 ghost use mathlib.Core.Path.{_≡_};
 ghost use mathlib.Core.Bool.{not, _&&_, _||_};
 ghost use mathlib.Core.List.{List, _++_};
@@ -238,10 +238,10 @@ pub fn start_field(
     ensures { λ _. ⌜ now (work .exit) ≡ splice at (combination-start n (field-of initial (now (start .entry)) (now (out .entry))) d inv) (now (work .entry)) ⌝ }
 {
     if initial {
-        phi_krylov::start_in(n, start, d, inv, work, at);
+        krylov_run::start_in(n, start, d, inv, work, at);
         return;
     }
-    phi_krylov::start_in(n, out, d, inv, work, at);
+    krylov_run::start_in(n, out, d, inv, work, at);
 }
 
 // How many values w_0 has.

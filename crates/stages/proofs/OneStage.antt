@@ -26,15 +26,15 @@ use Rattle.admission.specs.declared.Job.{Job}
 use Rattle.combination.proofs.Ends.{refused-by, runs}
 use Rattle.admission.proofs.Stored.{quotients-rows}
 use Rattle.combination.proofs.Further.{further-behind, start-of}
-use Rattle.phi_action.specs.Calls.{soaked, phi-combination}
-use Rattle.phi_action.specs.Inner.{Allowed, operator-by, job-end}
-use Rattle.phi_action.specs.declared.TaylorAnswer.{TaylorAnswer}
-use Rattle.phi_action.specs.declared.TaylorAnswer.the-variants as taylor
+use Rattle.taylor_job.specs.Calls.{swept-fields, phi-combination}
+use Rattle.taylor_job.specs.Inner.{Allowed, operator-by, job-end}
+use Rattle.taylor_job.specs.declared.TaylorAnswer.{TaylorAnswer}
+use Rattle.taylor_job.specs.declared.TaylorAnswer.the-variants as taylor
 use Rattle.phi_action.proofs.Calls as taylor-calls
 use Rattle.krylov_job.specs.KrylovCall.{dimension, option-checks, krylov-checks-by, krylov-checks, after-run, phi-combination-krylov}
-use Rattle.phi_krylov.specs.Combine.{combine}
-use Rattle.phi_krylov.specs.declared.PhiAnswer.{PhiAnswer}
-use Rattle.phi_krylov.specs.declared.PhiAnswer.the-variants as phi
+use Rattle.phi_solver.specs.Combine.{combine}
+use Rattle.phi_solver.specs.declared.PhiAnswer.{PhiAnswer}
+use Rattle.phi_solver.specs.declared.PhiAnswer.the-variants as phi
 use Rattle.krylov_job.specs.Inner.{scaling-by, scaling-of, run-job-by, Admitted, Allowed as Runnable, run-of}
 use Rattle.krylov_job.specs.declared.KrylovAnswer.{KrylovAnswer}
 use Rattle.krylov_job.specs.declared.KrylovAnswer.the-variants as krylov
@@ -124,11 +124,11 @@ module _
 
         pub taylor-is : {c : Call TaylorAnswer} {w₁ : List Float} → j .checked ≡ Sound
             → w₁ ≡ splice 0 (combination-start (g .n) v d (j .inv)) w₀
-            → c ≡ job-end j (matrix-of (j .g) starts cols vals mass) (soaked (operator-by j (matrix-of (j .g) starts cols vals mass) f) (j .tau) (window 0 (j .g .n + j .d) w₁)) w₁
+            → c ≡ job-end j (matrix-of (j .g) starts cols vals mass) (swept-fields (operator-by j (matrix-of (j .g) starts cols vals mass) f) (j .tau) (window 0 (j .g .n + j .d) w₁)) w₁
             → c ≡ phi-combination (after-checks gs (csr (g .n) starts cols vals) (given (g .«with_mass») mass) g) tau cap count w out w₀
         taylor-is {w₁ = w₁} e e₁ ec =
             let start = e₁ ∙ ap (λ (y : List Float). splice 0 y w₀) (sym (start-of (g .n) v f (h .fielded) d (j .inv))) in
-            let run = ec ∙ ap (λ (x : List Float). job-end j (matrix-of (j .g) starts cols vals mass) (soaked (operator-by j (matrix-of (j .g) starts cols vals mass) x) (j .tau) (window 0 (j .g .n + j .d) w₁)) w₁) (sym (behind v f h)) in
+            let run = ec ∙ ap (λ (x : List Float). job-end j (matrix-of (j .g) starts cols vals mass) (swept-fields (operator-by j (matrix-of (j .g) starts cols vals mass) x) (j .tau) (window 0 (j .g .n + j .d) w₁)) w₁) (sym (behind v f h)) in
             taylor-calls.combined-is mass ok gs sound tau cap count w out w₀ (taylor-told v f h (plan-checks tau cap) timed told) passed job-is e
             (taylor-calls.ran mass ok gs sound tau cap d w (further (g .n) w) out w₀ few wide job-is e start run)
 

@@ -15,8 +15,8 @@ use Rattle.checks.specs.declared.Checked.the-variants.{Sound, Refused}
 use Rattle.generator_action.specs.Generator.{Generator}
 use Rattle.combination.specs.Call.{Call, ends, unless-refused}
 use Rattle.combination.proofs.Ends.{refused-by, runs}
-use Rattle.phi_krylov.specs.declared.PhiAnswer.{PhiAnswer}
-use Rattle.phi_krylov.specs.declared.PhiAnswer.the-variants as phi
+use Rattle.phi_solver.specs.declared.PhiAnswer.{PhiAnswer}
+use Rattle.phi_solver.specs.declared.PhiAnswer.the-variants as phi
 use Rattle.stage_checks.specs.declared.Stage.{Stage}
 use Rattle.stage_checks.specs.declared.StagedAnswer.{StagedAnswer}
 use Rattle.stage_checks.specs.declared.StagedAnswer.the-variants.{Refusal}

@@ -9,9 +9,9 @@ use Rattle.lists.specs.Window.{window}
 use Rattle.checks.specs.First.{first}
 use Rattle.generator_action.specs.Generator.{Generator}
 use Rattle.combination.specs.Call.{Call, unless-refused}
-use Rattle.phi_krylov.specs.Combine.{combine}
-use Rattle.phi_krylov.specs.declared.PhiAnswer.{PhiAnswer}
-use Rattle.phi_krylov.specs.declared.PhiAnswer.the-variants as phi
+use Rattle.phi_solver.specs.Combine.{combine}
+use Rattle.phi_solver.specs.declared.PhiAnswer.{PhiAnswer}
+use Rattle.phi_solver.specs.declared.PhiAnswer.the-variants as phi
 use Rattle.stage_checks.specs.Schedule.{further-need, stage-checks}
 use Rattle.stage_checks.specs.declared.Stage.{Stage}
 

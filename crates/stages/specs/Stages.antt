@@ -11,10 +11,10 @@ use Rattle.checks.specs.declared.Checked.{Checked}
 use Rattle.checks.specs.declared.Checked.the-variants.{Sound, Refused}
 use Rattle.generator_action.specs.Generator.{Generator}
 use Rattle.combination.specs.Call.{Call, ends, unless-refused}
-use Rattle.phi_action.specs.Calls.{open-Calls}
+use Rattle.taylor_job.specs.Calls.{open-Calls}
 use Rattle.krylov_job.specs.KrylovCall.{open-KrylovCall}
-use Rattle.phi_krylov.specs.Combine.{of-taylor, of-krylov, answering, combine}
-use Rattle.phi_krylov.specs.declared.PhiAnswer.{PhiAnswer}
+use Rattle.phi_solver.specs.Combine.{of-taylor, of-krylov, answering, combine}
+use Rattle.phi_solver.specs.declared.PhiAnswer.{PhiAnswer}
 use Rattle.stage_checks.specs.declared.Stage.{Stage}
 use Rattle.stage_checks.specs.declared.StagedAnswer.{StagedAnswer}
 use Rattle.stage_checks.specs.declared.StagedAnswer.the-variants.{Refusal, Staged}

@@ -5,14 +5,14 @@ use generator_action::Shape;
 use krylov_job::Eta;
 use krylov_job::KrylovAnswer;
 use krylov_job::KrylovPhiOptions;
-use phi_action::TaylorAnswer;
-use phi_krylov::PhiAnswer;
-use phi_krylov::PhiSolver;
+use phi_solver::PhiAnswer;
+use phi_solver::PhiSolver;
 use stage_checks::SoFar;
 use stage_checks::Stage;
 use stage_checks::StageTurn;
 use stage_checks::StagedAnswer;
 use stage_checks::StagedReport;
+use taylor_job::TaylorAnswer;
 ghost use mathlib.Core.Path.{_≡_};
 ghost use mathlib.Core.List.{List, _++_};
 ghost use Prim.Native.Nat.{_+_, _-_, _*_, _≤_};
@@ -28,9 +28,9 @@ ghost use Rattle.generator_action.specs.Known.{Passed};
 ghost use Rattle.combination.specs.Checks.{time-checks, plan-checks};
 ghost use Rattle.combination.specs.Call.{ends};
 ghost use Rattle.admission.specs.Inner.{after-checks};
-ghost use Rattle.phi_action.specs.Calls.{phi-combination};
+ghost use Rattle.taylor_job.specs.Calls.{phi-combination};
 ghost use Rattle.krylov_job.specs.KrylovCall.{phi-combination-krylov};
-ghost use Rattle.phi_krylov.specs.Combine.{combine};
+ghost use Rattle.phi_solver.specs.Combine.{combine};
 ghost use Rattle.stage_checks.specs.Schedule.{schedule-checks, time-checks-of};
 ghost use Rattle.stages.specs.Stages.{stage-step, begun, concluded, staged};
 ghost use Rattle.stage_checks.specs.Inner.{schedule-of, field-of, turn-at};
@@ -67,7 +67,7 @@ fn taylor_stage(
         return TaylorAnswer::Refusal(checks::number(checked), checks::reported(checked));
     };
     stage_checks::start_field(initial, start, out, g.n, d, j.inv, work, 0);
-    phi_action::run_job(starts, cols, vals, mass, vectors, out, work, j)
+    taylor_job::run_job(starts, cols, vals, mass, vectors, out, work, j)
 }
 
 // A Krylov stage whose 12 to 16 have passed.
@@ -103,7 +103,7 @@ fn krylov_stage(
         return KrylovAnswer::Refusal(checks::number(checked), checks::reported(checked));
     };
     stage_checks::start_field(initial, start, out, g.n, d, j.eta.inv, work, j.k.y);
-    phi_krylov::run_job(starts, cols, vals, mass, vectors, out, work, j)
+    krylov_run::run_job(starts, cols, vals, mass, vectors, out, work, j)
 }
 
 // The single call of a stage whose 12 to 16 have passed.
@@ -128,7 +128,7 @@ fn stage_call(
     let count = s.count;
     let solver = s.solver;
     match solver {
-        PhiSolver::Taylor(cap) => phi_krylov::of_taylor(taylor_stage(
+        PhiSolver::Taylor(cap) => phi_solver::of_taylor(taylor_stage(
             starts,
             cols,
             vals,
@@ -143,7 +143,7 @@ fn stage_call(
             out,
             work,
         )),
-        PhiSolver::Krylov(o) => phi_krylov::of_krylov(krylov_stage(
+        PhiSolver::Krylov(o) => phi_solver::of_krylov(krylov_stage(
             starts,
             cols,
             vals,
@@ -297,7 +297,7 @@ pub fn stages(
 ) -> StagedAnswer
     ensures { λ r. ⌜ ends r (now (out .exit)) (now (work .exit)) ≡ staged (forward (csr n (now (starts .entry)) (now (cols .entry)) (now (vals .entry))) (given «with_mass» (now (mass .entry)))) (schedule-of (now (taus .entry)) (now (counts .entry)) (now (solvers .entry)) (now (degrees .entry)) (now (tols .entry)) (now (ms .entry)) (now (limits .entry))) (now (start .entry)) (now (further .entry)) (now (out .entry)) (now (work .entry)) ⌝ }
 {
-    let matrix = generator_action::check_generator(n, starts, cols, vals, with_mass, mass);
+    let matrix = generator_checks::check_generator(n, starts, cols, vals, with_mass, mass);
     let MatrixAnswer::Norm(norm, _) = matrix else {
         return StagedAnswer::Refusal(
             generator_action::number(matrix),

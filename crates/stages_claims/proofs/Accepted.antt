@@ -12,15 +12,15 @@ use Rattle.generator_action.specs.Generator.{Generator}
 use Rattle.combination.specs.Call.{Call, unless-refused}
 use Rattle.combination.specs.Checks.{count-checks, plan-checks, time-checks, vector-checks, vector-checks-by}
 use Rattle.admission.proofs.Admitted.{Vectors, vectors-known}
-use Rattle.phi_action.specs.Calls.{combination-checks, phi-combination}
-use Rattle.phi_action.specs.declared.TaylorAnswer.{TaylorAnswer}
-use Rattle.phi_action.specs.declared.TaylorAnswer.the-variants as taylor
+use Rattle.taylor_job.specs.Calls.{combination-checks, phi-combination}
+use Rattle.taylor_job.specs.declared.TaylorAnswer.{TaylorAnswer}
+use Rattle.taylor_job.specs.declared.TaylorAnswer.the-variants as taylor
 use Rattle.krylov_job.specs.KrylovCall.{krylov-checks, krylov-checks-by, phi-combination-krylov}
-use Rattle.phi_krylov.specs.Combine.{of-taylor, of-krylov, answering, combine}
+use Rattle.phi_solver.specs.Combine.{of-taylor, of-krylov, answering, combine}
 use Rattle.krylov_job.specs.declared.KrylovAnswer.{KrylovAnswer}
 use Rattle.krylov_job.specs.declared.KrylovAnswer.the-variants as krylov
-use Rattle.phi_krylov.specs.declared.PhiSolver.{PhiSolver}
-use Rattle.phi_krylov.specs.declared.PhiSolver.the-variants as solver
+use Rattle.phi_solver.specs.declared.PhiSolver.{PhiSolver}
+use Rattle.phi_solver.specs.declared.PhiSolver.the-variants as solver
 use Rattle.stage_checks.specs.Schedule.{time-checks-of}
 use Rattle.stages_claims.specs.Ran.{Gave}
 

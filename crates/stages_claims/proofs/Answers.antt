@@ -14,8 +14,8 @@ use Rattle.checks.specs.declared.Checked.the-variants.{Sound, Refused}
 use Rattle.checks.proofs.First.{sound-append, sound-on}
 use Rattle.generator_action.specs.Generator.{Generator}
 use Rattle.combination.specs.Call.{Call, ends, unless-refused}
-use Rattle.phi_krylov.specs.declared.PhiAnswer.{PhiAnswer}
-use Rattle.phi_krylov.specs.declared.PhiAnswer.the-variants as phi
+use Rattle.phi_solver.specs.declared.PhiAnswer.{PhiAnswer}
+use Rattle.phi_solver.specs.declared.PhiAnswer.the-variants as phi
 use Rattle.stage_checks.specs.Schedule.{Schedule, stage, stages-of, schedule-checks, stage-checks, Progress}
 use Rattle.stage_checks.specs.declared.StagedReport.{StagedReport}
 use Rattle.stage_checks.specs.declared.StagedAnswer.{StagedAnswer}

@@ -10,16 +10,16 @@ use Rattle.general_operator.specs.Csr.{Csr}
 use Rattle.generator_action.specs.Mass.{Mass}
 use Rattle.generator_action.specs.Generator.{Generator, forward}
 use Rattle.combination.specs.Combination.{combination-operator}
-use Rattle.phi_action.specs.Calls.{phi-combination}
-use Rattle.phi_action.specs.declared.TaylorAnswer.{TaylorAnswer}
-use Rattle.phi_action.specs.declared.TaylorAnswer.the-variants as taylor
+use Rattle.taylor_job.specs.Calls.{phi-combination}
+use Rattle.taylor_job.specs.declared.TaylorAnswer.{TaylorAnswer}
+use Rattle.taylor_job.specs.declared.TaylorAnswer.the-variants as taylor
 use Rattle.krylov_job.specs.KrylovCall.{phi-combination-krylov}
-use Rattle.phi_krylov.specs.Combine.{of-taylor, of-krylov, answering, combine}
+use Rattle.phi_solver.specs.Combine.{of-taylor, of-krylov, answering, combine}
 use Rattle.krylov_job.specs.declared.KrylovAnswer.{KrylovAnswer}
 use Rattle.krylov_job.specs.declared.KrylovAnswer.the-variants as krylov
-use Rattle.phi_krylov.specs.declared.PhiSolver.{PhiSolver}
-use Rattle.phi_krylov.specs.declared.PhiSolver.the-variants as solver
-use Rattle.phi_krylov.specs.declared.PhiAnswer.{PhiAnswer}
+use Rattle.phi_solver.specs.declared.PhiSolver.{PhiSolver}
+use Rattle.phi_solver.specs.declared.PhiSolver.the-variants as solver
+use Rattle.phi_solver.specs.declared.PhiAnswer.{PhiAnswer}
 use Rattle.demand_3.specs.Demand3.{Demand3}
 use Rattle.demand_3.proofs.Demand3.{demand-3}
 use Rattle.stage_checks.specs.Schedule.{Schedule}
@@ -35,14 +35,14 @@ module _ (g : Generator) (demand : (tau : Float) (output memory : List Float) �
     where
       go : (x : TaylorAnswer) → phi-combination g tau cap count w output memory .answer ≡ x → Gave (of-taylor x) → BoundedBy (solver.Taylor cap) g tau count (of-taylor x)
       go (taylor.Refusal k x) e h = absurd h
-      go (taylor.Soaked r) e h =
+      go (taylor.Result r) e h =
           let c = demand tau output memory .combination cap count w .accepted e in
           (refl, refl, λ j l f. le-trans (le-of-eq (c .counted ∙ one-mul (r .s * r .m))) (c .least j l f))
   call-bounded (solver.Krylov o) tau count w output memory h = go (phi-combination-krylov g tau count w o output memory .answer) refl h
     where
       go : (x : KrylovAnswer) → phi-combination-krylov g tau count w o output memory .answer ≡ x → Gave (of-krylov x) → BoundedBy (solver.Krylov o) g tau count (of-krylov x)
       go (krylov.Refusal k x) e h = absurd h
-      go (krylov.Soaked r) e h = let c = demand tau output memory .krylov count w o e .counted in (c .few-substeps, c .few-applications, c .few-rejections)
+      go (krylov.Result r) e h = let c = demand tau output memory .krylov count w o e .counted in (c .few-substeps, c .few-applications, c .few-rejections)
 
   -- ---- all stages
   module _ (s : Schedule) (start further output memory : List Float) where

@@ -14,8 +14,8 @@ use Rattle.doubles.specs.F64.{nat}
 use Rattle.general_operator.proofs.Sound.{or-false}
 use Rattle.combination.specs.Checks.{count-checks, length-checks, time-checks, degree-checks, plan-checks}
 use Rattle.expmv.specs.Select.{M-MAX}
-use Rattle.phi_krylov.specs.declared.PhiSolver.{PhiSolver}
-use Rattle.phi_krylov.specs.declared.PhiSolver.the-variants.{Taylor, Krylov}
+use Rattle.phi_solver.specs.declared.PhiSolver.{PhiSolver}
+use Rattle.phi_solver.specs.declared.PhiSolver.the-variants.{Taylor, Krylov}
 use Rattle.stage_checks.specs.declared.Stage.{Stage}
 use Rattle.stage_checks.specs.Schedule.{Schedule, stages-of, schedule-checks, further-need, wrong-slice, time-checks-of, stage-checks}
 use Rattle.stage_checks.specs.Inner.{Even}

@@ -11,8 +11,8 @@ use Rattle.generator_action.specs.Mass.{quotients}
 use Rattle.generator_action.specs.Generator.{forward}
 use Rattle.checks.specs.First.{first}
 use Rattle.combination.specs.Call.{Call, ends}
-use Rattle.phi_krylov.specs.declared.PhiAnswer.{PhiAnswer}
-use Rattle.phi_krylov.specs.declared.PhiAnswer.the-variants as phi
+use Rattle.phi_solver.specs.declared.PhiAnswer.{PhiAnswer}
+use Rattle.phi_solver.specs.declared.PhiAnswer.the-variants as phi
 use Rattle.stage_checks.specs.Inner.{schedule-of}
 use Rattle.stage_checks.specs.Schedule.{Schedule, schedule-checks}
 use Rattle.stage_checks.specs.declared.StagedAnswer.the-variants.{Refusal, Staged}

@@ -18,34 +18,23 @@ use Rattle.phi_action_helpers.specs.declared.SweepPlan.{SweepPlan}
 use Rattle.phi_shift.specs.declared.PlanAnswer.{PlanAnswer}
 use Rattle.phi_shift.specs.declared.PlanAnswer.the-variants.{NoPlan, Plan}
 use Rattle.combination.specs.Call.{Call, unless-refused, cleared}
-use Rattle.phi_action.specs.Calls.{Fields, after-plan, combination-run, phi-combination}
-use Rattle.phi_action.specs.declared.TaylorAnswer.{TaylorAnswer}
-use Rattle.phi_action.specs.declared.TaylorAnswer.the-variants as taylor
+use Rattle.combination.proofs.Cleared.{cleared-less, cleared-more}
+use Rattle.taylor_job.specs.Calls.{Fields, after-plan, combination-run, phi-combination}
+use Rattle.taylor_job.specs.declared.TaylorAnswer.{TaylorAnswer}
+use Rattle.taylor_job.specs.declared.TaylorAnswer.the-variants as taylor
 use Rattle.phi_krylov_arnoldi.specs.Run.{End, finished, refused}
 use Rattle.krylov_job.specs.KrylovCall.{after-run, combination-run-krylov, phi-combination-krylov}
-use Rattle.phi_krylov.specs.Combine.{of-taylor, of-krylov, answering, combine}
+use Rattle.phi_solver.specs.Combine.{of-taylor, of-krylov, answering, combine}
 use Rattle.krylov_job.specs.declared.KrylovAnswer.{KrylovAnswer}
 use Rattle.krylov_job.specs.declared.KrylovAnswer.the-variants as krylov
-use Rattle.phi_krylov.specs.declared.PhiSolver.{PhiSolver}
-use Rattle.phi_krylov.specs.declared.PhiSolver.the-variants as solver
-use Rattle.phi_krylov.specs.declared.PhiAnswer.{PhiAnswer}
+use Rattle.phi_solver.specs.declared.PhiSolver.{PhiSolver}
+use Rattle.phi_solver.specs.declared.PhiSolver.the-variants as solver
+use Rattle.phi_solver.specs.declared.PhiAnswer.{PhiAnswer}
 use Rattle.stage_checks.specs.Schedule.{Schedule}
 use Rattle.stages_claims.specs.Passing.{need-of, larger, largest-need}
 use Rattle.stages_claims.specs.Ran.{solver-at, count-at, Gave, Ran}
 
 -- ---- cleared twice
-cleared-less : (a b : ℕ) (w : List Float) → a ≤ b → cleared b (cleared a w) ≡ cleared b w
-unfolding cleared
-cleared-less a b w l = splice-splice 0 (replicate b +0) (replicate a +0) w (omega (arith, length-replicate a +0, length-replicate b +0))
-
-cleared-more : (a b : ℕ) (w : List Float) → b ≤ a → cleared b (cleared a w) ≡ cleared a w
-unfolding cleared
-cleared-more a b w l =
-    let e : b + (a - b) ≡ a = omega arith in
-    let parts : replicate b +0 ++ replicate (a - b) +0 ≡ replicate a +0 = replicate-append-replicate b (a - b) +0 ∙ ap (λ (k : ℕ). replicate k +0) e in
-    let whole = ap (λ (vs : List Float). splice 0 vs w) (sym parts) ∙ splice-append 0 (replicate b +0) (replicate (a - b) +0) w in
-    ap (splice 0 (replicate b +0)) whole ∙ splice-splice 0 (replicate b +0) (replicate b +0) _ (omega arith) ∙ sym whole
-
 cleared-both : (a b : ℕ) (w : List Float) → cleared b (cleared a w) ≡ cleared (larger a b) w
 cleared-both a b w = go (ltb a b) refl
   where

@@ -18,17 +18,17 @@ use Rattle.phi_shift.specs.declared.PlanAnswer.{PlanAnswer}
 use Rattle.phi_shift.specs.declared.PlanAnswer.the-variants.{NoPlan, Plan}
 use Rattle.combination.specs.Call.{Call, unless-refused}
 use Rattle.combination.specs.Checks.{out-of-range, count-checks, time-checks, degree-checks, plan-checks, length-checks}
-use Rattle.phi_action.specs.Calls.{Fields, after-plan, combination-checks, combination-run, phi-combination}
-use Rattle.phi_action.specs.declared.TaylorAnswer.{TaylorAnswer}
-use Rattle.phi_action.specs.declared.TaylorAnswer.the-variants as taylor
+use Rattle.taylor_job.specs.Calls.{Fields, after-plan, combination-checks, combination-run, phi-combination}
+use Rattle.taylor_job.specs.declared.TaylorAnswer.{TaylorAnswer}
+use Rattle.taylor_job.specs.declared.TaylorAnswer.the-variants as taylor
 use Rattle.phi_krylov_arnoldi.specs.Run.{End, State, finished, refused}
 use Rattle.krylov_job.specs.KrylovCall.{krylov-checks, after-run, combination-run-krylov, phi-combination-krylov}
-use Rattle.phi_krylov.specs.Combine.{of-taylor, of-krylov, answering, combine}
+use Rattle.phi_solver.specs.Combine.{of-taylor, of-krylov, answering, combine}
 use Rattle.krylov_job.specs.declared.KrylovAnswer.{KrylovAnswer}
 use Rattle.krylov_job.specs.declared.KrylovAnswer.the-variants as krylov
-use Rattle.phi_krylov.specs.declared.PhiSolver.{PhiSolver}
-use Rattle.phi_krylov.specs.declared.PhiSolver.the-variants as solver
-use Rattle.phi_krylov.specs.declared.PhiAnswer.the-variants as phi
+use Rattle.phi_solver.specs.declared.PhiSolver.{PhiSolver}
+use Rattle.phi_solver.specs.declared.PhiSolver.the-variants as solver
+use Rattle.phi_solver.specs.declared.PhiAnswer.the-variants as phi
 use Rattle.demand_3.specs.Demand3.{start-of}
 use Rattle.demand_3.proofs.Krylov.{expv-late}
 use Rattle.demand_3.proofs.Never23.{InRange, never-23, combination-no-number, krylov-no-number}

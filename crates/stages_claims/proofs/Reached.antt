@@ -18,9 +18,9 @@ use Rattle.checks.specs.declared.Checked.{Checked}
 use Rattle.checks.specs.declared.Checked.the-variants.{Sound, Refused}
 use Rattle.generator_action.specs.Generator.{Generator}
 use Rattle.combination.specs.Call.{Call, ends}
-use Rattle.phi_krylov.specs.Combine.{combine}
-use Rattle.phi_krylov.specs.declared.PhiAnswer.{PhiAnswer}
-use Rattle.phi_krylov.specs.declared.PhiAnswer.the-variants as phi
+use Rattle.phi_solver.specs.Combine.{combine}
+use Rattle.phi_solver.specs.declared.PhiAnswer.{PhiAnswer}
+use Rattle.phi_solver.specs.declared.PhiAnswer.the-variants as phi
 use Rattle.stage_checks.specs.Schedule.{Schedule, solver-of, stage, stages-of, further-need, stage-checks, Progress, counted, settle}
 use Rattle.stage_checks.specs.declared.StagedReport.{StagedReport}
 use Rattle.stage_checks.specs.declared.StagedAnswer.{StagedAnswer}

@@ -20,15 +20,15 @@ use Rattle.generator_action.specs.Generator.{Generator}
 use Rattle.combination.specs.Call.{Call, ends}
 use Rattle.combination.specs.Checks.{count-checks, time-checks, degree-checks, plan-checks, length-checks, finite-checks, vector-checks, vector-checks-by}
 use Rattle.combination.proofs.Ends.{refused-by}
-use Rattle.phi_action.specs.Calls.{combination-checks, phi-combination}
-use Rattle.phi_action.specs.declared.TaylorAnswer.the-variants as taylor
+use Rattle.taylor_job.specs.Calls.{combination-checks, phi-combination}
+use Rattle.taylor_job.specs.declared.TaylorAnswer.the-variants as taylor
 use Rattle.krylov_job.specs.KrylovCall.{krylov-checks, krylov-checks-by, phi-combination-krylov}
-use Rattle.phi_krylov.specs.Combine.{of-taylor, of-krylov, answering, combine}
+use Rattle.phi_solver.specs.Combine.{of-taylor, of-krylov, answering, combine}
 use Rattle.krylov_job.specs.declared.KrylovAnswer.the-variants as krylov
-use Rattle.phi_krylov.specs.declared.PhiSolver.{PhiSolver}
-use Rattle.phi_krylov.specs.declared.PhiSolver.the-variants as solver
-use Rattle.phi_krylov.specs.declared.PhiAnswer.{PhiAnswer}
-use Rattle.phi_krylov.specs.declared.PhiAnswer.the-variants as phi
+use Rattle.phi_solver.specs.declared.PhiSolver.{PhiSolver}
+use Rattle.phi_solver.specs.declared.PhiSolver.the-variants as solver
+use Rattle.phi_solver.specs.declared.PhiAnswer.{PhiAnswer}
+use Rattle.phi_solver.specs.declared.PhiAnswer.the-variants as phi
 use Rattle.stage_checks.specs.declared.Stage.{Stage}
 use Rattle.stage_checks.specs.declared.StagedAnswer.{StagedAnswer}
 use Rattle.stage_checks.specs.declared.StagedAnswer.the-variants.{Refusal, Staged}

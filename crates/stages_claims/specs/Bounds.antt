@@ -10,9 +10,9 @@ use Rattle.generator_action.specs.Generator.{Generator}
 use Rattle.expmv.specs.Select.{cost}
 use Rattle.demand_3.specs.Taylor.{asked, row-fits}
 use Rattle.demand_3.specs.Demand3.{clamped}
-use Rattle.phi_krylov.specs.declared.PhiSolver.{PhiSolver}
-use Rattle.phi_krylov.specs.declared.PhiSolver.the-variants as solver
-use Rattle.phi_krylov.specs.declared.PhiAnswer.{PhiAnswer}
+use Rattle.phi_solver.specs.declared.PhiSolver.{PhiSolver}
+use Rattle.phi_solver.specs.declared.PhiSolver.the-variants as solver
+use Rattle.phi_solver.specs.declared.PhiAnswer.{PhiAnswer}
 use Rattle.stage_checks.specs.Schedule.{Schedule}
 use Rattle.stages_claims.specs.Ran.{solver-at, count-at, applications-of, substeps-of, rejected-of}
 

@@ -8,8 +8,8 @@ use Rattle.doubles.specs.F64.{if_then_else_}
 use Rattle.generator_action.specs.Generator.{Generator}
 use Rattle.combination.specs.Checks.{out-of-range, taylor-need}
 use Rattle.krylov_job.specs.KrylovCall.{dimension, krylov-need}
-use Rattle.phi_krylov.specs.declared.PhiSolver.{PhiSolver}
-use Rattle.phi_krylov.specs.declared.PhiSolver.the-variants.{Taylor, Krylov}
+use Rattle.phi_solver.specs.declared.PhiSolver.{PhiSolver}
+use Rattle.phi_solver.specs.declared.PhiSolver.the-variants.{Taylor, Krylov}
 use Rattle.stage_checks.specs.declared.Stage.{Stage}
 use Rattle.stage_checks.specs.Schedule.{Schedule}
 use Rattle.stages_claims.specs.Ran.{solver-at, count-at}

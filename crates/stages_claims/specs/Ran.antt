@@ -9,11 +9,11 @@ use Rattle.lists.specs.Window.{window}
 use Rattle.doubles.specs.F64.{if_then_else_}
 use Rattle.generator_action.specs.Generator.{Generator}
 use Rattle.combination.specs.Call.{Call}
-use Rattle.phi_krylov.specs.Combine.{combine}
-use Rattle.phi_krylov.specs.declared.PhiSolver.{PhiSolver}
-use Rattle.phi_krylov.specs.declared.PhiSolver.the-variants as solver
-use Rattle.phi_krylov.specs.declared.PhiAnswer.{PhiAnswer}
-use Rattle.phi_krylov.specs.declared.PhiAnswer.the-variants.{Refusal, Taylor, Krylov}
+use Rattle.phi_solver.specs.Combine.{combine}
+use Rattle.phi_solver.specs.declared.PhiSolver.{PhiSolver}
+use Rattle.phi_solver.specs.declared.PhiSolver.the-variants as solver
+use Rattle.phi_solver.specs.declared.PhiAnswer.{PhiAnswer}
+use Rattle.phi_solver.specs.declared.PhiAnswer.the-variants.{Refusal, Taylor, Krylov}
 use Rattle.stage_checks.specs.Schedule.{Schedule}
 use Rattle.stage_checks.specs.declared.StagedReport.{StagedReport}
 

@@ -2,8 +2,8 @@
 use Prim.Native.Nat.{ℕ}
 use Rattle.checks.specs.declared.Checked.{Checked}
 use Rattle.checks.specs.declared.Checked.the-variants.{Sound, Refused}
-use Rattle.phi_krylov.specs.declared.PhiAnswer.{PhiAnswer}
-use Rattle.phi_krylov.specs.declared.PhiAnswer.the-variants as phi
+use Rattle.phi_solver.specs.declared.PhiAnswer.{PhiAnswer}
+use Rattle.phi_solver.specs.declared.PhiAnswer.the-variants as phi
 use Rattle.stage_checks.specs.declared.StagedAnswer.{StagedAnswer}
 use Rattle.stage_checks.specs.declared.StagedAnswer.the-variants.{Refusal, Staged}
 

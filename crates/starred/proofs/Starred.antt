@@ -21,7 +21,7 @@ use Rattle.phi_shift.specs.Plan.{argument, shifted-bound, open-Plan}
 use Rattle.krylov_job.specs.KrylovCall.{phi-combination-krylov, open-KrylovCall}
 use Rattle.krylov_job.specs.declared.KrylovPhiOptions.{KrylovPhiOptions}
 use Rattle.krylov_job.specs.declared.KrylovAnswer.{KrylovAnswer}
-use Rattle.krylov_job.specs.declared.KrylovAnswer.the-variants.{Refusal, Soaked}
+use Rattle.krylov_job.specs.declared.KrylovAnswer.the-variants.{Refusal, Result}
 
 -- a / b as a double
 unfoldable ratio : ℕ → ℕ → Float
@@ -63,7 +63,7 @@ options = record { tol = ratio 1 10000000000; m = 30; «max_substeps» = 100000 
 
 -- substeps, applications, rejections, estimate; of a refusal its number and double
 abbrev told : KrylovAnswer → List Float
-told (Soaked r) = nat (r .substeps) ∷ nat (r .matvecs) ∷ nat (r .rejected) ∷ r .«est_error» ∷ []
+told (Result r) = nat (r .substeps) ∷ nat (r .matvecs) ∷ nat (r .rejected) ∷ r .«est_error» ∷ []
 told (Refusal k x) = nat k ∷ x ∷ []
 
 data Job : Type 0 where

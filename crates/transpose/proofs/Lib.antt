@@ -2,9 +2,6 @@ pub mod Examples
 pub mod Orders
 pub mod Twice
 pub mod Entries
-pub mod Positions
-pub mod Counting
-pub mod Placing
 pub mod Ways
 pub mod Passed
 pub mod Answer

@@ -9,8 +9,8 @@ use Rattle.general_operator.specs.Csr.{Csr, csr}
 use Rattle.generator_action.specs.Mass.{Mass}
 use Rattle.transpose.specs.Transpose.{Buffers, buffers}
 use Rattle.combination.specs.Call.{ends}
-use Rattle.phi_action.specs.declared.TaylorAnswer.the-variants.{Refusal, Soaked}
-use Rattle.krylov_job.specs.declared.KrylovAnswer.the-variants.{Refusal as KrylovRefusal, Soaked as KrylovSoaked}
+use Rattle.taylor_job.specs.declared.TaylorAnswer.the-variants.{Refusal, Result}
+use Rattle.krylov_job.specs.declared.KrylovAnswer.the-variants.{Refusal as KrylovRefusal, Result as KrylovSoaked}
 use Rattle.transposed.specs.Transposed.{lends, phi-combination-transposed, phi-action-transposed, phi-action-batched-transposed, phi-combination-krylov-transposed, open-Transposed}
 
 -- row 0 holds 1 in column 1, with mass 2: the transposed quotients hold 1/2 in row 1, column 0
@@ -29,19 +29,19 @@ written = buffers (0 ∷ 0 ∷ 1 ∷ 8 ∷ []) (0 ∷ 9 ∷ []) (1/2f ∷ nat 5 
 
 -- v - 1/2 v_0 in row 1; the need counts the entry as the forward job does, 12 + 1
 action : phi-action-transposed a mass lent 1f 30 0 (nat 4 ∷ +0 ∷ []) (nat 7 ∷ nat 7 ∷ []) (replicate 14 (nat 9))
-    ≡ lends (ends (Soaked (record { s = 2; m = 30; mu = +0; applications = 60 })) (nat 4 ∷ bits 0xc000000000000000 ∷ []) (replicate 13 +0 ++ (nat 9 ∷ []))) written
+    ≡ lends (ends (Result (record { s = 2; m = 30; mu = +0; applications = 60 })) (nat 4 ∷ bits 0xc000000000000000 ∷ []) (replicate 13 +0 ++ (nat 9 ∷ []))) written
 unfolding open-Transposed
 action = refl
 
 -- the same, and w_1 = (0, 4)
 combination : phi-combination-transposed a mass lent 1f 30 2 (nat 4 ∷ +0 ∷ +0 ∷ nat 4 ∷ []) (nat 7 ∷ nat 7 ∷ []) (replicate 10 (nat 9))
-    ≡ lends (ends (Soaked (record { s = 2; m = 30; mu = +0; applications = 60 })) (nat 4 ∷ 2f ∷ []) (replicate 9 +0 ++ (nat 9 ∷ []))) written
+    ≡ lends (ends (Result (record { s = 2; m = 30; mu = +0; applications = 60 })) (nat 4 ∷ 2f ∷ []) (replicate 9 +0 ++ (nat 9 ∷ []))) written
 unfolding open-Transposed
 combination = refl
 
 -- phi_0 and phi_1
 batch : phi-action-batched-transposed a mass lent 1f 30 1 (nat 4 ∷ +0 ∷ []) (replicate 4 (nat 7)) (replicate 14 (nat 9))
-    ≡ lends (ends (Soaked (record { s = 2; m = 30; mu = +0; applications = 120 })) (nat 4 ∷ bits 0xc000000000000000 ∷ nat 4 ∷ bits 0xbff0000000000000 ∷ []) (replicate 13 +0 ++ (nat 9 ∷ []))) written
+    ≡ lends (ends (Result (record { s = 2; m = 30; mu = +0; applications = 120 })) (nat 4 ∷ bits 0xc000000000000000 ∷ nat 4 ∷ bits 0xbff0000000000000 ∷ []) (replicate 13 +0 ++ (nat 9 ∷ []))) written
 unfolding open-Transposed
 batch = refl
 

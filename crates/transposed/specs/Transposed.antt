@@ -6,8 +6,8 @@ use Rattle.general_operator.specs.Csr.{Csr}
 use Rattle.generator_action.specs.Mass.{Mass}
 use Rattle.transpose.specs.Transpose.{Buffers, lengths, buffers-after, transposed, open-Transpose}
 use Rattle.combination.specs.Call.{Call}
-use Rattle.phi_action.specs.declared.TaylorAnswer.{TaylorAnswer}
-use Rattle.phi_action.specs.Calls.{phi-combination, phi-action, phi-action-batched, open-Calls}
+use Rattle.taylor_job.specs.declared.TaylorAnswer.{TaylorAnswer}
+use Rattle.taylor_job.specs.Calls.{phi-combination, phi-action, phi-action-batched, open-Calls}
 use Rattle.krylov_job.specs.declared.KrylovPhiOptions.{KrylovPhiOptions}
 use Rattle.krylov_job.specs.declared.KrylovAnswer.{KrylovAnswer}
 use Rattle.krylov_job.specs.KrylovCall.{phi-combination-krylov, open-KrylovCall}

@@ -1,7 +1,7 @@
 // The four calls on the transposed matrix, over buffers that are lent for it.
 use krylov_job::KrylovAnswer;
 use krylov_job::KrylovPhiOptions;
-use phi_action::TaylorAnswer;
+use taylor_job::TaylorAnswer;
 use transposed_shape::ShapeAnswer;
 ghost use mathlib.Core.Path.{_≡_};
 ghost use Rattle.general_operator.specs.Csr.{csr};

@@ -289,7 +289,7 @@ fn run_check(
     requires { ⌜ (4 * length (now «starts_array») ≤ length (now «t_starts»)) × (4 * length (now «cols_array») ≤ length (now «t_cols»)) × (8 * length (now «vals_array») ≤ length (now «t_vals»)) ⌝ }
     ensures { λ r. ⌜ matrix-replies (matrix-numbers r) (lent (now («t_starts» .exit)) (now («t_cols» .exit)) (now («t_vals» .exit))) ≡ matrix-packs (checked-transposed (csr n (now (starts .entry)) (now (cols .entry)) (now (vals .entry))) (given «with_mass» (now (mass .entry))) (buffers (now («starts_array» .entry)) (now («cols_array» .entry)) (now («vals_array» .entry)))) (lent (now («t_starts» .entry)) (now («t_cols» .entry)) (now («t_vals» .entry))) ⌝ }
 {
-    let answer = transpose::check_transposed(
+    let answer = transposed_checks::check_transposed(
         n,
         starts,
         cols,

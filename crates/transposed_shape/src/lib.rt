@@ -29,7 +29,7 @@ pub fn transposed_shape(
     ensures { λ r. ⌜ r ≡ shape-answer (csr n (now (starts .entry)) (now (cols .entry)) (now (vals .entry))) (given «with_mass» (now (mass .entry))) (first (transposed-checks (csr n (now (starts .entry)) (now (cols .entry)) (now (vals .entry))) (given «with_mass» (now (mass .entry))) (lengths (buffers (now («t_starts» .entry)) (now («t_cols» .entry)) (now («t_vals» .entry)))))) ⌝ }
     ensures { λ _. ⌜ buffers (now («t_starts» .exit)) (now («t_cols» .exit)) (now («t_vals» .exit)) ≡ buffers-after (csr n (now (starts .entry)) (now (cols .entry)) (now (vals .entry))) (given «with_mass» (now (mass .entry))) (buffers (now («t_starts» .entry)) (now («t_cols» .entry)) (now («t_vals» .entry))) ⌝ }
 {
-    let matrix = transpose::check_transposed(
+    let matrix = transposed_checks::check_transposed(
         n,
         starts,
         cols,

@@ -5,6 +5,7 @@
 use jobs::ambient::Log;
 use jobs::{Call, Job};
 
+use crate::clock::timed;
 use crate::plate;
 
 const RECORDS: usize = 100_000;
@@ -13,26 +14,6 @@ const TURNS: usize = 3;
 /// tau times the norm of a record, about: a logger's minute of a slow part, of a quick one, and a record as long as the other tables' jobs.
 const STIFFNESS: [f64; 4] = [0.01, 1.0, 8.0, 60.0];
 const WINDOWS: [usize; 2] = [1, 1024];
-
-/// Linux's clock of a thread's processor time.
-const THREAD_TIME: i32 = 3;
-
-extern "C" {
-    fn clock_gettime(clock: i32, time: *mut [i64; 2]) -> i32;
-}
-
-fn seconds() -> f64 {
-    let mut time = [0; 2];
-    // SAFETY: seconds and nanoseconds are two numbers of 64 bits on x86-64 Linux.
-    assert_eq!(unsafe { clock_gettime(THREAD_TIME, &mut time) }, 0);
-    time[0] as f64 + time[1] as f64 * 1e-9
-}
-
-fn timed(call: impl FnOnce()) -> f64 {
-    let begin = seconds();
-    call();
-    seconds() - begin
-}
 
 fn log(job: &Job, window: usize, stiffness: f64) -> Log {
     let (field, load) = job.w.split_at(job.n);

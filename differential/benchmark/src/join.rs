@@ -2,7 +2,7 @@
 
 use jobs::{Call, Job};
 
-use crate::scipy::{lines, put_to};
+use crate::peers::{lines, put_to};
 use crate::{plate, seconds, ROUNDS};
 
 /// The plate's rows in other columns: each row's own and its neighbours', and two far away.
@@ -45,7 +45,7 @@ pub fn table() {
     files.push(("starts".into(), lines(&starts)));
     files.push(("columns".into(), lines(&cols[..entries])));
     files.push(("entries".into(), lines(&vals[..entries])));
-    let Some(words) = put_to("join.py", &files) else { return };
+    let words: Vec<f64> = put_to("join.py", &files).concat().iter().filter_map(|word| word.parse().ok()).collect();
     let [scipy, difference] = words[..] else { return };
     println!(
         "| {} | {} | {} | {entries} | {:.2} | {:.2} | {:.2} | {difference:.1e} |",

@@ -6,7 +6,7 @@ use std::time::Instant;
 use jobs::stages::Schedule;
 use jobs::{Call, Job, DEGREE};
 
-use crate::steps::timed;
+use crate::clock::timed;
 use crate::{plate, KRYLOV, SIZES};
 
 /// Seconds for each row of the table, and the least number of turns.

@@ -7,6 +7,7 @@ use jobs::paused::{COUNTS, ENDED, NUMBERS};
 use jobs::Job;
 use library::paused::{call_start, call_step, Lent};
 
+use crate::clock::timed;
 use crate::{plate, KRYLOV, SIZES};
 
 /// Seconds for each row of the table, and the least number of turns.
@@ -37,13 +38,6 @@ fn by_steps(job: &Job, memory: &mut Memory) -> usize {
         steps += 1;
     }
     steps
-}
-
-/// Seconds of one call.
-pub fn timed(call: impl FnOnce()) -> f64 {
-    let begin = Instant::now();
-    call();
-    begin.elapsed().as_secs_f64()
 }
 
 pub fn table() {

@@ -80,6 +80,34 @@ pub fn matrix(job: &Job, expected: &Answer) -> Option<Difference> {
     on_slices.or_else(on_bytes)
 }
 
+/// Where the plan alone differs, with `lent` doubles lent to it. It is expected to tell what the Rust tells of the combination of one vector of zeros over the same
+/// matrix, mass, time and highest degree: the plan, or the refusal. `None` where that run takes more than `cost` operations.
+pub fn plan(job: &Job, lent: usize, cost: u64) -> Option<(Answer, Option<Difference>)> {
+    let n = job.n.min(MOST_ROWS);
+    let mut run = Job { call: Call::Combination, count: 1, w: vec![0.0; n], out: n, work: 0, lent: None, ..job.clone() };
+    if job.n <= MOST_ROWS {
+        run.work = run.need();
+    }
+    let told = expected(&run, cost)?.answer;
+    let need = job.mass.as_ref().map_or(0, |_| job.vals.len());
+    let short = told.number == 0 && lent < need;
+    let marked: Vec<f64> = (0..lent).map(jobs::mark).collect();
+    let mut work = marked.clone();
+    if told.number == 0 && !short {
+        work[..need].fill(0.0);
+    }
+    let told = if short { Answer { number: 26, value: f64::NAN, counts: [0; 3], ..told } } else { told };
+    let wanted = Answer { out: vec![], work, ..told };
+    let mut work = marked.into_boxed_slice();
+    let library::Told { number, value, counts, steps } = library::plan(job, &mut work);
+    let got = Answer { number, value, counts, steps, out: vec![], work: work.into_vec(), buffers: None };
+    let difference = Difference::of("rattle's plan", got, &wanted);
+    Some((wanted, difference))
+}
+
+/// A matrix of more rows is refused before vectors are looked at.
+const MOST_ROWS: usize = 1_000_000;
+
 fn on_bytes(job: &Job, expected: &Answer, tail: usize) -> Option<Difference> {
     let side = "rattle on bytes";
     let expected = if job.is_large() { &job.large() } else { expected };

@@ -1,4 +1,4 @@
-//! The proved library (crates/exports, exports_transposed, exports_paused, exports_rotation, exports_stages, exports_ambient, and on
+//! The proved library (crates/exports, exports_transposed, exports_paused, exports_rotation, exports_stages, exports_ambient, exports_plan, and on
 //! bytes exports_bytes, exports_transposed_bytes, exports_paused_bytes): its exported functions, and a job put to them.
 
 pub mod ambient;
@@ -12,7 +12,7 @@ mod transposed;
 
 #[cfg(feature = "bytes")]
 pub use bytes::{answer as answer_on_bytes, matrix as matrix_on_bytes};
-pub use slices::{call, check, join};
+pub use slices::{call, check, join, plan};
 pub use transposed::check as check_transposed;
 
 use jobs::{Answer, Job};

@@ -27,6 +27,27 @@ extern "C" {
         row: *mut usize,
     ) -> u32;
 
+    pub fn hazhendu_taylor_plan(
+        n: usize,
+        starts: *const u32,
+        starts_len: usize,
+        cols: *const u32,
+        cols_len: usize,
+        vals: *const f64,
+        vals_len: usize,
+        with_mass: bool,
+        mass: *const f64,
+        mass_len: usize,
+        tau: f64,
+        degree: u32,
+        work: *mut f64,
+        work_len: usize,
+        value: *mut f64,
+        s: *mut u32,
+        m: *mut u32,
+        applications: *mut u64,
+    ) -> u32;
+
     pub fn hazhendu_join(
         n_a: usize,
         starts_a: *const u32,
@@ -83,6 +104,35 @@ pub fn join(a: &Job, b: &Job, starts: &mut [u32], cols: &mut [u32], vals: &mut [
         )
     };
     (number, value, entries)
+}
+
+/// The plan of a job's matrix, mass, time and highest degree alone. SAFETY: as of `called!`.
+pub fn plan(job: &Job, work: &mut [f64]) -> Told {
+    let s = lent::<Box<[u32]>, Box<[f64]>>(job);
+    let (mut value, mut sweeps, mut m, mut applications) = (jobs::mark(0), !0, !0, !0);
+    let number = unsafe {
+        hazhendu_taylor_plan(
+            job.n,
+            s.starts.as_ptr(),
+            s.starts.len(),
+            s.cols.as_ptr(),
+            s.cols.len(),
+            s.vals.as_ptr(),
+            s.vals.len(),
+            job.mass.is_some(),
+            s.mass.as_ptr(),
+            s.mass.len(),
+            job.tau,
+            job.degree,
+            work.as_mut_ptr(),
+            work.len(),
+            &mut value,
+            &mut sweeps,
+            &mut m,
+            &mut applications,
+        )
+    };
+    Told { number, value, counts: [sweeps.into(), m.into(), applications], steps: [0.0; 2] }
 }
 
 /// The matrix answer alone: number, double and row.

@@ -26,6 +26,7 @@ from ._calls import (
     phi_action_batched,
     phi_combination,
     phi_combination_krylov,
+    plan,
     soak,
     transpose,
 )
@@ -58,6 +59,7 @@ __all__ = [
     "phi_action_batched",
     "phi_combination",
     "phi_combination_krylov",
+    "plan",
     "soak",
     "stages",
     "transpose",

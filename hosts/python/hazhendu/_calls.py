@@ -1,14 +1,14 @@
 """The calls of the library."""
 
 import ctypes
-from dataclasses import dataclass
-from typing import Union
+from dataclasses import dataclass, replace
+from typing import Tuple, Union
 
 import numpy as np
 
 from . import _memory as memory
 from ._heating import warn_if_not_finite, warn_of_heating
-from ._library import Refused, call
+from ._library import Refused, call, chooses_krylov, other_m
 from ._memory import Buffers, Matrix, Slice, size
 
 LEAVE_STATE = (27, 28, 29)
@@ -39,10 +39,11 @@ class Report:
 
 @dataclass(frozen=True)
 class Soaked:
-    """The field, and what it cost."""
+    """The field, and what it cost. chosen says of solver="auto" what was taken and why, a line for each try; else it is empty."""
 
     field: np.ndarray
     report: Union[Plan, Report]
+    chosen: Tuple[str, ...] = ()
 
 
 @dataclass(frozen=True)
@@ -90,17 +91,64 @@ def join(barrel, mount):
     return result.matrix(barrel.n, entries.value)
 
 
-def soak(a, tau, vectors, mass=None, *, solver="taylor", degree=memory.MAX_DEGREE, tol=1e-10, m=40, limit=100_000, transposed=False):
+def plan(a, tau, mass=None, *, degree=memory.MAX_DEGREE, transposed=False):
+    """The plan of a Taylor job alone: what its run over this matrix, tau and degree would report, before it is run."""
+    if transposed:
+        a, mass = transpose(a, mass), None
+    matrix = Matrix(a, mass)
+    work = _lent(matrix.count() if mass is not None else 0)
+    value, s, m, applications = _places()
+    told = [ctypes.byref(place) for place in (value, s, m, applications)]
+    words = (ctypes.c_double(tau), ctypes.c_uint32(memory.whole(degree, "the degree")))
+    number = call("hazhendu_taylor_plan", *matrix.arguments(), *words, *work.arguments, *told)
+    if number:
+        raise Refused(number, value.value)
+    return Plan(s.value, m.value, value.value, applications.value)
+
+
+def soak(a, tau, vectors, mass=None, *, solver="auto", degree=memory.MAX_DEGREE, tol=1e-10, m=40, limit=100_000, transposed=False):
     """The sum over k of tau^k phi_k(tau G) w_k for 1 to 4 vectors w_0, w_1, ..., by Taylor sweeps or Krylov substeps.
 
-    tol is the error allowed over the whole tau, relative to the 2-norm of the start; docs/CHOOSING.md says which solver, tol and m to take.
+    solver is "taylor", "krylov" or "auto": Taylor for small models and mild ones, else Krylov; on 28 with another m, then by Taylor.
+    degree is Taylor's; tol, m and limit are Krylov's. tol is the error allowed over the whole tau, relative to the 2-norm of the start;
+    docs/CHOOSING.md says which solver, tol and m to take.
     transposed runs on the transposed G: with the weights of a reading as w_0, entry i is what 1 K more at node i at the start adds to it.
     """
     if solver == "taylor":
         return phi_combination(a, tau, vectors, mass, degree=degree, transposed=transposed)
     if solver == "krylov":
         return phi_combination_krylov(a, tau, vectors, mass, tol=tol, m=m, limit=limit, transposed=transposed)
-    raise ValueError(f"solver {solver!r}: taylor or krylov")
+    if solver == "auto":
+        return _auto(a, tau, vectors, mass, dict(degree=degree), dict(tol=tol, m=m, limit=limit), transposed)
+    raise ValueError(f"solver {solver!r}: auto, taylor or krylov")
+
+
+def _auto(a, tau, vectors, mass, by_taylor, by_krylov, transposed):
+    number, applications, told = 0, 0, ""
+    try:
+        applications = plan(a, tau, mass, transposed=transposed, **by_taylor).applications
+        told = f"taylor makes {applications} applications"
+    except Refused as refused:
+        number, told = refused.number, f"taylor is refused by {refused.number}"
+    matrix = Matrix(a, mass)
+    told += f" with {matrix.count()} entries and {matrix.n} rows"
+    if not chooses_krylov(matrix.n, matrix.count(), number, applications):
+        soaked = phi_combination(a, tau, vectors, mass, transposed=transposed, **by_taylor)
+        return replace(soaked, chosen=(f"taylor: {told}",))
+    chosen = ()
+    for m in dict.fromkeys((by_krylov["m"], *other_m())):
+        chosen += (f"krylov with m {m}: {told}",)
+        try:
+            soaked = phi_combination_krylov(a, tau, vectors, mass, transposed=transposed, **{**by_krylov, "m": m})
+            return replace(soaked, chosen=chosen)
+        except Refused as refused:
+            if refused.number != 28:
+                raise
+            rejected, told = refused, f"krylov with m {m} is refused by 28"
+    if number:
+        raise rejected
+    soaked = phi_combination(a, tau, vectors, mass, transposed=transposed, **by_taylor)
+    return replace(soaked, chosen=(*chosen, f"taylor: {told}"))
 
 
 def phi_combination(a, tau, vectors, mass=None, *, degree=memory.MAX_DEGREE, transposed=False):
@@ -151,7 +199,7 @@ def _taylor(name, a, matrix, job, length, work, transposed):
     tau, degree, index, w = job
     degree, index = memory.whole(degree, "the degree"), memory.whole(index, "the index")
     out, work = _lent(length), _lent(work)
-    value, s, m, applications = ctypes.c_double(), ctypes.c_uint32(), ctypes.c_uint32(), ctypes.c_uint64()
+    value, s, m, applications = _places()
     told = [ctypes.byref(place) for place in (value, s, m, applications)]
     words = (ctypes.c_double(tau), ctypes.c_uint32(degree), size(index), *w.arguments)
     number = _called(name, a, matrix, transposed, *words, *out.arguments, *work.arguments, *told)
@@ -166,6 +214,11 @@ def _called(name, a, matrix, transposed, *arguments):
         return call(name, *matrix.arguments(), *arguments)
     buffers = Buffers(matrix.n, matrix.count())
     return call(f"{name}_transposed", *matrix.arguments(), *buffers.arguments, *arguments)
+
+
+def _places():
+    """Where a plan is told."""
+    return ctypes.c_double(), ctypes.c_uint32(), ctypes.c_uint32(), ctypes.c_uint64()
 
 
 def _lent(length):

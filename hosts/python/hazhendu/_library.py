@@ -87,3 +87,19 @@ def next_place(queues):
     function = _library.hazhendu_rotation_next
     function.restype = ctypes.c_size_t
     return function(*queues.arguments)
+
+
+def chooses_krylov(n, entries, number, applications):
+    """Whether to take Krylov, by the number that the plan was answered with and its applications."""
+    function = _library.hazhendu_shared_choose
+    function.argtypes = [ctypes.c_size_t, ctypes.c_size_t, ctypes.c_uint32, ctypes.c_uint64]
+    function.restype = ctypes.c_bool
+    return function(n, entries, number, applications)
+
+
+def other_m():
+    """The m to take in turn after 28."""
+    function = _library.hazhendu_shared_other_m
+    function.argtypes = [ctypes.c_size_t]
+    function.restype = ctypes.c_size_t
+    return list(iter(map(function, range(2**16)).__next__, 0))

@@ -88,6 +88,25 @@ pub fn join(a: &Matrix, b: &Matrix, starts: &mut [u32], columns: &mut [u32], ent
     unless_refused(number, value, count)
 }
 
+/// The plan of a Taylor job alone: what its run over this matrix, tau and degree would report, before it is run. `work` needs
+/// [`crate::sizes::plan_work`].
+pub fn taylor_plan(a: &Matrix, tau: f64, options: TaylorOptions, work: &mut [f64]) -> Result<Plan, Refusal> {
+    let mut plan = Plan { s: 0, m: 0, mu: 0.0, applications: 0 };
+    let number = call!(
+        hazhendu_taylor_plan,
+        a,
+        tau,
+        options.degree,
+        work.as_mut_ptr(),
+        work.len(),
+        &mut plan.mu,
+        &mut plan.s,
+        &mut plan.m,
+        &mut plan.applications,
+    );
+    unless_refused(number, plan.mu, plan)
+}
+
 macro_rules! taylor {
     ($(#[$doc:meta])* $name:ident, $exported:ident, $index:ident, $w:ident) => {
         $(#[$doc])*

@@ -20,11 +20,13 @@
 //! nothing here panics. The functions here allocate output and working memory; those of [`lent`] work on memory that the
 //! caller lends. A call runs to its end, and its thread hears of nothing in between; the process can be stopped at any time. [`Paused`] is a
 //! Krylov run that is looked at between its substeps, [`Unit`] serves up to sixteen of these in rotation, [`stages`](stages()) is a schedule
-//! of soaks over one matrix, [`ambient`](ambient()) a soak under a level that a logger gives. [`matrix_market`] and [`vectors`] read and write files.
+//! of soaks over one matrix, [`ambient`](ambient()) a soak under a level that a logger gives. [`taylor_plan`] tells what a Taylor job costs before it
+//! is run, and [`auto`](auto()) takes the solver by it. [`matrix_market`] and [`vectors`] read and write files.
 
 #![deny(unsafe_op_in_unsafe_fn)]
 
 mod ambient;
+mod auto;
 pub mod environment;
 pub mod lent;
 mod lines;
@@ -40,6 +42,7 @@ mod triplets;
 pub mod vectors;
 
 pub use ambient::{ambient, AmbientError, Log, Logged};
+pub use auto::{auto, choose, Auto, AutoOptions, Choice, Why, MILD, OTHER_DIMENSIONS, SMALL};
 pub use lines::ReadError;
 pub use paused::Paused;
 pub use refusal::{Error, Refusal};
@@ -217,6 +220,23 @@ pub fn phi_combination_krylov(a: &Matrix, tau: f64, count: usize, w: &[f64], opt
 pub fn combine(solver: Solver, a: &Matrix, tau: f64, count: usize, w: &[f64]) -> Result<Soaked<Cost>, Error> {
     let work = sizes::work(a.n, a.entries.len(), a.mass.is_some(), count, solver);
     with_memory(sizes::output(a.n, 0), work, |out, work| lent::combine(solver, a, tau, count, w, out, work))
+}
+
+/// The plan of a Taylor job alone: s, m, mu and the products with the generator that its run would report, before it is run. The refusals are
+/// those that matrix, mass, tau and degree decide: 1 to 11, 14, 33, 24 and 25. A batch of p + 1 functions makes p + 1 times as many products.
+///
+/// ```
+/// use hazhendu::{phi_combination, taylor_plan, Matrix, TaylorOptions};
+///
+/// let a = Matrix::new(2, &[0, 2, 4], &[0, 1, 0, 1], &[0.5, -0.5, -0.5, 0.6]).with_mass(&[8.0, 8.0]);
+/// let plan = taylor_plan(&a, 60.0, TaylorOptions::default())?;
+/// assert_eq!(plan.applications, u64::from(plan.s) * u64::from(plan.m));
+/// assert_eq!(phi_combination(&a, 60.0, 1, &[20.0, 20.0], TaylorOptions::default())?.cost, plan);
+/// # Ok::<(), hazhendu::Error>(())
+/// ```
+pub fn taylor_plan(a: &Matrix, tau: f64, options: TaylorOptions) -> Result<Plan, Error> {
+    let mut work = zeros(sizes::plan_work(a.entries.len(), a.mass.is_some()))?;
+    lent::taylor_plan(a, tau, options, &mut work).map_err(|refusal| Error::Refused { refusal, state: None })
 }
 
 /// The checks of the matrix alone, 1 to 11; then its norm and the first row that has it.

@@ -29,6 +29,14 @@ pub fn dimension(n: usize, count: usize, m: usize) -> usize {
     m.clamp(2, n.saturating_add(count.saturating_sub(1)).max(2))
 }
 
+/// Working memory of `taylor_plan`: with a mass a place for each entry.
+pub fn plan_work(entries: usize, with_mass: bool) -> usize {
+    if entries > MAX_ENTRIES {
+        return 0;
+    }
+    quotients(entries, with_mass)
+}
+
 /// Working memory of `phi_combination`.
 pub fn taylor_work(n: usize, entries: usize, with_mass: bool, count: usize) -> usize {
     if !allowed(n, entries, count) {

@@ -29,6 +29,8 @@ macro_rules! exported_taylor {
 }
 
 exported!(hazhendu_check_generator, value: *mut f64, row: *mut usize);
+exported!(hazhendu_taylor_plan, tau: f64, degree: u32, work: *mut f64, work_len: usize, value: *mut f64, s: *mut u32, plan_m: *mut u32,
+    applications: *mut u64);
 exported_taylor!(hazhendu_phi_combination, count, w, w_len);
 exported_taylor!(hazhendu_phi_action, k, v, v_len);
 exported_taylor!(hazhendu_phi_action_batched, p, v, v_len);

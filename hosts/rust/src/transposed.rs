@@ -21,7 +21,10 @@
 //! Each call allocates output, working memory and the buffers for the transposed matrix; [`crate::lent::transposed`] works on lent memory.
 
 use crate::lent::transposed::{self as lent, Buffers};
-use crate::{sizes, with_memory, zeros, Cost, Csr, Error, KrylovOptions, Largest, Matrix, Plan, Report, Soaked, Solver, TaylorOptions};
+use crate::{
+    sizes, with_memory, zeros, Auto, AutoOptions, Cost, Csr, Error, KrylovOptions, Largest, Matrix, Plan, Report, Soaked, Solver,
+    TaylorOptions,
+};
 
 /// Buffers as long as the transposed matrix needs.
 pub(crate) struct Owned {
@@ -50,6 +53,11 @@ pub fn check(a: &Matrix) -> Result<Largest, Error> {
     lent::check(a, Owned::new(a)?.lend()).map_err(|refusal| Error::Refused { refusal, state: None })
 }
 
+/// As [`crate::taylor_plan`], by the transposed matrix.
+pub fn taylor_plan(a: &Matrix, tau: f64, options: TaylorOptions) -> Result<Plan, Error> {
+    crate::taylor_plan(&a.transposed()?.matrix(), tau, options)
+}
+
 /// As [`crate::phi_combination`].
 pub fn phi_combination(a: &Matrix, tau: f64, count: usize, w: &[f64], options: TaylorOptions) -> Result<Soaked<Plan>, Error> {
     let work = sizes::taylor_work(a.n, a.entries.len(), a.mass.is_some(), count);
@@ -76,6 +84,11 @@ pub fn phi_combination_krylov(a: &Matrix, tau: f64, count: usize, w: &[f64], opt
     let work = sizes::krylov_work(a.n, a.entries.len(), a.mass.is_some(), count, options.m);
     let mut t = Owned::new(a)?;
     with_memory(sizes::output(a.n, 0), work, |out, work| lent::phi_combination_krylov(a, t.lend(), tau, count, w, options, out, work))
+}
+
+/// As [`crate::auto`].
+pub fn auto(a: &Matrix, tau: f64, count: usize, w: &[f64], options: AutoOptions) -> Result<Auto, Error> {
+    crate::auto::auto_transposed(a, tau, count, w, options)
 }
 
 /// As [`crate::combine`].

@@ -1,5 +1,6 @@
 //! The command line.
 
+use crate::choice::Asked;
 use crate::failure::Failure;
 use crate::frames::Frames;
 use crate::guard;
@@ -7,13 +8,15 @@ use crate::input::Source;
 use crate::join::Pair;
 use crate::log;
 use crate::model::Files;
+use crate::plan;
 use crate::report;
 use crate::rotate;
+use crate::series;
 use crate::sink::is_standard_output;
 use crate::stages;
 use crate::steps::Tightening;
 use hazhendu::sizes::MAX_DEGREE;
-use hazhendu::{KrylovOptions, Solver, TaylorOptions};
+use hazhendu::{AutoOptions, KrylovOptions, Solver, TaylorOptions};
 use std::ffi::OsString;
 use std::path::PathBuf;
 use std::str::FromStr;
@@ -25,6 +28,7 @@ pub enum Command {
     Help,
     Version,
     Check(Files),
+    Plan(plan::Request),
     Join(Pair),
     Stages(Box<stages::Request>),
     Log(Box<log::Request>),
@@ -37,13 +41,14 @@ pub struct Request {
     pub files: Files,
     pub vectors: Vec<Source>,
     pub tau: f64,
-    pub solver: Solver,
+    pub solver: Asked,
     pub output: PathBuf,
     pub plot: Option<PathBuf>,
     pub reports: Vec<PathBuf>,
     pub drawing: Drawing,
     pub tightenings: Vec<Tightening>,
     pub frames: Option<Frames>,
+    pub series: series::Asked,
 }
 
 /// How pictures are drawn and called.
@@ -75,11 +80,12 @@ impl Request {
         if !is_standard_output(&self.output) {
             name.push(".state");
         }
-        matches!(self.solver, Solver::Krylov(_)).then_some(name.into())
+        self.solver.may_leave_state().then_some(name.into())
     }
 
     fn drawn(&self) -> Result<(), Failure> {
-        self.drawing.drawn(self.plot.is_some() || !self.reports.is_empty(), "--plot and --report")?;
+        let drawn = self.plot.is_some() || !self.reports.is_empty() || !self.series.files.is_empty();
+        self.drawing.drawn(drawn, "--plot, --report and --series")?;
         match self.reports.iter().find(|path| report::Kind::of(path).is_none()) {
             Some(path) => Err(Failure::Usage(format!("--report {}: a name that ends in .html, .json or .csv", path.display()))),
             None => Ok(()),
@@ -95,6 +101,7 @@ impl Request {
             .writes("the state of --output", state)
             .writes("--plot", &self.plot)
             .writes("--report", &self.reports)
+            .writes("--series", &self.series.files)
             .writes("--frames", self.frames.iter().map(|frames| &frames.folder))
     }
 }
@@ -119,6 +126,7 @@ struct Given {
     tightenings: Vec<Tightening>,
     every: Option<usize>,
     frames: Option<PathBuf>,
+    series: Vec<PathBuf>,
     start: Option<Source>,
     schedule: Option<Source>,
     every_stage: Option<PathBuf>,
@@ -133,10 +141,11 @@ struct Given {
 pub fn parse(words: impl Iterator<Item = OsString>) -> Result<Command, Failure> {
     let mut words = words.skip(1).peekable();
     let check = words.next_if(|word| word == "check").is_some();
-    let join = !check && words.next_if(|word| word == "join").is_some();
-    let stages = !check && !join && words.next_if(|word| word == "stages").is_some();
-    let log = !check && !join && !stages && words.next_if(|word| word == "log").is_some();
-    let rotate = !check && !join && !stages && !log && words.next_if(|word| word == "rotate").is_some();
+    let plan = !check && words.next_if(|word| word == "plan").is_some();
+    let join = !check && !plan && words.next_if(|word| word == "join").is_some();
+    let stages = !check && !plan && !join && words.next_if(|word| word == "stages").is_some();
+    let log = !check && !plan && !join && !stages && words.next_if(|word| word == "log").is_some();
+    let rotate = !check && !plan && !join && !stages && !log && words.next_if(|word| word == "rotate").is_some();
     let mut given = Given::default();
     while let Some(word) = words.next() {
         let text = word.to_str().unwrap_or_default();
@@ -161,6 +170,9 @@ pub fn parse(words: impl Iterator<Item = OsString>) -> Result<Command, Failure> 
     }
     if check {
         return given.files_alone().map(Command::Check);
+    }
+    if plan {
+        return given.plan().map(Command::Plan);
     }
     if join {
         return given.pair().map(Command::Join);
@@ -197,6 +209,7 @@ impl Given {
             "--tighten" => self.tightenings.push(tightening(name, value()?)?),
             "--every" => once(name, &mut self.every, read(name, value()?, "a whole number that fits")?)?,
             "--frames" => once(name, &mut self.frames, value()?.into())?,
+            "--series" => self.series.push(value()?.into()),
             "--start" => once(name, &mut self.start, Source(value()?.into()))?,
             "--schedule" => once(name, &mut self.schedule, Source(value()?.into()))?,
             "--every-stage" => once(name, &mut self.every_stage, value()?.into())?,
@@ -212,24 +225,55 @@ impl Given {
         Ok(())
     }
 
-    fn solver(&self) -> Result<Solver, Failure> {
+    fn solver(&self) -> Result<Asked, Failure> {
         let usual = KrylovOptions::default();
-        let options = KrylovOptions {
+        let krylov = KrylovOptions {
             tol: self.tol.unwrap_or(usual.tol),
             m: self.m.unwrap_or(usual.m),
             max_substeps: self.limit.unwrap_or(usual.max_substeps),
         };
+        let taylor = self.taylor();
+        let by_substeps = !self.tightenings.is_empty() || self.every.is_some() || self.frames.is_some() || !self.series.is_empty();
         match self.solver.as_deref() {
-            Some("krylov") if self.degree.is_some() => Err(Failure::Usage("--degree is for --solver taylor".into())),
-            Some("krylov") => Ok(Solver::Krylov(options)),
-            Some("taylor") | None if self.tol.is_some() || self.m.is_some() || self.limit.is_some() => {
-                Err(Failure::Usage("--tol, --m and --limit are for --solver krylov".into()))
+            Some("krylov") if self.degree.is_some() => Err(Failure::Usage("--degree is for --solver taylor and auto".into())),
+            Some("krylov") => Ok(Asked::Named(Solver::Krylov(krylov))),
+            Some("taylor") if self.tol.is_some() || self.m.is_some() || self.limit.is_some() => {
+                Err(Failure::Usage("--tol, --m and --limit are for --solver krylov and auto".into()))
             }
-            Some("taylor") | None if !self.tightenings.is_empty() || self.every.is_some() || self.frames.is_some() => {
-                Err(Failure::Usage("--tighten, --every and --frames are for --solver krylov".into()))
+            Some("taylor" | "auto") | None if by_substeps => {
+                Err(Failure::Usage("--tighten, --every, --frames and --series are for --solver krylov, which goes by substeps".into()))
             }
-            Some("taylor") | None => Ok(Solver::Taylor(TaylorOptions { degree: self.degree.unwrap_or(MAX_DEGREE) })),
-            Some(other) => Err(Failure::Usage(format!("--solver {other:?}: taylor or krylov"))),
+            Some("taylor") => Ok(Asked::Named(Solver::Taylor(taylor))),
+            Some("auto") | None => Ok(Asked::Auto(AutoOptions { taylor, krylov })),
+            Some(other) => Err(Failure::Usage(format!("--solver {other:?}: auto, taylor or krylov"))),
+        }
+    }
+
+    fn taylor(&self) -> TaylorOptions {
+        TaylorOptions { degree: self.degree.unwrap_or(MAX_DEGREE) }
+    }
+
+    /// --node is the row that a series shows too.
+    fn series(&mut self) -> Result<series::Asked, Failure> {
+        let series = series::Asked { files: std::mem::take(&mut self.series), node: self.node.take() };
+        if let Some(path) = series.files.iter().find(|path| series::Kind::of(path).is_none()) {
+            return Err(Failure::Usage(format!("--series {}: a name that ends in .svg or .csv", path.display())));
+        }
+        match series.node {
+            Some(0) => Err(Failure::Usage("--node 0: rows are counted from 1".into())),
+            Some(_) if series.files.is_empty() => Err(Failure::Usage("--node is for --series and soak log".into())),
+            _ => Ok(series),
+        }
+    }
+
+    fn plan(mut self) -> Result<plan::Request, Failure> {
+        let (files, taylor) = (self.files()?, self.taylor());
+        self.degree = None;
+        let tau = self.tau.take().ok_or_else(|| Failure::Usage("--tau is missing".into()))?;
+        guard::Files::default().reads(files.sources()).check()?;
+        match self == Given::default() {
+            true => Ok(plan::Request { files, tau, taylor }),
+            false => Err(Failure::Usage("plan takes a matrix, --tau, --mass, --transpose and --degree alone".into())),
         }
     }
 
@@ -284,13 +328,17 @@ impl Given {
             plot: self.plot.take(),
             drawing: std::mem::take(&mut self.drawing),
             every_stage: self.every_stage.take(),
+            series: self.series()?,
         };
         if transposed || self != Given::default() {
             return Err(Failure::Usage(
-                "stages takes a matrix, --mass, --start, --schedule, --output, --every-stage, --plot, --points, --outline, --unit and --title".into(),
+                "stages takes a matrix, --mass, --start, --schedule, --output, --every-stage, --series, --node, --plot, --points, --outline, \
+                 --unit and --title"
+                    .into(),
             ));
         }
-        request.drawing.drawn(request.plot.is_some(), "--plot")?;
+        let drawn = request.plot.is_some() || !request.series.files.is_empty();
+        request.drawing.drawn(drawn, "--plot and --series")?;
         request.guarded().check()?;
         Ok(request)
     }
@@ -342,8 +390,8 @@ impl Given {
 
     fn request(mut self) -> Result<Request, Failure> {
         let of_a_log = [&self.field, &self.load, &self.records].iter().any(|source| source.is_some());
-        if of_a_log || self.node.is_some() || self.window.is_some() || self.results.is_some() {
-            return Err(Failure::Usage("--field, --load, --records, --node, --window and --results are for soak log".into()));
+        if of_a_log || self.window.is_some() || self.results.is_some() {
+            return Err(Failure::Usage("--field, --load, --records, --window and --results are for soak log".into()));
         }
         if self.start.is_some() || self.schedule.is_some() || self.every_stage.is_some() {
             return Err(Failure::Usage("--start, --schedule and --every-stage are for soak stages".into()));
@@ -352,6 +400,7 @@ impl Given {
             solver: self.solver()?,
             files: self.files()?,
             frames: self.frames()?,
+            series: self.series()?,
             tightenings: self.tightenings,
             tau: self.tau.ok_or_else(|| Failure::Usage("--tau is missing".into()))?,
             vectors: self.vectors,

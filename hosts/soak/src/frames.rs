@@ -28,7 +28,7 @@ impl Frames {
     }
 
     pub fn is_due(&self, substeps: usize) -> bool {
-        substeps % self.every == 0
+        substeps > 0 && substeps % self.every == 0
     }
 
     /// A comment says what it is; as a vector it reads back.

@@ -1,6 +1,7 @@
 //! A job in memory: what the files hold, the call, and where in the files a refusal has its cause.
 
 use crate::arguments::Request;
+use crate::choice::Asked;
 use crate::failure::Failure;
 use crate::input::{Source, Vector};
 use crate::memory::joined;
@@ -43,10 +44,10 @@ impl<'a> Job<'a> {
         self.vectors.iter().map(|vector| vector.numbers.as_slice()).collect()
     }
 
-    pub fn soak(&self) -> Result<Soaked<Cost>, Failure> {
+    pub fn soak(&self, solver: Solver) -> Result<Soaked<Cost>, Failure> {
         let (count, w) = self.flat()?;
         let combine = if self.request.files.transposed { transposed::combine } else { combine };
-        combine(self.request.solver, &self.model.matrix(), self.request.tau, count, &w).map_err(|error| self.failure(error))
+        combine(solver, &self.model.matrix(), self.request.tau, count, &w).map_err(|error| self.failure(error))
     }
 
     pub fn failure(&self, error: Error) -> Failure {
@@ -75,9 +76,15 @@ impl<'a> Job<'a> {
 
     /// The highest degree, where it is lower than it may be.
     fn degree(&self) -> String {
-        match self.request.solver {
-            Solver::Taylor(options) if options.degree < MAX_DEGREE => format!(", --degree {}", options.degree),
-            _ => String::new(),
+        let degree = match self.request.solver {
+            Asked::Named(Solver::Taylor(options)) => options.degree,
+            Asked::Auto(options) => options.taylor.degree,
+            Asked::Named(Solver::Krylov(_)) => MAX_DEGREE,
+        };
+        if degree < MAX_DEGREE {
+            format!(", --degree {degree}")
+        } else {
+            String::new()
         }
     }
 
@@ -96,16 +103,9 @@ impl<'a> Job<'a> {
             25 => Some(format!("--tau {}, {}{}", shortest(self.request.tau), self.request.files.matrix, self.degree())),
             24 => Some(format!("--tau {} and {}", shortest(self.request.tau), self.request.files.matrix)),
             27 => Some("--limit".into()),
-            28 => Some("--m".into()),
+            28 => Some("--m; a soak of its own without --solver takes another m by itself, then taylor".into()),
             _ => self.model.place(refusal),
         }
-    }
-}
-
-pub fn solver_name(request: &Request) -> &'static str {
-    match request.solver {
-        Solver::Taylor(_) => "taylor",
-        Solver::Krylov(_) => "krylov",
     }
 }
 

@@ -3,6 +3,7 @@
 #![deny(unsafe_code)]
 
 mod arguments;
+mod choice;
 mod failure;
 mod frames;
 mod guard;
@@ -13,6 +14,7 @@ mod join;
 mod log;
 mod memory;
 mod model;
+mod plan;
 mod plot;
 mod points;
 mod progress;
@@ -20,6 +22,7 @@ mod records;
 mod report;
 mod rotate;
 mod schedule;
+mod series;
 mod sink;
 mod soak;
 mod stages;
@@ -56,6 +59,7 @@ fn run() -> Result<(), Failure> {
         Command::Help => sink::to_stdout(|to| to.write_all(arguments::HELP.as_bytes())),
         Command::Version => sink::to_stdout(|to| writeln!(to, "soak {}", env!("CARGO_PKG_VERSION"))),
         Command::Check(files) => check(&files),
+        Command::Plan(request) => plan::run(&request),
         Command::Join(pair) => join(&pair),
         Command::Stages(request) => stages::run(&request),
         Command::Log(request) => log::run(&request),

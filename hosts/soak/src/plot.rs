@@ -8,9 +8,11 @@ pub mod geometry;
 mod log;
 mod map;
 mod profile;
+mod series;
 mod svg;
 mod voronoi;
 
+use crate::series::Series;
 use crate::summary::Summary;
 use axis::Scale;
 pub use geometry::Geometry;
@@ -80,6 +82,11 @@ pub fn curves(picture: &Picture, curves: &[(String, &[f64])]) -> String {
 /// A node's temperature over the time of a log, with the band of its windows and the level.
 pub fn log(curves: &Curves) -> String {
     log::draw(curves)
+}
+
+/// A soak over its time.
+pub fn series(series: &Series, title: &str, unit: &str) -> String {
+    series::draw(series, title, unit)
 }
 
 /// An axis's name without its unit.

@@ -5,8 +5,9 @@ mod html;
 mod json;
 
 use crate::arguments::Request;
-use crate::job::solver_name;
+use crate::choice::{self, Taken};
 use crate::plot::{Geometry, Picture};
+use crate::series::Series;
 use crate::steps::Stopped;
 use hazhendu::{Cost, Refusal};
 use std::path::{Path, PathBuf};
@@ -32,6 +33,9 @@ impl Kind {
 /// What was asked, and what came of it.
 pub struct Report<'a> {
     pub request: &'a Request,
+    pub taken: &'a Taken,
+    /// Of a run by substeps.
+    pub series: &'a Series,
     pub rows: usize,
     pub entries: usize,
     /// Of the call.
@@ -79,7 +83,7 @@ impl Report<'_> {
     }
 
     fn solver(&self) -> &'static str {
-        solver_name(self.request)
+        choice::name(self.taken.solver)
     }
 }
 

@@ -1,6 +1,7 @@
 //! Several barrels on one unit: Krylov soaks in rotation, one substep each in turn, from a table to a folder.
 
 use crate::arguments::{self, Drawing};
+use crate::choice::Asked;
 use crate::failure::Failure;
 use crate::guard;
 use crate::input::Source;
@@ -8,6 +9,7 @@ use crate::interrupt::Listening;
 use crate::job::{cost_line, Job};
 use crate::model::Files;
 use crate::progress::{self, Block};
+use crate::series;
 use crate::sink::{self, Sink};
 use crate::soak::not_finite;
 use crate::summary::Summary;
@@ -99,13 +101,14 @@ fn barrel(row: &Row, folder: &Path) -> Result<Barrel, Failure> {
         },
         vectors: row.files("vectors", row.needed("vectors")?)?,
         tau: row.number("tau", "a number")?.ok_or_else(|| row.wrong("no tau".into()))?,
-        solver: Solver::Krylov(options),
+        solver: Asked::Named(Solver::Krylov(options)),
         output: folder.join(format!("{name}.txt")),
         plot: None,
         reports: vec![],
         drawing: Drawing::default(),
         tightenings: vec![],
         frames: None,
+        series: series::Asked::default(),
     };
     Ok(Barrel { place: row.place.to_owned(), name: name.to_owned(), alone })
 }
@@ -125,8 +128,8 @@ impl Barrel {
 
     fn options(&self) -> KrylovOptions {
         match self.alone.solver {
-            Solver::Krylov(options) => options,
-            Solver::Taylor(_) => KrylovOptions::default(),
+            Asked::Named(Solver::Krylov(options)) => options,
+            Asked::Named(Solver::Taylor(_)) | Asked::Auto(_) => KrylovOptions::default(),
         }
     }
 }

@@ -1,19 +1,22 @@
 //! A soak from its files to its files.
 
 use crate::arguments::Request;
+use crate::choice::{self, Taken};
 use crate::failure::Failure;
 use crate::frames::Frames;
-use crate::job::{cost_line, solver_name, Job};
+use crate::job::{cost_line, Job};
 use crate::plot::{Geometry, Picture};
 use crate::points;
 use crate::progress::percent;
 use crate::report::{Kind, Outcome, Report};
+use crate::series::{self, Series};
 use crate::sink::{is_standard_output, Sink};
 use crate::steps::{self, Stopped};
 use crate::summary::Summary;
 use crate::warnings::{self, Heating};
 use crate::{tell, tell_terminal};
-use hazhendu::{shortest, vectors, Cost, Matrix, Soaked};
+use hazhendu::{shortest, taylor_plan, transposed, vectors, Cost, Matrix, Soaked, Solver};
+use std::io::{self, IsTerminal};
 use std::path::PathBuf;
 use std::time::Instant;
 
@@ -24,14 +27,13 @@ pub fn run(request: &Request) -> Result<(), Failure> {
     let sinks = Sinks::open(request)?;
     let heating = Heating::of(&job.matrix());
     let warnings = heating.iter().map(|heating| heating.warning(&request.files.matrix.to_string())).collect();
-    let mut run = Run { request, job, geometry, sinks, heating, warnings, seconds: 0.0 };
+    request.series.check(job.matrix().n)?;
+    let taken = Taken::of(request.solver, &job, request.tau)?;
+    let series = Series::new(request.series.node, "substep", quantity(request));
+    let mut run = Run { request, job, taken, geometry, sinks, heating, warnings, series, seconds: 0.0 };
     run.warnings.iter().for_each(|warning| tell(warning));
-    tell_terminal(&format!("soak: {}, solver {}", run.job.size(), solver_name(request)));
     let begun = Instant::now();
-    let soaked = match steps::options(request) {
-        Some(options) => steps::soak(&run.job, request, options, |field, time, substeps| run.frame(field, time, substeps)),
-        None => run.job.soak(),
-    };
+    let soaked = run.soak();
     run.seconds = begun.elapsed().as_secs_f64();
     tell_terminal(&format!("soak: {:.3} s", run.seconds));
     match soaked {
@@ -44,14 +46,50 @@ pub fn run(request: &Request) -> Result<(), Failure> {
 struct Run<'a> {
     request: &'a Request,
     job: Job<'a>,
+    taken: Taken,
     geometry: Option<Geometry>,
     sinks: Sinks,
     heating: Option<Heating>,
     warnings: Vec<String>,
+    series: Series,
     seconds: f64,
 }
 
 impl Run<'_> {
+    /// By the solver that is taken; one that was chosen is followed by the next on 28.
+    fn soak(&mut self) -> Result<Soaked<Cost>, Failure> {
+        loop {
+            self.taken.told.last().iter().for_each(|line| tell(line));
+            tell_terminal(&format!("soak: {}, solver {}{}", self.job.size(), choice::name(self.taken.solver), self.planned()));
+            match self.attempt() {
+                Err(Failure::Refused { refusal, .. }) if refusal.number == 28 && self.taken.after_28() => {}
+                soaked => return soaked,
+            }
+        }
+    }
+
+    /// On a terminal, what a Taylor soak is going to take: it tells nothing until its end.
+    fn planned(&self) -> String {
+        let Solver::Taylor(options) = self.taken.solver else { return String::new() };
+        let planned = if self.request.files.transposed { transposed::taylor_plan } else { taylor_plan };
+        let plan = io::stderr().is_terminal().then(|| planned(&self.job.matrix(), self.request.tau, options).ok()).flatten();
+        plan.map_or(String::new(), |plan| format!(", {} applications", plan.applications))
+    }
+
+    fn attempt(&mut self) -> Result<Soaked<Cost>, Failure> {
+        let mut series = Series::new(self.request.series.node, "substep", quantity(self.request));
+        let Some(options) = steps::options(self.request, self.taken.solver) else {
+            self.series = series;
+            return self.job.soak(self.taken.solver);
+        };
+        let soaked = steps::soak(&self.job, self.request, options, |field, time, substeps| {
+            series.push(time * self.request.tau, field, self.job.weights());
+            self.frame(field, time, substeps)
+        });
+        self.series = series;
+        soaked
+    }
+
     /// The field is written whatever it holds; that it is not finite has a status of its own.
     fn finish(mut self, soaked: &Soaked<Cost>) -> Result<(), Failure> {
         let field = &soaked.field;
@@ -66,6 +104,7 @@ impl Run<'_> {
         if let Some(plot) = &self.sinks.plot {
             plot.fill(|to| to.write_all(self.picture(field, &summary).main().as_bytes()))?;
         }
+        self.sinks.series.fill(&self.series, &self.title(), unit)?;
         self.report(Outcome::Soaked { cost: &soaked.cost, picture: self.picture(field, &summary) })?;
         tell(&cost_line(&soaked.cost));
         tell_terminal(&format!("soak: {}", summary.line(unit)));
@@ -103,7 +142,7 @@ impl Run<'_> {
     }
 
     fn frame(&self, field: &[f64], time: f64, substeps: usize) -> Result<(), Failure> {
-        let Some(frames) = &self.request.frames else { return Ok(()) };
+        let Some(frames) = self.request.frames.as_ref().filter(|frames| frames.is_due(substeps)) else { return Ok(()) };
         let picture = self.request.plot.as_ref().map(|_| {
             let summary = Summary::of(field, self.job.weights());
             let picture = self.picture(field, &summary);
@@ -113,15 +152,27 @@ impl Run<'_> {
     }
 
     fn picture<'a>(&'a self, field: &'a [f64], summary: &'a Summary) -> Picture<'a> {
-        let quantity = if self.request.files.transposed { "sensitivity" } else { "temperature" };
-        Picture { title: title(self.request), quantity, unit: unit(self.request), field, summary, geometry: self.geometry.as_ref() }
+        let (title, quantity) = (self.title(), quantity(self.request));
+        Picture { title, quantity, unit: unit(self.request), field, summary, geometry: self.geometry.as_ref() }
+    }
+
+    /// Folder and file of the matrix, what was asked, and by which solver: what tells two jobs apart.
+    fn title(&self) -> String {
+        let request = self.request;
+        if let Some(title) = &request.drawing.title {
+            return title.clone();
+        }
+        let transposed = if request.files.transposed { ", transposed" } else { "" };
+        let matrix = request.files.matrix.short_name();
+        format!("{matrix}{transposed}, tau {}, {}", shortest(request.tau), choice::name(self.taken.solver))
     }
 
     fn report(&self, outcome: Outcome) -> Result<(), Failure> {
-        let Run { request, seconds, .. } = self;
+        let Run { request, taken, series, seconds, .. } = self;
         let Matrix { n, entries, .. } = self.job.matrix();
         let (warnings, geometry) = (&self.warnings[..], self.geometry.as_ref());
-        let report = Report { request, rows: n, entries: entries.len(), seconds: *seconds, warnings, geometry, outcome };
+        let entries = entries.len();
+        let report = Report { request, taken, series, rows: n, entries, seconds: *seconds, warnings, geometry, outcome };
         for (kind, sink) in &self.sinks.reports {
             if let Some(text) = report.text(*kind) {
                 sink.fill(|to| to.write_all(text.as_bytes()))?;
@@ -156,6 +207,7 @@ struct Sinks {
     state: Option<Sink>,
     plot: Option<Sink>,
     reports: Vec<(Kind, Sink)>,
+    series: series::Sinks,
 }
 
 impl Sinks {
@@ -165,6 +217,7 @@ impl Sinks {
             state: request.state().as_deref().map(Sink::open).transpose()?,
             plot: request.plot.as_deref().map(Sink::open).transpose()?,
             reports: request.reports.iter().filter_map(|path| Some((Kind::of(path)?, path))).map(opened).collect::<Result<_, _>>()?,
+            series: request.series.open()?,
         })
     }
 }
@@ -184,11 +237,11 @@ fn unit(request: &Request) -> &str {
     request.drawing.unit.as_deref().unwrap_or(if request.files.transposed { "K/K" } else { "K" })
 }
 
-/// Folder and file of the matrix, what was asked, and by which solver: what tells two jobs apart.
-fn title(request: &Request) -> String {
-    if let Some(title) = &request.drawing.title {
-        return title.clone();
+/// What the field is.
+fn quantity(request: &Request) -> &'static str {
+    if request.files.transposed {
+        "sensitivity"
+    } else {
+        "temperature"
     }
-    let transposed = if request.files.transposed { ", transposed" } else { "" };
-    format!("{}{transposed}, tau {}, {}", request.files.matrix.short_name(), shortest(request.tau), solver_name(request))
 }

@@ -10,6 +10,7 @@ use crate::plot::{self, Picture};
 use crate::points;
 use crate::progress::Line;
 use crate::schedule::{self, Stage};
+use crate::series::{self, Series};
 use crate::sink::Sink;
 use crate::soak::not_finite;
 use crate::summary::Summary;
@@ -32,13 +33,18 @@ pub struct Request {
     pub drawing: Drawing,
     /// The folder that gets the field after each stage.
     pub every_stage: Option<PathBuf>,
+    pub series: series::Asked,
 }
 
 impl Request {
     pub fn guarded(&self) -> guard::Files<'_> {
         let drawn = self.drawing.points.iter().chain(&self.drawing.outline);
         let files = guard::Files::default().reads(self.files.sources()).reads([&self.start, &self.schedule]).reads(drawn);
-        files.writes("--output", [&self.output]).writes("--plot", &self.plot).writes("--every-stage", &self.every_stage)
+        files
+            .writes("--output", [&self.output])
+            .writes("--plot", &self.plot)
+            .writes("--every-stage", &self.every_stage)
+            .writes("--series", &self.series.files)
     }
 }
 
@@ -75,11 +81,13 @@ pub fn run(request: &Request) -> Result<(), Failure> {
     let output = Sink::open(&request.output)?;
     let plot = request.plot.as_deref().map(Sink::open).transpose()?;
     let folder = request.every_stage.as_deref().map(Folder::open).transpose()?;
+    request.series.check(n)?;
+    let series = request.series.open()?;
     let heating = Heating::of(&job.model.matrix());
     heating.iter().for_each(|heating| tell(&heating.warning(&request.files.matrix.to_string())));
     tell_terminal(&format!("soak: rows {n}, entries {}, stages {}", job.model.matrix().entries.len(), job.stages.len()));
     let begun = Instant::now();
-    let one_by_one = folder.is_some() || plot.is_some() || io::stderr().is_terminal();
+    let one_by_one = folder.is_some() || plot.is_some() || !request.series.files.is_empty() || io::stderr().is_terminal();
     // The library refuses a schedule of any other length before all stages.
     let counted = (1..=MAX_STAGES).contains(&job.stages.len());
     let soaked = if one_by_one && counted { job.one_by_one(folder.as_ref()) } else { job.in_one_call() };
@@ -88,8 +96,9 @@ pub fn run(request: &Request) -> Result<(), Failure> {
     let Soaked { between, field, report } = &soaked;
     output.fill(|to| vectors::write(to, field))?;
     let (summary, unit) = (Summary::of(field, job.model.mass()), drawing.unit.as_deref().unwrap_or("K"));
+    let title = drawing.title.clone().unwrap_or_else(|| job.title());
+    series.fill(&job.series(between), &title, unit)?;
     if let Some(plot) = &plot {
-        let title = drawing.title.clone().unwrap_or_else(|| job.title());
         let picture = Picture { title, quantity: "temperature", unit, field, summary: &summary, geometry: geometry.as_ref() };
         let names: Vec<String> = job.stages.iter().enumerate().map(|(i, stage)| stage.called(i)).collect();
         plot.fill(|to| to.write_all(drawn(&picture, &job.start.numbers, between, &names).as_bytes()))?;
@@ -241,6 +250,18 @@ impl Job<'_> {
             let found = at.vectors.iter().find_map(infinite).unwrap_or_else(|| "the field of the stage before it".into());
             Some(format!("{}, {found}", at.place))
         })
+    }
+
+    /// The start, and the field after each stage, at its time.
+    fn series(&self, between: &[Vec<f64>]) -> Series {
+        let mut series = Series::new(self.request.series.node, "stage", "temperature");
+        let mut time = 0.0;
+        series.push(time, &self.start.numbers, self.model.mass());
+        for (stage, field) in self.stages.iter().zip(between) {
+            time += stage.tau;
+            series.push(time, field, self.model.mass());
+        }
+        series
     }
 
     fn title(&self) -> String {

@@ -35,20 +35,21 @@ impl Stopped {
 }
 
 /// The options of a run by substeps; any other is one call. The bits are the same.
-pub fn options(request: &Request) -> Option<KrylovOptions> {
-    let wanted = io::stderr().is_terminal() || !request.tightenings.is_empty() || request.frames.is_some();
-    match request.solver {
+pub fn options(request: &Request, solver: Solver) -> Option<KrylovOptions> {
+    let asked = !request.tightenings.is_empty() || request.frames.is_some() || !request.series.files.is_empty();
+    let wanted = asked || io::stderr().is_terminal();
+    match solver {
         Solver::Krylov(options) if wanted => Some(options),
         _ => None,
     }
 }
 
-/// `frame` gets the field that is due, how far the run is, and how many substeps it took.
+/// `seen` gets the field at the start and after each substep, how far the run is, and how many substeps it took.
 pub fn soak(
     job: &Job,
     request: &Request,
     options: KrylovOptions,
-    frame: impl Fn(&[f64], f64, usize) -> Result<(), Failure>,
+    mut seen: impl FnMut(&[f64], f64, usize) -> Result<(), Failure>,
 ) -> Result<Soaked<Cost>, Failure> {
     let (count, w) = job.flat()?;
     let turned = job.turned()?;
@@ -57,6 +58,7 @@ pub fn soak(
     let mut progress = Progress::new();
     let interrupt = Listening::new();
     let mut run = Paused::start(&matrix, request.tau, count, &w, options).map_err(|error| job.failure(error))?;
+    seen(run.field(), run.time(), 0)?;
     while !run.ended() {
         if interrupt.heard() {
             let (time, report, field) = (run.time(), run.report(), run.field().to_vec());
@@ -68,10 +70,7 @@ pub fn soak(
         let stepped = run.step(&matrix, request.tau, count, &w);
         progress.tell(run.time(), &run.report(), run.ended());
         stepped.map_err(|error| job.failure(error))?;
-        let substeps = run.report().substeps;
-        if request.frames.as_ref().is_some_and(|frames| frames.is_due(substeps)) {
-            frame(run.field(), run.time(), substeps)?;
-        }
+        seen(run.field(), run.time(), run.report().substeps)?;
     }
     Ok(Soaked { cost: Cost::Krylov(run.report()), field: run.field().to_vec() })
 }

@@ -432,3 +432,69 @@ fn a_refused_barrel_leaves_its_state_and_the_others_their_fields() {
     let alone = run("rod.mtx --mass mass.txt --vector start.txt --vector heating.txt --tau 600 --solver krylov --m 3 --limit 2");
     assert_eq!(String::from_utf8(alone.stdout).unwrap(), state);
 }
+
+/// The cells of a table, without its first line.
+fn cells(table: &Path) -> Vec<Vec<f64>> {
+    let text = fs::read_to_string(table).unwrap();
+    text.lines().skip(1).map(|line| line.split(',').map(|cell| cell.parse().unwrap()).collect()).collect()
+}
+
+#[test]
+fn a_series_has_the_start_and_each_substep() {
+    let (field, table, curves, page) = (scratch("series.txt"), scratch("series.csv"), scratch("series.svg"), scratch("series.html"));
+    let job = "rod.mtx --mass mass.txt --tau 1800 --vector start.txt --vector heating.txt --solver krylov --m 5 --tol 1e-5";
+    let files = format!("--output {} --series {} --series {}", field.display(), table.display(), curves.display());
+    let told = run(&format!("{job} {files} --node 8 --report {}", page.display()));
+    assert!(told.status.success());
+    let told = String::from_utf8(told.stderr).unwrap();
+    let substeps: usize = told.strip_prefix("krylov: ").and_then(|rest| rest.split(' ').next()).unwrap().parse().unwrap();
+    assert!(fs::read_to_string(&table).unwrap().starts_with("time,hottest,hottest row,coldest,coldest row,mean,row 8\n0,"));
+    let moments = cells(&table);
+    assert_eq!(moments.len(), substeps + 1);
+    assert!(moments.windows(2).all(|pair| pair[0][0] < pair[1][0]));
+    let last = moments.last().unwrap();
+    let values: Vec<f64> = fs::read_to_string(&field).unwrap().lines().map(|line| line.parse().unwrap()).collect();
+    assert_eq!((last[0], last[6]), (1800.0, values[7]));
+    assert_eq!(last[1], values.iter().copied().fold(f64::MIN, f64::max));
+    assert_eq!(last[3], values.iter().copied().fold(f64::MAX, f64::min));
+    let drawn = fs::read_to_string(&curves).unwrap();
+    assert!(["hottest row", "mean", "coldest row", "row 8", "time, min"].iter().all(|text| drawn.contains(text)));
+    assert!(fs::read_to_string(&page).unwrap().contains("temperature over the time, after each substep"));
+}
+
+#[test]
+fn a_series_of_stages_has_the_start_and_each_stage() {
+    let (field, table, curves) = (scratch("staged.txt"), scratch("staged.csv"), scratch("staged.svg"));
+    let job = "stages rod.mtx --mass mass.txt --start start.txt --schedule stages.csv";
+    let files = format!("--output {} --series {} --series {}", field.display(), table.display(), curves.display());
+    assert!(run(&format!("{job} {files}")).status.success());
+    let moments = cells(&table);
+    let stages = fs::read_to_string(Path::new(FILES).join("stages.csv"))
+        .unwrap()
+        .lines()
+        .filter(|line| !line.is_empty() && !line.starts_with('#'))
+        .count()
+        - 1;
+    assert_eq!((moments.len(), moments[0][0]), (stages + 1, 0.0));
+    assert!(fs::read_to_string(&curves).unwrap().contains(&format!("{stages} stages: hottest")));
+    // A refused schedule writes none.
+    let refused = scratch("refused.csv");
+    let job = "stages rod.mtx --mass mass.txt --start start.txt --schedule stages-negative.csv";
+    assert_eq!(run(&format!("{job} --output {} --series {}", field.display(), refused.display())).status.code(), Some(14));
+    assert!(!refused.exists());
+}
+
+#[test]
+fn a_report_says_what_was_taken_and_why() {
+    let report = scratch("taken.json");
+    let stiff = "stiff-wide.mtx.gz --mass stiff-wide-mass.txt --vector stiff-wide-start.txt --vector stiff-wide-heating.txt --tau 7200";
+    assert!(run(&format!("{stiff} --m 30 --tol 1e-8 --output /dev/null --report {}", report.display())).status.success());
+    let text = fs::read_to_string(&report).unwrap();
+    assert!(text.contains(r#""chosen":["auto: krylov with m 30: taylor would make "#), "{text}");
+    assert!(text.contains(r#""auto: krylov with m 60: krylov with m 30 is refused by 28"]"#));
+    assert!(text.contains(r#""name":"krylov""#) && text.contains(r#""m":60"#));
+    assert!(run(&format!("rod.mtx --tau 1 --vector start.txt --solver taylor --output /dev/null --report {}", report.display()))
+        .status
+        .success());
+    assert!(fs::read_to_string(&report).unwrap().contains(r#""chosen":[]"#));
+}

@@ -17,7 +17,7 @@ use Rattle.generator_action.specs.Mass.{Mass, given}
 use Rattle.generator_action.specs.Generator.{Generator, forward}
 use Rattle.combination.specs.Call.{Call}
 use Rattle.admission.proofs.Stored.{forward-is}
-use Rattle.phi_action.specs.declared.TaylorAnswer.{TaylorAnswer}
+use Rattle.taylor_job.specs.declared.TaylorAnswer.{TaylorAnswer}
 use Rattle.ambient_record.specs.Record.{record-call}
 use Rattle.ambient_checks.specs.Inner.{log-of, field-of}
 use Rattle.ambient.specs.Ambient.{record-step, begun}

@@ -10,9 +10,9 @@ use Rattle.lists.proofs.Window.{window-window}
 use Rattle.phi_action_helpers.specs.Sweeps.{Swept}
 use Rattle.combination.specs.Checks.{taylor-need}
 use Rattle.admission.specs.Inner.{matrix-of}
-use Rattle.phi_action.specs.Calls.{soaked}
-use Rattle.phi_action.specs.Inner.{operator-by}
-use Rattle.phi_action.proofs.Jobs.{ready, lined, bounded, done}
+use Rattle.taylor_job.specs.Calls.{swept-fields}
+use Rattle.taylor_job.specs.Inner.{operator-by}
+use Rattle.taylor_job.proofs.Jobs.{ready, lined, bounded, done}
 use Rattle.ambient_record.proofs.OneRecord.{spliced-long, ended-wider}
 use Rattle.ambient_record.proofs.run_record.Statement.{statement}
 use Rattle.ambient_record.proofs.run_record.Tie as tie
@@ -50,7 +50,7 @@ finish-requires c κs =
     omega (arith, s .pre .1 .2, r .run-sweeps .ensures .1 .long, spliced-long _ _ _ (k .prepare .ensures .1))
 
 returns : tie.Need-returns
-unfolding soaked
+unfolding swept-fields
 returns c =
     let f = c .before .before in
     let y = c .before .before .before .before .before .before .before .before in
@@ -65,7 +65,7 @@ returns c =
     let made = y .copy-from .ensures ∙ ap (λ (vs : List Float). splice 0 vs (s .args .out .now)) field in
     let j = s .args .j in
     let q = matrix-of (j .g) (s .args .starts .now) (s .args .cols .now) (s .args .vals .now) (s .args .mass .now) in
-    ended-wider j q (soaked (operator-by j q (s .args .out .now)) (j .tau) (window 0 (j .g .n + j .d) (s .args .work .now))) (s .args .work .now) (r .run-sweeps .last .1 .1 .1 .1 .0)
+    ended-wider j q (swept-fields (operator-by j q (s .args .out .now)) (j .tau) (window 0 (j .g .n + j .d) (s .args .work .now))) (s .args .work .now) (r .run-sweeps .last .1 .1 .1 .1 .0)
     (done (s .pre .0) el (k .prepare .ensures .1) (s .args .out .now) (s .pre .1 .0) (s .args .out .now) (s .pre .1 .1) (k .prepare .ensures .0) (ap (λ (x : Swept). x .applied) (w .0)) made (w .1) (f .finish .ensures .0) refl)
     (f .finish .ensures .1)
 

@@ -17,12 +17,12 @@ apply-in-requires c κs =
 part-norm2-end : tie.Need-part-norm2-end
 part-norm2-end c =
     let a = c .before .before .before .before .before .before .before .before .before .before .before .before .args in
-    omega (arith, length-set (a .work .now) (a .k .h + ((a .k .m + 1) * (a .k .m + 2) + a .k .m)) 1f)
+    omega (arith, length-set (a .work .now) (a .k .h + (a .k .m * (a .k .m + 2) + (a .k .m + 1))) 1f)
 
 same-length : tie.Need-same-length
 same-length c =
     let a = c .before .before .before .before .before .before .before .before .before .before .before .before .before .before .args in
-    omega (arith, length-set (a .work .now) (a .k .h + ((a .k .m + 1) * (a .k .m + 2) + a .k .m)) 1f)
+    omega (arith, length-set (a .work .now) (a .k .h + (a .k .m * (a .k .m + 2) + (a .k .m + 1))) 1f)
 
 returns : tie.Need-returns
 returns c =

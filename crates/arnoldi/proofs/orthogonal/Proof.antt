@@ -30,9 +30,9 @@ col : (c : tie.In-loop Inv-loop μ-loop) → (let a = c .before .before .before 
 col c = let a = c .before .before .before .before .before .before .before .args in
     omega (arith, column-within (c .before .loop .i) (a .j) (a .len) (c .loop-test .taken))
 
-cell : (c : tie.In-loop Inv-loop μ-loop) → (let a = c .before .before .before .before .before .before .before .args in c .before .loop .i * a .dim + a .j < a .dim * a .dim)
+cell : (c : tie.In-loop Inv-loop μ-loop) → (let a = c .before .before .before .before .before .before .before .args in a .j * a .dim + c .before .loop .i < a .dim * a .dim)
 cell c = let a = c .before .before .before .before .before .before .before .args in
-    cell-within (c .before .loop .i) (a .dim) (a .dim) (a .j) (omega arith) (omega arith)
+    cell-within (a .j) (a .dim) (a .dim) (c .before .loop .i) (omega arith) (omega arith)
 
 last : (c : tie.After-loop Inv-loop μ-loop) → (let a = c .before .before .before .before .before .before .before .args in a .j * a .dim + a .j < a .dim * a .dim)
 last c = let a = c .before .before .before .before .before .before .before .args in cell-within (a .j) (a .dim) (a .dim) (a .j) (omega arith) (omega arith)
@@ -75,7 +75,7 @@ loop-again c =
     let pre = c .before .before .before .before .before .before .before .before .before .before .before .pre in
     let inv = c .before .before .before .before .before .loop .inv in
     let i = c .before .before .before .before .before .loop .i in
-    let t = set (c .before .before .before .before .before .loop .work) (a .h-at + (i * a .dim + a .j)) (c .before .before .before .before .before .loop .c) in
+    let t = set (c .before .before .before .before .before .loop .work) (a .h-at + (a .j * a .dim + i)) (c .before .before .before .before .before .loop .c) in
     let e = c .before .before .axpy-dot-in .ensures in
     (omega arith, c .before .before .axpy-dot-in .kept .0 ∙ simp length-set (inv .1), turn _ _ _ _ _ _ _ _ _ _ (pre .0) (pre .1 .0) (pre .1 .1 .0) (pre .1 .1 .1) (omega arith) (inv .2) (inv .3) (e .0), next-size (a .len) (a .z-at) (a .j) i t _ _ _ (pre .0) (simp length-set (omega (arith, inv .1))) (c .before .before .before .before .loop-test .taken) (e .0) (e .1))
 

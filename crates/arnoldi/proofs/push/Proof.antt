@@ -9,9 +9,9 @@ use Rattle.arnoldi.proofs.push.Statement.{statement}
 use Rattle.arnoldi.proofs.push.Tie as tie
 
 -- the place within h
-cell : (c : tie.After-slice-known) → (let a = c .before .args in (a .j + 1) * a .dim + a .j < a .dim * a .dim)
+cell : (c : tie.After-slice-known) → (let a = c .before .args in a .j * a .dim + (a .j + 1) < a .dim * a .dim)
 cell c = let a = c .before .args in
-    cell-within (a .j + 1) (a .dim) (a .dim) (a .j) (omega arith) (omega arith)
+    cell-within (a .j) (a .dim) (a .dim) (a .j + 1) (omega arith) (omega arith)
 
 scaled-in-requires : tie.Need-scaled-in-requires
 scaled-in-requires c κs = (simp length-set (omega arith), (simp length-set (omega arith), omega arith))
@@ -19,14 +19,14 @@ scaled-in-requires c κs = (simp length-set (omega arith), (simp length-set (ome
 same-length : tie.Need-same-length
 same-length c =
     let a = c .before .before .before .before .before .args in
-    omega (arith, length-set (a .work .now) (a .h-at + ((a .j + 1) * a .dim + a .j)) (a .hn))
+    omega (arith, length-set (a .work .now) (a .h-at + (a .j * a .dim + (a .j + 1))) (a .hn))
 
 returns : tie.Need-returns
 returns c =
     let s = c .before .before .before .before .before in
     let a = s .args in
     let f = cell (c .before .before .before .before) in
-    rw (c .before .before .scaled-in .ensures, untouched (wrote-set (a .work .now) (a .h-at + ((a .j + 1) * a .dim + a .j)) (a .hn)) (a .z-at) (a .len) (omega arith))
+    rw (c .before .before .scaled-in .ensures, untouched (wrote-set (a .work .now) (a .h-at + (a .j * a .dim + (a .j + 1))) (a .hn)) (a .z-at) (a .len) (omega arith))
 
 pub push-spec : {M : Type 1} → statement M
 push-spec =

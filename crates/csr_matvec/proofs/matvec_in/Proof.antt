@@ -1,6 +1,6 @@
 -- `csr_matvec::matvec_in` meets its contract. Assumes nothing.
 use native.Mathlib.Omega.{arith}
-use mathlib.Core.Path.{_∙_}
+use mathlib.Core.Path.{_≡_, refl, _∙_}
 use Prim.Native.Nat.{_+_, _-_, _≤_}
 use lib.ListN.{length, getD}
 use Rattle.lists.specs.Window.{window}
@@ -12,35 +12,37 @@ use Rattle.csr_matvec.proofs.matvec_in.Statement.{statement}
 use Rattle.csr_matvec.proofs.matvec_in.Tie as tie
 
 abbrev Inv-loop : tie.InvT-loop
-Inv-loop starts cols vals work₀ src-at dst-at n src-end i₀ work i = (i ≤ n) × Filled dst-at i (λ k. row-product cols vals (window src-at n work₀) (getD starts k 0) (getD starts (k + 1) 0)) work₀ work
+Inv-loop starts cols vals work₀ src-at dst-at n src-end from₀ i₀ work from i = (i ≤ n) × Filled dst-at i (λ k. row-product cols vals (window src-at n work₀) (getD starts k 0) (getD starts (k + 1) 0)) work₀ work × (from ≡ getD starts i 0)
 
 abbrev μ-loop : tie.MeasureT-loop
-μ-loop starts cols vals work₀ src-at dst-at n src-end i₀ work i = n - i
+μ-loop starts cols vals work₀ src-at dst-at n src-end from₀ i₀ work from i = n - i
 
 loop-holds : tie.Need-loop-holds Inv-loop μ-loop
-loop-holds c = (omega arith, started _ _ _)
+loop-holds c = (omega arith, started _ _ _, refl)
 
 cast-from : tie.Need-cast-from Inv-loop μ-loop
-cast-from c = omega (arith, c .shared-slice-known4 .given (c .before .before .loop .i))
+cast-from c = omega (arith, c .shared-slice-known4 .given 0)
 
 cast-to : tie.Need-cast-to Inv-loop μ-loop
-cast-to c = omega (arith, c .shared-slice-known5 .given (c .before .before .before .loop .i + 1))
+cast-to c = omega (arith, c .shared-slice-known5 .given (c .before .before .loop .i + 1))
 
 row-product-requires : tie.Need-row-product-requires Inv-loop μ-loop
-row-product-requires c κs = let s = c .before .before .before .before .before in
-    let start = s .before .before .before .before .before in
+row-product-requires c κs =
+    let s = c .before .before .before .before in
+    let start = s .before .before .before .before .before .before in
     let i = s .loop .i in
     let v = start .pre .0 in
     let top : _ = start-le v (i + 1) (omega arith) in
     let fits : start .args .src-at + start .args .n ≤ length (s .loop .work) = omega arith in
-    ((v .rising i (omega arith), (omega (arith, v .paired), top)), (λ k h. rw (part-window, length-window) (v .below k h)))
+    ((rw (s .loop .inv .2) (v .rising i (omega arith)), (omega (arith, v .paired), top)), (λ k h. rw (part-window, length-window) (v .below k h)))
 
 loop-again : tie.Need-loop-again Inv-loop μ-loop
-loop-again c = let s = c .before .before .before .before .before .before in
-    let start = s .before .before .before .before .before in
+loop-again c =
+    let s = c .before .before .before .before .before in
+    let start = s .before .before .before .before .before .before in
     let inv = s .loop .inv in
     let same = window-apart (inv .1) (start .args .src-at) (start .args .n) (start .pre .1 .1 .1) (inv .0) in
-    (omega arith, turned (inv .1) (c .row-product .ensures ∙ rw (part-window, same)))
+    (omega arith, turned (inv .1) (c .row-product .ensures ∙ rw (inv .2, part-window, same)), refl)
 
 returns : tie.Need-returns Inv-loop μ-loop
 unfolding apply-generator
@@ -53,10 +55,9 @@ matvec-in-spec =
     Inv-loop
     μ-loop
     (λ c. omega arith)
-    loop-holds
-    (λ c. omega arith)
     (λ c. omega arith)
     cast-from
+    loop-holds
     (λ c. omega arith)
     (λ c. omega arith)
     (λ c. omega arith)

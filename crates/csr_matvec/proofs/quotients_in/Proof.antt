@@ -1,6 +1,6 @@
 -- `csr_matvec::quotients_in` meets its contract. Assumes nothing.
 use native.Mathlib.Omega.{arith}
-use mathlib.Core.Path.{_≡_, _∙_}
+use mathlib.Core.Path.{_≡_, refl, _∙_}
 use Prim.Native.Nat.{_+_, _-_, _≤_}
 use lib.ListN.{length, getD}
 use Rattle.lists.specs.Window.{window}
@@ -12,21 +12,21 @@ use Rattle.csr_matvec.proofs.quotients_in.Statement.{statement}
 use Rattle.csr_matvec.proofs.quotients_in.Tie as tie
 
 abbrev Inv-loop : tie.InvT-loop
-Inv-loop starts cols work₀ q-at count src-at dst-at n q-end src-end i₀ work i = (i ≤ n) × Filled dst-at i (λ k. row-product cols (window q-at count work₀) (window src-at n work₀) (getD starts k 0) (getD starts (k + 1) 0)) work₀ work
+Inv-loop starts cols work₀ q-at count src-at dst-at n q-end src-end from₀ i₀ work from i = (i ≤ n) × Filled dst-at i (λ k. row-product cols (window q-at count work₀) (window src-at n work₀) (getD starts k 0) (getD starts (k + 1) 0)) work₀ work × (from ≡ getD starts i 0)
 
 abbrev μ-loop : tie.MeasureT-loop
-μ-loop starts cols work₀ q-at count src-at dst-at n q-end src-end i₀ work i = n - i
+μ-loop starts cols work₀ q-at count src-at dst-at n q-end src-end from₀ i₀ work from i = n - i
 
 cast-from : tie.Need-cast-from Inv-loop μ-loop
-cast-from c = omega (arith, c .shared-slice-known3 .given (c .before .before .loop .i))
+cast-from c = omega (arith, c .shared-slice-known3 .given 0)
 
 cast-to : tie.Need-cast-to Inv-loop μ-loop
-cast-to c = omega (arith, c .shared-slice-known4 .given (c .before .before .before .loop .i + 1))
+cast-to c = omega (arith, c .shared-slice-known4 .given (c .before .before .loop .i + 1))
 
 row-product-requires : tie.Need-row-product-requires Inv-loop μ-loop
 row-product-requires c κs =
-    let s = c .before .before .before .before .before .before in
-    let start = s .before .before .before .before in
+    let s = c .before .before .before .before .before in
+    let start = s .before .before .before .before .before in
     let a = start .args in
     let i = s .loop .i in
     let v = start .pre .0 in
@@ -34,17 +34,17 @@ row-product-requires c κs =
     let there : a .src-at + a .n ≤ length (s .loop .work) = omega arith in
     let size : length (window (a .q-at) (a .count) (a .work .now)) ≡ a .count = length-window _ _ _ (omega arith) in
     let top : getD (a .starts .now) (i + 1) 0 ≤ length (window (a .q-at) (a .count) (a .work .now)) = start-le v (i + 1) (omega arith) in
-    ((v .rising i (omega arith), (omega (arith, v .paired), rw (part-window, length-window) (omega arith))), (λ k h. rw (part-window, length-window) (v .below k h)))
+    ((rw (s .loop .inv .2) (v .rising i (omega arith)), (omega (arith, v .paired), rw (part-window, length-window) (omega arith))), (λ k h. rw (part-window, length-window) (v .below k h)))
 
 loop-again : tie.Need-loop-again Inv-loop μ-loop
 loop-again c =
-    let s = c .before .before .before .before .before .before .before in
-    let start = s .before .before .before .before in
+    let s = c .before .before .before .before .before .before in
+    let start = s .before .before .before .before .before in
     let a = start .args in
     let inv = s .loop .inv in
     let same = window-apart (inv .1) (a .src-at) (a .n) (start .pre .1 .1 .1) (inv .0) in
     let same-q = window-disjoint (inv .1) (a .n) (a .q-at) (a .count) (start .pre .1 .1 .0) (inv .0) in
-    (omega arith, turned (inv .1) (c .row-product .ensures ∙ rw (part-window (a .q-at), part-window (a .src-at), same, same-q)))
+    (omega arith, turned (inv .1) (c .row-product .ensures ∙ rw (inv .2, part-window (a .q-at), part-window (a .src-at), same, same-q)), refl)
 
 returns : tie.Need-returns Inv-loop μ-loop
 unfolding apply-generator
@@ -58,10 +58,9 @@ quotients-in-spec =
     μ-loop
     (λ c. omega arith)
     (λ c. omega arith)
-    (λ c. (omega arith, started _ _ _))
-    (λ c. omega arith)
     (λ c. omega arith)
     cast-from
+    (λ c. (omega arith, started _ _ _, refl))
     (λ c. omega arith)
     (λ c. omega arith)
     (λ c. omega arith)

@@ -6,7 +6,7 @@ use Rattle.exports.proofs.hazhendu_check_generator.Statement.{statement
 use Rattle.exports.proofs.hazhendu_check_generator.Tie as tie
 
 returns : tie.Need-returns
-returns c = c .tell-matrix .ensures ∙ ap matrix-numbers (c .before .before .before .check-generator .ensures)
+returns c = c .matrix-numbers .ensures ∙ ap matrix-numbers (c .before .before .before .check-generator .ensures)
 
 pub hazhendu-check-generator-spec : {M : Type 1} → statement M
 hazhendu-check-generator-spec =

@@ -4,8 +4,8 @@ use mathlib.Core.List.{List}
 use mathlib.Core.Path.{_≡_, ap, _∙_}
 use Prim.Native.Nat.{ℕ}
 use lib.Ieee.{Float}
-use Rattle.join.specs.Join.{Call, ends}
-use Rattle.join.specs.declared.JoinAnswer.{JoinAnswer}
+use Rattle.join_checks.specs.Join.{Call, ends}
+use Rattle.join_checks.specs.declared.JoinAnswer.{JoinAnswer}
 use Rattle.answers.specs.Told.{Numbers, join-numbers, join-told, telling-join}
 use Rattle.exports.proofs.hazhendu_join.Statement.{statement}
 use Rattle.exports.proofs.hazhendu_join.Tie as tie
@@ -15,7 +15,7 @@ told-of : {t : Numbers} {r : JoinAnswer} {starts columns : List ℕ} {values : L
 told-of {starts = starts} {columns} {values} c e d = ap (λ (t : Numbers). join-told t starts columns values) e ∙ ap telling-join d
 
 returns : tie.Need-returns
-returns c = told-of _ (c .tell-join .ensures) (c .before .before .before .before .before .before .before .before .before .join .ensures)
+returns c = told-of _ (c .join-numbers .ensures) (c .before .before .before .before .before .before .before .before .before .join .ensures)
 
 pub hazhendu-join-spec : {M : Type 1} → statement M
 hazhendu-join-spec =

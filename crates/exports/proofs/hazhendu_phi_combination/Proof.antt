@@ -1,12 +1,12 @@
 -- `exports::hazhendu_phi_combination` meets its contract. Assumes nothing.
 use borrow.Author.Needs.{needs}
-use Rattle.phi_krylov.proofs.Dispatch.{answered}
+use Rattle.phi_solver.proofs.Dispatch.{answered}
 use Rattle.answers.specs.Told.{taylor-numbers}
 use Rattle.exports.proofs.hazhendu_phi_combination.Statement.{statement}
 use Rattle.exports.proofs.hazhendu_phi_combination.Tie as tie
 
 returns : tie.Need-returns
-returns c = answered taylor-numbers _ (c .tell-taylor .ensures) (c .before .before .before .before .before .before .before .before .before .phi-combination .ensures)
+returns c = answered taylor-numbers _ (c .taylor-numbers .ensures) (c .before .before .before .before .before .before .before .before .before .phi-combination .ensures)
 
 pub hazhendu-phi-combination-spec : {M : Type 1} → statement M
 hazhendu-phi-combination-spec =

@@ -14,7 +14,7 @@ answer-requires c κs = c .before .before .before .large .ensures .1 (c .before 
 
 returns-2 : tie.Need-returns-2
 unfolding told called
-returns-2 c = not-large _ _ (sym (c .before .before .before .before .before .before .before .before .before .before .before .before .before .large .ensures .0) ∙ c .before .before .before .before .before .before .before .before .before .before .before .before .if1 .left) (telling (c .tell-taylor .ensures) (c .before .before .before .before .before .before .before .before .before .answer .ensures))
+returns-2 c = not-large _ _ (sym (c .before .before .before .before .before .before .before .before .before .before .before .before .before .large .ensures .0) ∙ c .before .before .before .before .before .before .before .before .before .before .before .before .if1 .left) (telling (c .taylor-numbers .ensures) (c .before .before .before .before .before .before .before .before .before .answer .ensures))
 
 pub hazhendu-phi-action-bytes-spec : {M : Type 1} → statement M
 hazhendu-phi-action-bytes-spec =

@@ -1,6 +1,6 @@
 -- `exports_bytes::solve` meets its contract. Assumes nothing.
 use borrow.Author.Needs.{needs}
-use Rattle.phi_krylov.proofs.Dispatch.{answered}
+use Rattle.phi_solver.proofs.Dispatch.{answered}
 use Rattle.answers.specs.Told.{taylor-numbers, krylov-numbers}
 use Rattle.byte_calls.specs.Inner.{told, called}
 use Rattle.exports_bytes.proofs.solve.Statement.{statement}

@@ -13,7 +13,7 @@ returns : tie.Need-returns
 returns c =
     let a = c .before .before .before .before .before .before .before .before .before .before .before .before .before .before .before .before .before .before .before .before .before .before .before .before .before .before .before .before .before .before .before .before .args in
     let s = c .before .before .before .before .before .before .before .before .before .before .before .before .before .before in
-    start-is _ _ (a .out .now) (a .work .now) (a .field .now) (a .numbers .now) (a .counts .now) (c .before .before .before .before .before .before .before .before .before .before .before .before .before .before .before .before .before .before .field-end .ensures) (s .start .kept .1 .1 .1 .1 .1 .1 .1 .1 .1 .1 .1 .1 .0) (some-rows _ _ _ _ _ _ _ _) (rw (c .before .before .before .before .before .before .before .before .before .before .before .before .before .before .before .before .before .before .before .before .before .options .ensures) at (s .start .ensures)) (lent-back _ _ (a .field .now) (end-within (a .numbers .now) (a .counts .now) (length (a .field .now)) (c .before .before .before .before .before .before .before .before .before .before .before .before .before .before .before .before .before .before .field-end .ensures)) (s .start .kept .1 .1 .1 .1 .1 .1 .1 .1 .1 .1 .1 .1 .0)) (c .before .before .before .before .tell-start .ensures)
+    start-is _ _ (a .out .now) (a .work .now) (a .field .now) (a .numbers .now) (a .counts .now) (c .before .before .before .before .before .before .before .before .before .before .before .before .before .before .before .before .before .before .field-end .ensures) (s .start .kept .1 .1 .1 .1 .1 .1 .1 .1 .1 .1 .1 .1 .0) (some-rows _ _ _ _ _ _ _ _) (rw (c .before .before .before .before .before .before .before .before .before .before .before .before .before .before .before .before .before .before .before .before .before .options .ensures) at (s .start .ensures)) (lent-back _ _ (a .field .now) (end-within (a .numbers .now) (a .counts .now) (length (a .field .now)) (c .before .before .before .before .before .before .before .before .before .before .before .before .before .before .before .before .before .before .field-end .ensures)) (s .start .kept .1 .1 .1 .1 .1 .1 .1 .1 .1 .1 .1 .1 .0)) (c .before .before .before .before .start-state .ensures)
 
 pub hazhendu-krylov-start-spec : {M : Type 1} → statement M
 hazhendu-krylov-start-spec =

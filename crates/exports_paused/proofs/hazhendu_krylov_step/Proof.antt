@@ -7,7 +7,7 @@ use Rattle.exports_paused.proofs.hazhendu_krylov_step.Tie as tie
 returns : tie.Need-returns
 returns c =
     let a = c .before .before .before .before .before .before .before .before .before .before .before .before .before .before .before .before .before .before .before .before .before .before .before .before .before .before .before .before .before .before .before .before .args in
-    told-step _ (a .field .now) (a .numbers .now) (a .counts .now) (c .before .before .before .before .before .before .before .before .before .before .before .before .before .before .before .before .before .before .before .read-run .ensures) (c .before .before .before .before .before .before .before .before .before .before .before .before .before .before .before .before .before .before .tolerance .ensures) (c .before .before .before .before .before .before .before .before .before .before .before .before .before .before .step .ensures) (c .before .before .before .before .tell-step .ensures)
+    told-step _ (a .field .now) (a .numbers .now) (a .counts .now) (c .before .before .before .before .before .before .before .before .before .before .before .before .before .before .before .before .before .before .before .read-run .ensures) (c .before .before .before .before .before .before .before .before .before .before .before .before .before .before .before .before .before .before .tolerance .ensures) (c .before .before .before .before .before .before .before .before .before .before .before .before .before .before .step .ensures) (c .before .before .before .before .step-state .ensures)
 
 pub hazhendu-krylov-step-spec : {M : Type 1} → statement M
 hazhendu-krylov-step-spec =

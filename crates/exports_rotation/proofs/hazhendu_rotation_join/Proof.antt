@@ -18,7 +18,7 @@ returns c =
     let end = c .before .before .before .before .before .before .before .before .before .before .before .before .before .before .before .before .before .before .before .before .before .before .before .before .before .before .field-end .ensures in
     let kept = s .join .kept .1 .1 .1 .1 .1 .1 .1 .1 .1 .1 .1 .1 .1 .0 in
     let k = c .before .before .before .before .before .before .before .before .before .before .before .before .keep-unit .ensures in
-    join-is (a .units .now) (a .queues .now) _ _ (a .out .now) (a .work .now) (a .field .now) (a .numbers .now) (a .counts .now) (c .before .before .before .before .before .before .before .before .before .before .before .before .before .before .before .before .before .before .before .before .before .before .before .before .before .before .before .before .before .read-unit .ensures) end kept (some-rows _ _ _ _ _ _ _ _) (rw (c .before .before .before .before .before .before .before .before .before .before .before .before .before .before .before .before .before .before .before .before .before .before .before .before .before .before .before .before .before .before .before .before .options .ensures) at (s .join .ensures)) (lent-back _ _ (a .field .now) (end-within (a .numbers .now) (a .counts .now) (length (a .field .now)) end) kept) refl (k .0) (k .1) (c .before .before .before .before .tell-start .ensures)
+    join-is (a .units .now) (a .queues .now) _ _ (a .out .now) (a .work .now) (a .field .now) (a .numbers .now) (a .counts .now) (c .before .before .before .before .before .before .before .before .before .before .before .before .before .before .before .before .before .before .before .before .before .before .before .before .before .before .before .before .before .read-unit .ensures) end kept (some-rows _ _ _ _ _ _ _ _) (rw (c .before .before .before .before .before .before .before .before .before .before .before .before .before .before .before .before .before .before .before .before .before .before .before .before .before .before .before .before .before .before .before .before .options .ensures) at (s .join .ensures)) (lent-back _ _ (a .field .now) (end-within (a .numbers .now) (a .counts .now) (length (a .field .now)) end) kept) refl (k .0) (k .1) (c .before .before .before .before .start-state .ensures)
 
 pub hazhendu-rotation-join-spec : {M : Type 1} → statement M
 hazhendu-rotation-join-spec =

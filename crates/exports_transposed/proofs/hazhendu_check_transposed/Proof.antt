@@ -8,7 +8,7 @@ use Rattle.exports_transposed.proofs.hazhendu_check_transposed.Tie as t
 
 returns : tie.Need-returns
 returns c = let checked = c .before .before .before .before .before .before .before .before .before in
-    matrix-told-of (c .tell-matrix .ensures ∙ ap matrix-numbers (checked .check-transposed .ensures .0)) (checked .check-transposed .ensures .1)
+    matrix-told-of (c .matrix-numbers .ensures ∙ ap matrix-numbers (checked .check-transposed .ensures .0)) (checked .check-transposed .ensures .1)
 
 pub hazhendu-check-transposed-spec : {M : Type 1} → statement M
 hazhendu-check-transposed-spec =

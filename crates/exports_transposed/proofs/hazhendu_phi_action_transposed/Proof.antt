@@ -6,7 +6,7 @@ use Rattle.exports_transposed.proofs.hazhendu_phi_action_transposed.Sta
 use Rattle.exports_transposed.proofs.hazhendu_phi_action_transposed.Tie as tie
 
 returns : tie.Need-returns
-returns c = told-of taylor-numbers _ (c .tell-taylor .ensures) (c .before .before .before .before .before .before .before .before .before .before .before .before .before .before .before .phi-action-transposed .ensures)
+returns c = told-of taylor-numbers _ (c .taylor-numbers .ensures) (c .before .before .before .before .before .before .before .before .before .before .before .before .before .before .before .phi-action-transposed .ensures)
 
 pub hazhendu-phi-action-transposed-spec : {M : Type 1} → statement M
 hazhendu-phi-action-transposed-spec =

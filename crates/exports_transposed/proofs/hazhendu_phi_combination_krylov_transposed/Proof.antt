@@ -6,7 +6,7 @@ use Rattle.exports_transposed.proofs.hazhendu_phi_combination_krylov_tr
 use Rattle.exports_transposed.proofs.hazhendu_phi_combination_krylov_transposed.Tie as tie
 
 returns : tie.Need-returns
-returns c = told-of krylov-numbers _ (c .tell-krylov .ensures) (rw (c .before .before .before .before .before .before .before .before .before .before .before .before .before .before .before .before .before .before .before .before .before .before .before .options .ensures) at (c .before .before .before .before .before .before .before .before .before .before .before .before .before .before .before .before .before .phi-combination-krylov-transposed .ensures))
+returns c = told-of krylov-numbers _ (c .krylov-numbers .ensures) (rw (c .before .before .before .before .before .before .before .before .before .before .before .before .before .before .before .before .before .before .before .before .before .before .before .options .ensures) at (c .before .before .before .before .before .before .before .before .before .before .before .before .before .before .before .before .before .phi-combination-krylov-transposed .ensures))
 
 pub hazhendu-phi-combination-krylov-transposed-spec : {M : Type 1} → statement M
 hazhendu-phi-combination-krylov-transposed-spec =

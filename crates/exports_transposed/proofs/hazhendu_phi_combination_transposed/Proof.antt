@@ -6,7 +6,7 @@ use Rattle.exports_transposed.proofs.hazhendu_phi_combination_transpose
 use Rattle.exports_transposed.proofs.hazhendu_phi_combination_transposed.Tie as tie
 
 returns : tie.Need-returns
-returns c = told-of taylor-numbers _ (c .tell-taylor .ensures) (c .before .before .before .before .before .before .before .before .before .before .before .before .before .before .before .phi-combination-transposed .ensures)
+returns c = told-of taylor-numbers _ (c .taylor-numbers .ensures) (c .before .before .before .before .before .before .before .before .before .before .before .before .before .before .before .phi-combination-transposed .ensures)
 
 pub hazhendu-phi-combination-transposed-spec : {M : Type 1} → statement M
 hazhendu-phi-combination-transposed-spec =

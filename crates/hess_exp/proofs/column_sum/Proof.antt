@@ -6,11 +6,12 @@ use Rattle.lists.proofs.Bounds.{cell-within}
 use Rattle.doubles.specs.F64.{abs, at}
 use Rattle.doubles.specs.Sum.{sum}
 use Rattle.doubles.proofs.Sum.{sum-none, sum-turn}
+use Rattle.hess_product.specs.HessProduct.{place}
 use Rattle.hess_exp.proofs.column_sum.Statement.{statement}
 use Rattle.hess_exp.proofs.column_sum.Tie as tie
 
 abbrev Inv-loop : tie.InvT-loop
-Inv-loop h dim mx c s₀ r₀ s r = (r ≤ mx) × (s ≡ sum r (λ k. abs (at h (k * dim + c))))
+Inv-loop h dim mx c s₀ r₀ s r = (r ≤ mx) × (s ≡ sum r (λ k. abs (at h (place dim k c))))
 
 abbrev μ-loop : tie.MeasureT-loop
 μ-loop h dim mx c s₀ r₀ s r = mx - r
@@ -19,9 +20,9 @@ loop-holds : tie.Need-loop-holds Inv-loop μ-loop
 loop-holds c = (omega arith, sym (sum-none _))
 
 -- the place lies within the leading rows
-inside : (c : tie.In-loop Inv-loop μ-loop) → (let a = c .before .before .before .args in c .before .loop .r * a .dim + a .c < a .mx * a .dim)
+inside : (c : tie.In-loop Inv-loop μ-loop) → (let a = c .before .before .before .args in a .c * a .dim + c .before .loop .r < a .mx * a .dim)
 inside c = let s = c .before .before .before in
-    cell-within _ _ _ _ (c .loop-test .taken) (s .pre .1)
+    cell-within _ _ _ _ (s .pre .1) (omega (arith, s .pre .0 .across))
 
 mul-abs : tie.Need-mul-abs Inv-loop μ-loop
 mul-abs c = omega (arith, inside c)

@@ -1,17 +1,7 @@
 -- `hess_product::four_starts` meets its contract. Assumes nothing.
 use native.Mathlib.Omega.{arith}
-use Rattle.hess_product.proofs.Rows.{row-on}
 use Rattle.hess_product.proofs.four_starts.Statement.{statement}
 use Rattle.hess_product.proofs.four_starts.Tie as tie
-
-row-part-requires-2 : tie.Need-row-part-requires-2
-row-part-requires-2 c κs = let a = c .before .before .before .before .args in (omega arith, omega arith, omega (arith, row-on (a .r) 1 (a .dim)))
-
-row-part-requires-3 : tie.Need-row-part-requires-3
-row-part-requires-3 c κs = let a = c .before .before .before .before .before .before .args in (omega arith, omega arith, omega (arith, row-on (a .r) 2 (a .dim)))
-
-row-part-requires-4 : tie.Need-row-part-requires-4
-row-part-requires-4 c κs = let a = c .before .before .before .before .before .before .before .before .args in (omega arith, omega arith, omega (arith, row-on (a .r) 3 (a .dim)))
 
 returns : tie.Need-returns
 returns c =
@@ -26,19 +16,19 @@ four-starts-spec =
     tie.close
     (tie.spec
     (λ c. omega arith)
-    (λ c κs. (omega arith, omega arith, omega arith))
+    (λ c κs. (c .before .before .pre .0, (omega arith, omega arith, omega arith)))
     (λ c. omega arith)
     (λ c. omega arith)
     (λ c. omega arith)
-    row-part-requires-2
-    (λ c. omega arith)
-    (λ c. omega arith)
-    (λ c. omega arith)
-    (λ c. omega arith)
-    row-part-requires-3
+    (λ c κs. (c .before .before .before .before .pre .0, (omega arith, omega arith, omega arith)))
     (λ c. omega arith)
     (λ c. omega arith)
     (λ c. omega arith)
     (λ c. omega arith)
-    row-part-requires-4
+    (λ c κs. (c .before .before .before .before .before .before .pre .0, (omega arith, omega arith, omega arith)))
+    (λ c. omega arith)
+    (λ c. omega arith)
+    (λ c. omega arith)
+    (λ c. omega arith)
+    (λ c κs. (c .before .before .before .before .before .before .before .before .pre .0, (omega arith, omega arith, omega arith)))
     returns)

@@ -1,8 +1,6 @@
 -- `hess_product::hess_product_in` meets its contract. Assumes nothing.
 use native.Mathlib.Omega.{arith}
 use Prim.Native.Nat.{_-_}
-use lib.ListN.{length-set}
-use Rattle.lists.proofs.Bounds.{column-within}
 use Rattle.hess_product.proofs.InPlace.{Placed, placed-start, row-turn, rows-turn, placed-end}
 use Rattle.hess_product.proofs.hess_product_in.Statement.{statement}
 use Rattle.hess_product.proofs.hess_product_in.Tie as tie
@@ -17,21 +15,30 @@ loop-holds : tie.Need-loop-holds Inv-loop μ-loop
 loop-holds c = placed-start _ _ _ _ _ _
 
 row-part-requires : tie.Need-row-part-requires Inv-loop μ-loop
-row-part-requires c κs =
-    let s = c .before .before .before .before .before .before in
-    let l = c .before .before .before .loop in
-    (l .inv .within, omega (arith, l .inv .filled .long, s .pre .1), omega (arith, column-within (l .r) (s .args .mx) (s .args .dim) (omega arith), s .pre .0 .across, s .pre .0 .down))
+row-part-requires c κs = let s = c .before .before .before .before .before .before in
+    (s .pre .0, (c .before .before .before .loop .inv .within, omega (arith, s .pre .0 .across), omega (arith, c .before .before .before .loop .inv .filled .long, s .pre .1)))
 
-four-rows-requires : tie.Need-four-rows-requires Inv-loop μ-loop
-four-rows-requires c κs = let s = c .before .before .before .before .before .before in
-    let l = c .before .before .before .loop in
-    (s .pre .0, (omega (arith, l .inv .within), omega (arith, l .inv .filled .long, s .pre .1)))
+eight-rows-requires : tie.Need-eight-rows-requires Inv-loop μ-loop
+eight-rows-requires c κs = let s = c .before .before .before .before .before .before in
+    (s .pre .0, (omega (arith, c .before .before .before .loop .inv .within), omega (arith, c .before .before .before .loop .inv .filled .long, s .pre .1)))
+
+put-four-requires : tie.Need-put-four-requires Inv-loop μ-loop
+put-four-requires c κs = let l = c .before .before .before .before .before .before .before .before .loop in
+    omega (arith, l .inv .within, l .inv .filled .long, c .before .before .before .before .before .before .before .before .before .before .before .pre .1)
+
+put-four-requires-2 : tie.Need-put-four-requires-2 Inv-loop μ-loop
+put-four-requires-2 c κs = let l = c .before .before .before .before .before .before .before .before .before .before .before .before .loop in
+    omega (arith, l .inv .within, l .inv .filled .long, c .before .before .before .put-four .kept .0, c .before .before .before .before .before .before .before .before .before .before .before .before .before .before .before .pre .1)
 
 loop-again : tie.Need-loop-again Inv-loop μ-loop
 loop-again c = row-turn _ _ _ _ _ (c .before .before .before .before .before .loop .inv) (omega arith) (c .before .row-part .ensures)
 
 loop-again-2 : tie.Need-loop-again-2 Inv-loop μ-loop
-loop-again-2 c = rows-turn _ _ _ _ _ (c .before .before .before .before .before .before .before .before .before .loop .inv) (omega arith) (c .before .before .before .before .before .four-rows .ensures)
+loop-again-2 c =
+    let s = c .before .before .before .before .before .before in
+    let e = s .before .before .before .before .before .eight-rows .ensures in
+    let l = s .before .before .before .before .before .before .before .before .before .loop in
+    rw (c .before .before .put-four2 .ensures, s .put-four .ensures) (rows-turn _ _ _ _ _ (l .inv) (omega arith) (e .0) (e .1))
 
 same-length : tie.Need-same-length Inv-loop μ-loop
 same-length c = c .before .loop .inv .filled .long
@@ -55,22 +62,14 @@ hess-product-in-spec =
     (λ c. omega (arith, c .before .before .before .before .before .loop .inv .within, c .before .before .before .before .before .loop .inv .filled .long, c .before .before .before .before .before .before .before .before .pre .1))
     (λ c. omega arith)
     loop-again
-    four-rows-requires
-    (λ c. omega (arith, c .before .before .before .before .loop .inv .within, c .before .before .before .before .loop .inv .filled .long, c .before .before .before .before .before .before .before .pre .1))
-    (λ c. omega (arith, c .before .before .before .before .loop .inv .within, c .before .before .before .before .loop .inv .filled .long, c .before .before .before .before .before .before .before .pre .1))
-    (λ c. omega (arith, c .before .before .before .before .before .loop .inv .within, c .before .before .before .before .before .loop .inv .filled .long, c .before .before .before .before .before .before .before .before .pre .1))
+    eight-rows-requires
     (λ c. omega (arith, c .before .before .before .before .before .before .loop .inv .within, c .before .before .before .before .before .before .loop .inv .filled .long, c .before .before .before .before .before .before .before .before .before .pre .1))
     (λ c. omega (arith, c .before .before .before .before .before .before .loop .inv .within, c .before .before .before .before .before .before .loop .inv .filled .long, c .before .before .before .before .before .before .before .before .before .pre .1))
     (λ c. omega (arith, c .before .before .before .before .before .before .before .loop .inv .within, c .before .before .before .before .before .before .before .loop .inv .filled .long, c .before .before .before .before .before .before .before .before .before .before .pre .1))
-    (λ c. omega (arith, c .before .before .before .before .before .before .before .loop .inv .within, c .before .before .before .before .before .before .before .loop .inv .filled .long, c .before .before .before .before .before .before .before .before .before .before .pre .1))
-    (λ c. simp length-set (omega (arith, c .before .before .before .before .before .before .before .loop .inv .within, c .before .before .before .before .before .before .before .loop .inv .filled .long, c .before .before .before .before .before .before .before .before .before .before .pre .1)))
-    (λ c. omega (arith, c .before .before .before .before .before .before .before .before .loop .inv .within, c .before .before .before .before .before .before .before .before .loop .inv .filled .long, c .before .before .before .before .before .before .before .before .before .before .before .pre .1))
-    (λ c. omega (arith, c .before .before .before .before .before .before .before .before .loop .inv .within, c .before .before .before .before .before .before .before .before .loop .inv .filled .long, c .before .before .before .before .before .before .before .before .before .before .before .pre .1))
-    (λ c. simp length-set (omega (arith, c .before .before .before .before .before .before .before .before .loop .inv .within, c .before .before .before .before .before .before .before .before .loop .inv .filled .long, c .before .before .before .before .before .before .before .before .before .before .before .pre .1)))
-    (λ c. omega (arith, c .before .before .before .before .before .before .before .before .before .loop .inv .within, c .before .before .before .before .before .before .before .before .before .loop .inv .filled .long, c .before .before .before .before .before .before .before .before .before .before .before .before .pre .1))
-    (λ c. omega (arith, c .before .before .before .before .before .before .before .before .before .loop .inv .within, c .before .before .before .before .before .before .before .before .before .loop .inv .filled .long, c .before .before .before .before .before .before .before .before .before .before .before .before .pre .1))
-    (λ c. simp length-set (omega (arith, c .before .before .before .before .before .before .before .before .before .loop .inv .within, c .before .before .before .before .before .before .before .before .before .loop .inv .filled .long, c .before .before .before .before .before .before .before .before .before .before .before .before .pre .1)))
-    (λ c. omega (arith, c .before .before .before .before .before .before .before .before .before .loop .inv .within, c .before .before .before .before .before .before .before .before .before .loop .inv .filled .long, c .before .before .before .before .before .before .before .before .before .before .before .before .pre .1))
+    put-four-requires
+    (λ c. omega (arith, c .before .before .before .before .before .before .before .before .before .before .before .before .loop .inv .within, c .before .before .before .before .before .before .before .before .before .before .before .before .loop .inv .filled .long, c .before .before .before .before .before .before .before .before .before .before .before .before .before .before .before .pre .1))
+    put-four-requires-2
+    (λ c. omega (arith, c .before .before .before .before .before .before .before .before .before .before .before .before .before .before .before .loop .inv .within, c .before .before .before .before .before .before .before .before .before .before .before .before .before .before .before .loop .inv .filled .long, c .before .before .before .before .before .before .before .before .before .before .before .before .before .before .before .before .before .before .pre .1))
     (λ c. omega arith)
     loop-again-2
     same-length

@@ -19,8 +19,8 @@ left-product-spec =
     (tie.spec
     returns
     (λ c. omega arith)
-    (λ c. omega arith)
-    (λ c. omega arith)
-    (λ c. omega arith)
-    (λ c. omega arith)
+    (λ c. omega (arith, c .before .pre (omega arith)))
+    (λ c. omega (arith, c .before .pre (omega arith)))
+    (λ c. omega (arith, c .before .pre (omega arith)))
+    (λ c. omega (arith, c .before .before .pre (omega arith)))
     returns-2)

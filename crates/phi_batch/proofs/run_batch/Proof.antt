@@ -1,7 +1,7 @@
 -- `phi_batch::run_batch` meets its contract. Assumes nothing.
 use borrow.Author.Needs.{needs}
-use Rattle.phi_action.specs.Calls.{batched}
-use Rattle.phi_action.proofs.Jobs.{ready, lined, bounded, still-enough, finished}
+use Rattle.taylor_job.specs.Calls.{batched}
+use Rattle.taylor_job.proofs.Jobs.{ready, lined, bounded, still-enough, finished}
 use Rattle.phi_batch.proofs.run_batch.Statement.{statement}
 use Rattle.phi_batch.proofs.run_batch.Tie as tie
 

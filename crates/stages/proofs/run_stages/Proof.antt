@@ -14,7 +14,7 @@ use Rattle.generator_action.specs.Mass.{Mass, given}
 use Rattle.generator_action.specs.Generator.{Generator, forward}
 use Rattle.combination.specs.Call.{Call}
 use Rattle.admission.proofs.Stored.{forward-is, quotients-rows}
-use Rattle.phi_krylov.specs.declared.PhiAnswer.{PhiAnswer}
+use Rattle.phi_solver.specs.declared.PhiAnswer.{PhiAnswer}
 use Rattle.stage_checks.specs.declared.Stage.{Stage}
 use Rattle.stage_checks.specs.Schedule.{Schedule}
 use Rattle.stages.specs.Stages.{stage-step, begun}

@@ -1,6 +1,6 @@
 -- `stages::stage_call` meets its contract. Assumes nothing.
 use borrow.Author.Needs.{needs}
-use Rattle.phi_krylov.proofs.Dispatch.{by-taylor, by-krylov}
+use Rattle.phi_solver.proofs.Dispatch.{by-taylor, by-krylov}
 use Rattle.stage_checks.specs.Inner.{field-of}
 use mathlib.Core.List.{_++_}
 use Rattle.stages.proofs.stage_call.Statement.{statement}

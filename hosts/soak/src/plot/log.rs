@@ -58,33 +58,36 @@ pub fn draw(curves: &Curves) -> String {
 }
 
 /// The end of each record, in a unit that suits the whole.
-struct Time {
-    ends: Vec<f64>,
-    scale: Scale,
-    unit: &'static str,
+pub struct Time {
+    pub ends: Vec<f64>,
+    pub scale: Scale,
+    pub unit: &'static str,
 }
 
 impl Time {
     /// Durations are seconds.
     fn of(durations: &[f64]) -> Time {
-        let total: f64 = durations.iter().sum();
+        let mut end = 0.0;
+        Time::at(durations.iter().map(|duration| {
+            end += duration;
+            end
+        }))
+    }
+
+    /// Moments in seconds, the last one last.
+    pub fn at(moments: impl Iterator<Item = f64>) -> Time {
+        let mut ends: Vec<f64> = moments.collect();
+        let total = ends.last().copied().unwrap_or(0.0);
         let (unit, seconds, steps): (_, _, &[f64]) = match total {
             t if t > 7200.0 => ("h", 3600.0, &[0.25, 0.5, 1.0, 2.0, 3.0, 6.0, 12.0, 24.0, 48.0, 120.0, 240.0]),
             t if t > 300.0 => ("min", 60.0, &[1.0, 2.0, 5.0, 10.0, 15.0, 20.0, 30.0]),
             _ => ("s", 1.0, &[]),
         };
-        let mut end = 0.0;
-        let ends: Vec<f64> = durations
-            .iter()
-            .map(|duration| {
-                end += duration;
-                end / seconds
-            })
-            .collect();
+        ends.iter_mut().for_each(|end| *end /= seconds);
         Time { scale: Scale::of([0.0, total / seconds].into_iter()).stepped(steps), ends, unit }
     }
 
-    fn x(&self, i: usize) -> f64 {
+    pub fn x(&self, i: usize) -> f64 {
         ABOVE.x(&self.scale, self.ends[i])
     }
 
@@ -229,6 +232,6 @@ fn extent(path: &mut String, values: &[f64], y: impl Fn(f64) -> f64) {
 }
 
 /// A time, to four digits.
-fn shown(time: f64) -> String {
+pub fn shown(time: f64) -> String {
     hazhendu::shortest(format!("{time:.3e}").parse().unwrap_or(time))
 }

@@ -1,7 +1,7 @@
 //! A report as one page that needs nothing else.
 
 use super::{command_line, Outcome, Report};
-use crate::plot::{escaped, Picture};
+use crate::plot::{self, escaped, Picture};
 use crate::sink::is_standard_output;
 use crate::steps::{Stopped, Tightening};
 use crate::summary::{rounded, Extreme, Summary};
@@ -51,8 +51,12 @@ fn soaked(report: &Report, cost: &Cost, picture: &Picture) -> String {
             format!("<p class=\"bad\">{} of {} numbers of the field are not finite.</p>\n", picture.summary.not_finite, picture.field.len())
         }
     };
-    let figures: String = picture
-        .all()
+    let mut pictures = picture.all();
+    if report.series.moments.len() > 1 {
+        let over_time = plot::series(report.series, &picture.title, picture.unit);
+        pictures.push((format!("{} over the time, after each substep", picture.quantity), over_time));
+    }
+    let figures: String = pictures
         .iter()
         .map(|(caption, svg)| format!("<figure>\n{svg}<figcaption>{}</figcaption>\n</figure>\n", escaped(caption)))
         .collect();
@@ -129,12 +133,13 @@ fn asked(report: &Report) -> String {
     ];
     rows.extend(request.vectors.iter().enumerate().map(|(k, source)| (format!("w_{k}"), source.to_string())));
     rows.push(("tau".into(), shortest(request.tau)));
-    let options = match request.solver {
+    let options = match report.taken.solver {
         Solver::Taylor(options) => format!(", degree up to {}", options.degree),
         Solver::Krylov(options) => format!(", tol {}, m {}, at most {} substeps", shortest(options.tol), options.m, options.max_substeps),
     };
     let transposed = if request.files.transposed { ", on the transposed matrix" } else { "" };
     rows.push(("solver".into(), format!("{}{options}{transposed}", report.solver())));
+    rows.extend(report.taken.told.iter().map(|line| ("chosen".into(), line.trim_start_matches("auto: ").to_owned())));
     let tightened = |t: &Tightening| format!("tol {} from {} of tau on", shortest(t.tol), shortest(t.share));
     rows.extend(request.tightenings.iter().map(|t| ("tightened".into(), tightened(t))));
     format!("<h2>What was asked</h2>\n{}", table(rows))

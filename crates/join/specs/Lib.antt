@@ -1,3 +1,0 @@
--- Two matrices as one.
-pub mod Join
-pub mod Merge

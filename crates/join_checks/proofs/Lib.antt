@@ -1,0 +1,5 @@
+pub mod Values
+pub mod Row
+pub mod Steps
+pub mod Passes
+pub mod Result

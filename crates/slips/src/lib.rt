@@ -1,0 +1,1 @@
+// A slip of the soak that no other statement tells, computed in proofs/. No code.
