@@ -86,10 +86,7 @@ impl Request {
     fn drawn(&self) -> Result<(), Failure> {
         let drawn = self.plot.is_some() || !self.reports.is_empty() || !self.series.files.is_empty();
         self.drawing.drawn(drawn, "--plot, --report and --series")?;
-        match self.reports.iter().find(|path| report::Kind::of(path).is_none()) {
-            Some(path) => Err(Failure::Usage(format!("--report {}: a name that ends in .html, .json or .csv", path.display()))),
-            None => Ok(()),
-        }
+        report::check(&self.reports)
     }
 
     fn guarded(&self) -> guard::Files<'_> {
@@ -329,16 +326,18 @@ impl Given {
             drawing: std::mem::take(&mut self.drawing),
             every_stage: self.every_stage.take(),
             series: self.series()?,
+            reports: std::mem::take(&mut self.reports),
         };
         if transposed || self != Given::default() {
             return Err(Failure::Usage(
-                "stages takes a matrix, --mass, --start, --schedule, --output, --every-stage, --series, --node, --plot, --points, --outline, \
-                 --unit and --title"
+                "stages takes a matrix, --mass, --start, --schedule, --output, --every-stage, --series, --node, --plot, --report, --points, \
+                 --outline, --unit and --title"
                     .into(),
             ));
         }
-        let drawn = request.plot.is_some() || !request.series.files.is_empty();
-        request.drawing.drawn(drawn, "--plot and --series")?;
+        let drawn = request.plot.is_some() || !request.series.files.is_empty() || !request.reports.is_empty();
+        request.drawing.drawn(drawn, "--plot, --report and --series")?;
+        report::check(&request.reports)?;
         request.guarded().check()?;
         Ok(request)
     }
@@ -357,21 +356,21 @@ impl Given {
             results: self.results.take().unwrap_or_else(|| "-".into()),
             output: self.output.take(),
             plot: self.plot.take(),
+            reports: std::mem::take(&mut self.reports),
             drawing: std::mem::take(&mut self.drawing),
         };
-        let drawing = &request.drawing;
-        if transposed || drawing.points.is_some() || drawing.outline.is_some() || self != Given::default() {
+        if transposed || self != Given::default() {
             return Err(Failure::Usage(
-                "log takes a matrix, --mass, --field, --load, --records, --node, --window, --results, --output, --plot, --unit and --title"
+                "log takes a matrix, --mass, --field, --load, --records, --node, --window, --results, --output, --plot, --report, --points, \
+                 --outline, --unit and --title"
                     .into(),
             ));
         }
         if request.node == 0 {
             return Err(Failure::Usage("--node 0: rows are counted from 1".into()));
         }
-        if request.plot.is_none() && drawing.title.is_some() {
-            return Err(Failure::Usage("--title is for --plot".into()));
-        }
+        request.drawn()?;
+        report::check(&request.reports)?;
         request.guarded().check()?;
         Ok(request)
     }

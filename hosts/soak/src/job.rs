@@ -7,7 +7,7 @@ use crate::input::{Source, Vector};
 use crate::memory::joined;
 use crate::model::Model;
 use hazhendu::sizes::{MAX_DEGREE, MAX_VECTORS};
-use hazhendu::{combine, shortest, transposed, Cost, Csr, Error, Matrix, Refusal, Soaked, Solver};
+use hazhendu::{combine, shortest, taylor_plan, transposed, Cost, Csr, Error, Matrix, Plan, Refusal, Soaked, Solver, TaylorOptions};
 
 pub struct Job<'a> {
     request: &'a Request,
@@ -45,9 +45,20 @@ impl<'a> Job<'a> {
     }
 
     pub fn soak(&self, solver: Solver) -> Result<Soaked<Cost>, Failure> {
+        self.soak_over(solver, self.request.tau)
+    }
+
+    /// The same over another time.
+    pub fn soak_over(&self, solver: Solver, tau: f64) -> Result<Soaked<Cost>, Failure> {
         let (count, w) = self.flat()?;
         let combine = if self.request.files.transposed { transposed::combine } else { combine };
-        combine(solver, &self.model.matrix(), self.request.tau, count, &w).map_err(|error| self.failure(error))
+        combine(solver, &self.model.matrix(), tau, count, &w).map_err(|error| self.failure(error))
+    }
+
+    /// What a Taylor soak over this time costs, if it has a plan.
+    pub fn plan(&self, tau: f64, options: TaylorOptions) -> Option<Plan> {
+        let planned = if self.request.files.transposed { transposed::taylor_plan } else { taylor_plan };
+        planned(&self.model.matrix(), tau, options).ok()
     }
 
     pub fn failure(&self, error: Error) -> Failure {

@@ -5,16 +5,19 @@ use crate::failure::Failure;
 use crate::guard;
 use crate::input::{Source, Vector};
 use crate::model::{Files, Model};
-use crate::plot::{self, Curves};
+use crate::plot::{self, Curves, Geometry};
+use crate::points;
 use crate::progress::{percent, Paced};
 use crate::records::Records;
+use crate::report;
 use crate::sink::Sink;
 use crate::soak::not_finite;
 use crate::summary::{rounded, Extreme, Summary};
 use crate::warnings::Heating;
 use crate::{tell, tell_terminal};
 use hazhendu::sizes::MAX_RECORDS;
-use hazhendu::{ambient, phi_combination, shortest, vectors, AmbientError, Error, Log, Logged, Refusal, TaylorOptions};
+use hazhendu::{ambient, phi_combination, shortest, taylor_plan, vectors, AmbientError, Error, Log, Logged, Refusal, TaylorOptions};
+use std::collections::HashMap;
 use std::io::{self, IsTerminal, Write};
 use std::path::PathBuf;
 use std::time::{Duration, Instant};
@@ -34,13 +37,31 @@ pub struct Request {
     pub results: PathBuf,
     pub output: Option<PathBuf>,
     pub plot: Option<PathBuf>,
+    pub reports: Vec<PathBuf>,
     pub drawing: Drawing,
 }
 
 impl Request {
     pub fn guarded(&self) -> guard::Files<'_> {
-        let files = guard::Files::default().reads(self.files.sources()).reads([&self.field, &self.load, &self.records]);
-        files.writes("--results", [&self.results]).writes("--output", &self.output).writes("--plot", &self.plot)
+        let drawn = self.drawing.points.iter().chain(&self.drawing.outline);
+        let files = guard::Files::default().reads(self.files.sources()).reads([&self.field, &self.load, &self.records]).reads(drawn);
+        files
+            .writes("--results", [&self.results])
+            .writes("--output", &self.output)
+            .writes("--plot", &self.plot)
+            .writes("--report", &self.reports)
+    }
+
+    /// The field is drawn on the pages of reports alone, and the unit is in the lines too.
+    pub fn drawn(&self) -> Result<(), Failure> {
+        let Drawing { points, outline, title, .. } = &self.drawing;
+        let usage = |text: &str| Err(Failure::Usage(text.into()));
+        match self.reports.is_empty() {
+            true if points.is_some() || outline.is_some() => usage("--points and --outline are for --report"),
+            true if title.is_some() && self.plot.is_none() => usage("--title is for --plot and --report"),
+            _ if outline.is_some() && points.is_none() => usage("--outline is for --points"),
+            _ => Ok(()),
+        }
     }
 
     fn unit(&self) -> &str {
@@ -66,38 +87,40 @@ struct Ran {
 }
 
 pub fn run(request: &Request) -> Result<(), Failure> {
-    let model = Model::read(&request.files)?;
-    let (field, load) = (request.field.vector()?, request.load.vector()?);
-    let job = Job { request, model, field, load, records: Records::read(&request.records)? };
-    let results = Sink::open(&request.results)?;
-    let output = request.output.as_deref().map(Sink::open).transpose()?;
-    let plot = request.plot.as_deref().map(Sink::open).transpose()?;
+    let job = Job::read(request)?;
+    let sinks = Sinks::open(request)?;
+    job.warnings().iter().for_each(|warning| tell(warning));
     let matrix = job.model.matrix();
-    let heating = Heating::of(&matrix);
-    heating.iter().for_each(|heating| tell(&heating.warning(&request.files.matrix.to_string())));
     tell_terminal(&format!("soak: rows {}, entries {}, records {}", matrix.n, matrix.entries.len(), job.records.count));
     let begun = Instant::now();
     // The library refuses a log of any other length before all records.
     let counted = (1..=MAX_RECORDS).contains(&job.records.count);
     let ran = if counted && io::stderr().is_terminal() { job.in_blocks()? } else { job.in_one_call()? };
-    tell_terminal(&format!("soak: {:.3} s", begun.elapsed().as_secs_f64()));
-    let unfinished = job.unfinished(&ran);
-    if !ran.temperatures.is_empty() || matches!(ran.end, End::NotANumber(_)) {
-        results.fill(|to| job.write_results(to, &ran, unfinished.as_deref()))?;
-        if let Some(plot) = &plot {
-            plot.fill(|to| to.write_all(job.drawn(&ran, unfinished.as_deref()).as_bytes()))?;
-        }
+    let seconds = begun.elapsed().as_secs_f64();
+    tell_terminal(&format!("soak: {seconds:.3} s"));
+    job.write(&sinks, &ran)?;
+    let ended = job.ended(&ran);
+    job.report(&sinks, &ran, &ended, seconds)?;
+    ended
+}
+
+/// Where a log is written, each tried before the run.
+struct Sinks {
+    results: Sink,
+    output: Option<Sink>,
+    plot: Option<Sink>,
+    reports: report::Sinks,
+}
+
+impl Sinks {
+    fn open(request: &Request) -> Result<Self, Failure> {
+        Ok(Sinks {
+            results: Sink::open(&request.results)?,
+            output: request.output.as_deref().map(Sink::open).transpose()?,
+            plot: request.plot.as_deref().map(Sink::open).transpose()?,
+            reports: report::Sinks::open(&request.reports)?,
+        })
     }
-    if let (Some(output), Some(field)) = (&output, &ran.field) {
-        output.fill(|to| {
-            unfinished.iter().try_for_each(|told| writeln!(to, "# not the field after the whole log: {}", told))?;
-            vectors::write(to, field)
-        })?;
-    }
-    if let Some(told) = unfinished.filter(|_| ran.field.is_some()) {
-        tell(&format!("soak: what is written is not the whole log: {told}"));
-    }
-    job.ended(&ran, heating.as_ref())
 }
 
 struct Job<'a> {
@@ -106,9 +129,24 @@ struct Job<'a> {
     field: Vector,
     load: Vector,
     records: Records,
+    geometry: Option<Geometry>,
+    heating: Option<Heating>,
 }
 
-impl Job<'_> {
+impl<'a> Job<'a> {
+    fn read(request: &'a Request) -> Result<Self, Failure> {
+        let model = Model::read(&request.files)?;
+        let (field, load) = (request.field.vector()?, request.load.vector()?);
+        let records = Records::read(&request.records)?;
+        let geometry = points::of(&request.drawing, model.matrix().n, &request.files.matrix)?;
+        let heating = Heating::of(&model.matrix());
+        Ok(Job { request, model, field, load, records, geometry, heating })
+    }
+
+    fn warnings(&self) -> Vec<String> {
+        self.heating.iter().map(|heating| heating.warning(&self.request.files.matrix.to_string())).collect()
+    }
+
     fn node(&self) -> usize {
         self.request.node - 1
     }
@@ -197,6 +235,27 @@ impl Job<'_> {
         }
     }
 
+    /// What there is, and that it is not all where it is not.
+    fn write(&self, sinks: &Sinks, ran: &Ran) -> Result<(), Failure> {
+        let unfinished = self.unfinished(ran);
+        if !ran.temperatures.is_empty() || matches!(ran.end, End::NotANumber(_)) {
+            sinks.results.fill(|to| self.write_results(to, ran, unfinished.as_deref()))?;
+            if let Some(plot) = &sinks.plot {
+                plot.fill(|to| to.write_all(plot::log(&self.curves(ran)).as_bytes()))?;
+            }
+        }
+        if let (Some(output), Some(field)) = (&sinks.output, &ran.field) {
+            output.fill(|to| {
+                unfinished.iter().try_for_each(|told| writeln!(to, "# not the field after the whole log: {}", told))?;
+                vectors::write(to, field)
+            })?;
+        }
+        if let Some(told) = unfinished.filter(|_| ran.field.is_some()) {
+            tell(&format!("soak: what is written is not the whole log: {told}"));
+        }
+        Ok(())
+    }
+
     /// A line for each record that has a result; a comment before them if some have none.
     fn write_results(&self, to: &mut dyn Write, ran: &Ran, unfinished: Option<&str>) -> io::Result<()> {
         if let Some(told) = unfinished {
@@ -211,43 +270,87 @@ impl Job<'_> {
         Ok(())
     }
 
-    fn drawn(&self, ran: &Ran, unfinished: Option<&str>) -> String {
-        let shown = ran.temperatures.len();
-        let Log { durations, levels } = self.records.part(0, shown);
-        let title = self.request.drawing.title.clone().unwrap_or_else(|| {
-            format!("{}, {}, row {}", self.request.files.matrix.short_name(), self.request.records.short_name(), self.request.node)
-        });
-        let curves = Curves {
-            title,
-            unfinished: unfinished.map(|told| format!("not the whole log: {told}")),
+    /// The records that have a result, as they are drawn.
+    fn curves<'b>(&'b self, ran: &'b Ran) -> Curves<'b> {
+        let Log { durations, levels } = self.records.part(0, ran.temperatures.len());
+        let usual =
+            || format!("{}, {}, row {}", self.request.files.matrix.short_name(), self.request.records.short_name(), self.request.node);
+        Curves {
+            title: self.request.drawing.title.clone().unwrap_or_else(usual),
+            unfinished: self.unfinished(ran).map(|told| format!("not the whole log: {told}")),
             unit: self.request.unit(),
             row: self.request.node,
             window: self.request.window,
-            start: self.field.numbers[self.node()],
+            start: self.field.numbers.get(self.node()).copied().unwrap_or(f64::NAN),
             durations,
             levels,
             temperatures: &ran.temperatures,
             largest: &ran.largest,
             smallest: &ran.smallest,
-        };
-        plot::log(&curves)
+        }
     }
 
     /// The line about the work done, or why it is not done.
-    fn ended(&self, ran: &Ran, heating: Option<&Heating>) -> Result<(), Failure> {
+    fn ended(&self, ran: &Ran) -> Result<(), Failure> {
         let matrix = self.request.files.matrix.to_string();
         match ran.end {
             End::Refused(refusal, record) => Err(Failure::RefusedRecord { refusal, place: self.place(refusal, record, ran), record }),
-            End::NotANumber(record) => Err(Failure::NotANumber(self.not_a_number(record, heating))),
+            End::NotANumber(record) => Err(Failure::NotANumber(self.not_a_number(record))),
             End::Done => {
                 tell(&self.told(&ran.temperatures));
                 let Some(field) = &ran.field else { return Ok(()) };
                 let summary = Summary::of(field, self.model.mass());
                 tell_terminal(&format!("soak: {}", summary.line(self.request.unit())));
-                let told = not_finite(&summary, field.len(), heating, &matrix, self.request.output.is_some());
+                let told = not_finite(&summary, field.len(), self.heating.as_ref(), &matrix, self.request.output.is_some());
                 told.map_or(Ok(()), |told| Err(Failure::NotFinite(told)))
             }
         }
+    }
+
+    fn report(&self, sinks: &Sinks, ran: &Ran, ended: &Result<(), Failure>, seconds: f64) -> Result<(), Failure> {
+        if self.request.reports.is_empty() {
+            return Ok(());
+        }
+        let mut warnings = self.warnings();
+        let end = match ended {
+            Err(Failure::RefusedRecord { refusal, place, record }) => {
+                report::log::End::Refused { refusal: *refusal, place: place.as_deref(), record: *record }
+            }
+            _ => match ran.end {
+                End::NotANumber(record) => report::log::End::NotANumber(record),
+                _ => report::log::End::Done,
+            },
+        };
+        warnings.extend(ended.as_ref().err().filter(|_| !matches!(end, report::log::End::Refused { .. })).map(ToString::to_string));
+        let report = report::log::Report {
+            request: self.request,
+            rows: self.model.matrix().n,
+            entries: self.model.matrix().entries.len(),
+            mass: self.model.mass(),
+            records: self.records.count,
+            curves: self.curves(ran),
+            field: ran.field.as_deref(),
+            applications: self.applications(ran.temperatures.len()),
+            geometry: self.geometry.as_ref(),
+            seconds,
+            warnings: &warnings,
+            end,
+        };
+        sinks.reports.fill(|kind| report.text(kind))
+    }
+
+    /// What the first records took: the plan of each is what its run makes. Records of one duration have one plan.
+    fn applications(&self, records: usize) -> Option<u64> {
+        let matrix = self.model.matrix();
+        let mut plans: HashMap<u64, u64> = HashMap::new();
+        self.records.part(0, records).durations.iter().try_fold(0, |sum, duration| {
+            let made = match plans.get(&duration.to_bits()) {
+                Some(made) => *made,
+                None => taylor_plan(&matrix, *duration, TaylorOptions::default()).ok()?.applications,
+            };
+            plans.insert(duration.to_bits(), made);
+            Some(sum + made)
+        })
     }
 
     fn told(&self, temperatures: &[f64]) -> String {
@@ -263,9 +366,9 @@ impl Job<'_> {
         format!("log: {records}, row {}: {last} {unit} at the end, {largest}, {smallest}", self.request.node)
     }
 
-    fn not_a_number(&self, record: usize, heating: Option<&Heating>) -> String {
+    fn not_a_number(&self, record: usize) -> String {
         let (i, matrix) = (record - 1, self.request.files.matrix.to_string());
-        let change = match heating {
+        let change = match &self.heating {
             Some(heating) => format!("{}; {}", heating.told(&matrix), heating.change()),
             None => "the units of matrix, mass, durations, levels and load: the numbers grow too large on the way".into(),
         };

@@ -1,5 +1,6 @@
 //! The files of a geometry: a place for each row, and the parts to be outlined.
 
+use crate::arguments::Drawing;
 use crate::failure::Failure;
 use crate::input::Source;
 use crate::plot::geometry::{Cell, Part};
@@ -13,8 +14,13 @@ struct Line {
     rest: String,
 }
 
+/// Of a drawing's files, if it has them.
+pub fn of(drawing: &Drawing, rows: usize, matrix: &Source) -> Result<Option<Geometry>, Failure> {
+    drawing.points.as_ref().map(|points| read(points, drawing.outline.as_ref(), rows, matrix)).transpose()
+}
+
 /// Across and up: of r and z, z lies across, as lenses are drawn.
-pub fn read(points: &Source, outline: Option<&Source>, rows: usize, matrix: &Source) -> Result<Geometry, Failure> {
+fn read(points: &Source, outline: Option<&Source>, rows: usize, matrix: &Source) -> Result<Geometry, Failure> {
     let (names, lines) = table(points)?;
     let names = names.filter(|names| [2, 4].contains(&names.len())).unwrap_or_else(|| vec!["x".into(), "y".into()]);
     let (first, second) = (names[0].clone(), names[names.len() / 2].clone());

@@ -2,6 +2,8 @@
 
 use hazhendu::Report;
 use std::io::{self, IsTerminal, Write};
+use std::sync::mpsc::{self, RecvTimeoutError};
+use std::thread;
 use std::time::{Duration, Instant};
 
 const BETWEEN: Duration = Duration::from_millis(100);
@@ -49,6 +51,25 @@ pub struct Line {
 impl Line {
     pub fn new() -> Self {
         Line { told: io::stderr().is_terminal(), length: 0 }
+    }
+
+    /// Runs a call that tells nothing until its end; meanwhile the line has what `text` makes of the time gone by.
+    pub fn during<T>(&mut self, text: impl Fn(Duration) -> String + Send, call: impl FnOnce() -> T) -> T {
+        if !self.told {
+            return call();
+        }
+        let (running, ended) = mpsc::channel::<()>();
+        thread::scope(|scope| {
+            scope.spawn(move || {
+                let begun = Instant::now();
+                while ended.recv_timeout(BETWEEN) == Err(RecvTimeoutError::Timeout) {
+                    self.write(&text(begun.elapsed()));
+                }
+            });
+            let answer = call();
+            drop(running);
+            answer
+        })
     }
 
     pub fn write(&mut self, line: &str) {
@@ -107,6 +128,15 @@ impl Drop for Line {
     }
 }
 
+/// In a unit that suits it, for people.
+pub fn lasting(time: Duration) -> String {
+    match time.as_secs_f64() {
+        s if s < 100.0 => format!("{s:.1} s"),
+        s if s < 6000.0 => format!("{:.1} min", s / 60.0),
+        s => format!("{:.1} h", s / 3600.0),
+    }
+}
+
 /// 100 % only at the end itself.
 pub fn percent(time: f64) -> u32 {
     let percent = (time * 100.0).floor().clamp(0.0, 100.0) as u32;
@@ -142,13 +172,20 @@ fn exponent(value: f64, digits: usize) -> String {
 
 #[cfg(test)]
 mod tests {
-    use super::{exponent, line, percent};
+    use super::{exponent, lasting, line, percent};
     use hazhendu::Report;
+    use std::time::Duration;
 
     #[test]
     fn a_line_says_how_far_it_is() {
         let report = Report { substeps: 31, matvecs: 1271, rejected: 0, estimated_error: 3.2e-10, shortest_step: 1e-3, last_step: 0.0123 };
         assert_eq!(line(0.4321, &report), "43 % of tau, 31 substeps, 1271 applications, step 1.2e-02, error 3e-10");
+    }
+
+    #[test]
+    fn times_are_short() {
+        let shown = [0.04, 3.21, 99.96, 100.0, 5999.0, 6000.0, 90_000.0].map(|s| lasting(Duration::from_secs_f64(s)));
+        assert_eq!(shown, ["0.0 s", "3.2 s", "100.0 s", "1.7 min", "100.0 min", "1.7 h", "25.0 h"]);
     }
 
     #[test]

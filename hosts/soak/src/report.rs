@@ -3,11 +3,17 @@
 mod csv;
 mod html;
 mod json;
+pub mod log;
+mod page;
+pub mod stages;
+mod values;
 
 use crate::arguments::Request;
-use crate::choice::{self, Taken};
+use crate::choice::Taken;
+use crate::failure::Failure;
 use crate::plot::{Geometry, Picture};
 use crate::series::Series;
+use crate::sink::Sink;
 use crate::steps::Stopped;
 use hazhendu::{Cost, Refusal};
 use std::path::{Path, PathBuf};
@@ -27,6 +33,32 @@ impl Kind {
             "csv" => Some(Kind::Csv),
             _ => None,
         }
+    }
+}
+
+/// Each of the files of --report is of a kind.
+pub fn check(paths: &[PathBuf]) -> Result<(), Failure> {
+    match paths.iter().find(|path| Kind::of(path).is_none()) {
+        Some(path) => Err(Failure::Usage(format!("--report {}: a name that ends in .html, .json or .csv", path.display()))),
+        None => Ok(()),
+    }
+}
+
+/// Each tried before the run.
+pub struct Sinks(Vec<(Kind, Sink)>);
+
+impl Sinks {
+    pub fn open(paths: &[PathBuf]) -> Result<Sinks, Failure> {
+        let kinds = paths.iter().filter_map(|path| Some((Kind::of(path)?, path)));
+        kinds.map(|(kind, path)| Ok((kind, Sink::open(path)?))).collect::<Result<_, _>>().map(Sinks)
+    }
+
+    /// Where there is nothing of a kind to be told, no file is written.
+    pub fn fill(&self, text: impl Fn(Kind) -> Option<String>) -> Result<(), Failure> {
+        for (kind, sink) in &self.0 {
+            text(*kind).map_or(Ok(()), |text| sink.fill(|to| to.write_all(text.as_bytes())))?;
+        }
+        Ok(())
     }
 }
 
@@ -80,10 +112,6 @@ impl Report<'_> {
             Outcome::Soaked { picture, .. } if picture.summary.not_finite > 0 => 80,
             Outcome::Soaked { .. } => 0,
         }
-    }
-
-    fn solver(&self) -> &'static str {
-        choice::name(self.taken.solver)
     }
 }
 

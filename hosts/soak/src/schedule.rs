@@ -2,6 +2,7 @@
 
 use crate::failure::Failure;
 use crate::input::{Source, Vector};
+use crate::stages::Done;
 use crate::table::{self, Row, Table};
 use hazhendu::sizes::MAX_DEGREE;
 use hazhendu::{shortest, KrylovOptions, Solver, TaylorOptions};
@@ -75,6 +76,12 @@ fn solver(row: &Row) -> Result<Solver, Failure> {
         Some("taylor") | None => Ok(Solver::Taylor(TaylorOptions { degree: degree.unwrap_or(MAX_DEGREE) })),
         Some(other) => Err(row.wrong(format!("solver {other:?}: taylor or krylov"))),
     }
+}
+
+/// The start, and the field after each stage that was run, each with its name.
+pub fn curves<'a>(start: &'a [f64], stages: &[Stage], done: &'a [Done]) -> Vec<(String, &'a [f64])> {
+    let named = done.iter().zip(stages).enumerate().map(|(i, (done, stage))| (format!("stage {}", stage.called(i)), done.field.as_slice()));
+    std::iter::once(("start".into(), start)).chain(named).collect()
 }
 
 /// Its time, and what it does, in a few words.

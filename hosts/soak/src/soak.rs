@@ -1,5 +1,6 @@
 //! A soak from its files to its files.
 
+use crate::ahead::Ahead;
 use crate::arguments::Request;
 use crate::choice::{self, Taken};
 use crate::failure::Failure;
@@ -7,22 +8,22 @@ use crate::frames::Frames;
 use crate::job::{cost_line, Job};
 use crate::plot::{Geometry, Picture};
 use crate::points;
-use crate::progress::percent;
-use crate::report::{Kind, Outcome, Report};
+use crate::progress::{percent, Line};
+use crate::report::{self, Outcome, Report};
 use crate::series::{self, Series};
 use crate::sink::{is_standard_output, Sink};
 use crate::steps::{self, Stopped};
 use crate::summary::Summary;
 use crate::warnings::{self, Heating};
 use crate::{tell, tell_terminal};
-use hazhendu::{shortest, taylor_plan, transposed, vectors, Cost, Matrix, Soaked, Solver};
+use hazhendu::{shortest, vectors, Cost, Matrix, Soaked, Solver};
 use std::io::{self, IsTerminal};
 use std::path::PathBuf;
 use std::time::Instant;
 
 pub fn run(request: &Request) -> Result<(), Failure> {
     let job = Job::read(request)?;
-    let geometry = geometry(request, &job)?;
+    let geometry = points::of(&request.drawing, job.matrix().n, &request.files.matrix)?;
     request.frames.as_ref().map_or(Ok(()), Frames::open)?;
     let sinks = Sinks::open(request)?;
     let heating = Heating::of(&job.matrix());
@@ -32,9 +33,7 @@ pub fn run(request: &Request) -> Result<(), Failure> {
     let series = Series::new(request.series.node, "substep", quantity(request));
     let mut run = Run { request, job, taken, geometry, sinks, heating, warnings, series, seconds: 0.0 };
     run.warnings.iter().for_each(|warning| tell(warning));
-    let begun = Instant::now();
     let soaked = run.soak();
-    run.seconds = begun.elapsed().as_secs_f64();
     tell_terminal(&format!("soak: {:.3} s", run.seconds));
     match soaked {
         Ok(soaked) => run.finish(&soaked),
@@ -52,6 +51,7 @@ struct Run<'a> {
     heating: Option<Heating>,
     warnings: Vec<String>,
     series: Series,
+    /// Of the calls, all tries together.
     seconds: f64,
 }
 
@@ -60,8 +60,13 @@ impl Run<'_> {
     fn soak(&mut self) -> Result<Soaked<Cost>, Failure> {
         loop {
             self.taken.told.last().iter().for_each(|line| tell(line));
-            tell_terminal(&format!("soak: {}, solver {}{}", self.job.size(), choice::name(self.taken.solver), self.planned()));
-            match self.attempt() {
+            let ahead = self.ahead();
+            let planned = ahead.as_ref().map_or(String::new(), |ahead| format!(", {} applications", ahead.plan.applications));
+            tell_terminal(&format!("soak: {}, solver {}{planned}", self.job.size(), choice::name(self.taken.solver)));
+            let begun = Instant::now();
+            let soaked = self.attempt(ahead);
+            self.seconds += begun.elapsed().as_secs_f64();
+            match soaked {
                 Err(Failure::Refused { refusal, .. }) if refusal.number == 28 && self.taken.after_28() => {}
                 soaked => return soaked,
             }
@@ -69,18 +74,19 @@ impl Run<'_> {
     }
 
     /// On a terminal, what a Taylor soak is going to take: it tells nothing until its end.
-    fn planned(&self) -> String {
-        let Solver::Taylor(options) = self.taken.solver else { return String::new() };
-        let planned = if self.request.files.transposed { transposed::taylor_plan } else { taylor_plan };
-        let plan = io::stderr().is_terminal().then(|| planned(&self.job.matrix(), self.request.tau, options).ok()).flatten();
-        plan.map_or(String::new(), |plan| format!(", {} applications", plan.applications))
+    fn ahead(&self) -> Option<Ahead> {
+        match self.taken.solver {
+            Solver::Taylor(options) if io::stderr().is_terminal() => Ahead::of(&self.job, self.request.tau, options),
+            _ => None,
+        }
     }
 
-    fn attempt(&mut self) -> Result<Soaked<Cost>, Failure> {
+    fn attempt(&mut self, ahead: Option<Ahead>) -> Result<Soaked<Cost>, Failure> {
         let mut series = Series::new(self.request.series.node, "substep", quantity(self.request));
         let Some(options) = steps::options(self.request, self.taken.solver) else {
             self.series = series;
-            return self.job.soak(self.taken.solver);
+            let whole = || self.job.soak(self.taken.solver);
+            return ahead.map_or_else(whole, |ahead| Line::new().during(|gone| ahead.line(gone), whole));
         };
         let soaked = steps::soak(&self.job, self.request, options, |field, time, substeps| {
             series.push(time * self.request.tau, field, self.job.weights());
@@ -173,12 +179,7 @@ impl Run<'_> {
         let (warnings, geometry) = (&self.warnings[..], self.geometry.as_ref());
         let entries = entries.len();
         let report = Report { request, taken, series, rows: n, entries, seconds: *seconds, warnings, geometry, outcome };
-        for (kind, sink) in &self.sinks.reports {
-            if let Some(text) = report.text(*kind) {
-                sink.fill(|to| to.write_all(text.as_bytes()))?;
-            }
-        }
-        Ok(())
+        self.sinks.reports.fill(|kind| report.text(kind))
     }
 }
 
@@ -206,7 +207,7 @@ struct Sinks {
     output: Sink,
     state: Option<Sink>,
     plot: Option<Sink>,
-    reports: Vec<(Kind, Sink)>,
+    reports: report::Sinks,
     series: series::Sinks,
 }
 
@@ -216,20 +217,10 @@ impl Sinks {
             output: Sink::open(&request.output)?,
             state: request.state().as_deref().map(Sink::open).transpose()?,
             plot: request.plot.as_deref().map(Sink::open).transpose()?,
-            reports: request.reports.iter().filter_map(|path| Some((Kind::of(path)?, path))).map(opened).collect::<Result<_, _>>()?,
+            reports: report::Sinks::open(&request.reports)?,
             series: request.series.open()?,
         })
     }
-}
-
-fn opened((kind, path): (Kind, &PathBuf)) -> Result<(Kind, Sink), Failure> {
-    Ok((kind, Sink::open(path)?))
-}
-
-fn geometry(request: &Request, job: &Job) -> Result<Option<Geometry>, Failure> {
-    let drawing = &request.drawing;
-    let read = |source| points::read(source, drawing.outline.as_ref(), job.matrix().n, &request.files.matrix);
-    drawing.points.as_ref().map(read).transpose()
 }
 
 /// Of a sensitivity K for each K at the start.

@@ -6,9 +6,10 @@ use crate::guard;
 use crate::input::{Source, Vector};
 use crate::job::cost_line;
 use crate::model::{Files, Model};
-use crate::plot::{self, Picture};
+use crate::plot::{self, Geometry, Picture};
 use crate::points;
-use crate::progress::Line;
+use crate::progress::{self, Line};
+use crate::report;
 use crate::schedule::{self, Stage};
 use crate::series::{self, Series};
 use crate::sink::Sink;
@@ -34,6 +35,7 @@ pub struct Request {
     /// The folder that gets the field after each stage.
     pub every_stage: Option<PathBuf>,
     pub series: series::Asked,
+    pub reports: Vec<PathBuf>,
 }
 
 impl Request {
@@ -45,12 +47,28 @@ impl Request {
             .writes("--plot", &self.plot)
             .writes("--every-stage", &self.every_stage)
             .writes("--series", &self.series.files)
+            .writes("--report", &self.reports)
+    }
+
+    fn unit(&self) -> &str {
+        self.drawing.unit.as_deref().unwrap_or("K")
+    }
+
+    /// Whether the field after each stage is wanted.
+    fn is_one_by_one(&self) -> bool {
+        let asked = self.every_stage.is_some() || self.plot.is_some() || !self.series.files.is_empty() || !self.reports.is_empty();
+        asked || io::stderr().is_terminal()
     }
 }
 
-/// The field after each stage that was run one by one, the last one, and what all cost.
+/// A stage that was run: the field after it, and what it cost.
+pub struct Done {
+    pub field: Vec<f64>,
+    pub cost: Cost,
+}
+
+/// The field after all stages, and what they cost.
 struct Soaked {
-    between: Vec<Vec<f64>>,
     field: Vec<f64>,
     report: StagedReport,
 }
@@ -69,60 +87,127 @@ impl From<Failure> for Box<Refused> {
 }
 
 pub fn run(request: &Request) -> Result<(), Failure> {
-    let model = Model::read(&request.files)?;
-    let start = request.start.vector()?;
-    let stages = schedule::read(&request.schedule)?;
-    request.guarded().reads(stages.iter().flat_map(|stage| &stage.vectors).map(|vector| &vector.source)).check()?;
-    let job = Job { request, model, start, stages };
-    let n = job.model.matrix().n;
-    let drawing = &request.drawing;
-    let read = |source| points::read(source, drawing.outline.as_ref(), n, &request.files.matrix);
-    let geometry = drawing.points.as_ref().map(read).transpose()?;
-    let output = Sink::open(&request.output)?;
-    let plot = request.plot.as_deref().map(Sink::open).transpose()?;
-    let folder = request.every_stage.as_deref().map(Folder::open).transpose()?;
-    request.series.check(n)?;
-    let series = request.series.open()?;
-    let heating = Heating::of(&job.model.matrix());
-    heating.iter().for_each(|heating| tell(&heating.warning(&request.files.matrix.to_string())));
-    tell_terminal(&format!("soak: rows {n}, entries {}, stages {}", job.model.matrix().entries.len(), job.stages.len()));
+    let job = Job::read(request)?;
+    let sinks = Sinks::open(request, job.model.matrix().n)?;
+    job.warnings().iter().for_each(|warning| tell(warning));
+    tell_terminal(&format!("soak: rows {}, entries {}, stages {}", job.rows(), job.model.matrix().entries.len(), job.stages.len()));
     let begun = Instant::now();
-    let one_by_one = folder.is_some() || plot.is_some() || !request.series.files.is_empty() || io::stderr().is_terminal();
     // The library refuses a schedule of any other length before all stages.
     let counted = (1..=MAX_STAGES).contains(&job.stages.len());
-    let soaked = if one_by_one && counted { job.one_by_one(folder.as_ref()) } else { job.in_one_call() };
-    tell_terminal(&format!("soak: {:.3} s", begun.elapsed().as_secs_f64()));
-    let soaked = soaked.or_else(|refused| job.leave(&output, *refused))?;
-    let Soaked { between, field, report } = &soaked;
-    output.fill(|to| vectors::write(to, field))?;
-    let (summary, unit) = (Summary::of(field, job.model.mass()), drawing.unit.as_deref().unwrap_or("K"));
-    let title = drawing.title.clone().unwrap_or_else(|| job.title());
-    series.fill(&job.series(between), &title, unit)?;
-    if let Some(plot) = &plot {
-        let picture = Picture { title, quantity: "temperature", unit, field, summary: &summary, geometry: geometry.as_ref() };
-        let names: Vec<String> = job.stages.iter().enumerate().map(|(i, stage)| stage.called(i)).collect();
-        plot.fill(|to| to.write_all(drawn(&picture, &job.start.numbers, between, &names).as_bytes()))?;
+    let mut done = vec![];
+    let soaked = if request.is_one_by_one() && counted { job.one_by_one(sinks.folder.as_ref(), &mut done) } else { job.in_one_call() };
+    let seconds = begun.elapsed().as_secs_f64();
+    tell_terminal(&format!("soak: {seconds:.3} s"));
+    let ended = Ended { job: &job, sinks: &sinks, series: job.series(&done), done, seconds };
+    match soaked {
+        Ok(soaked) => ended.finish(&soaked),
+        Err(refused) => ended.refused(*refused),
     }
-    tell(&format!(
-        "stages: {} stages, {} applications, {} substeps, {} rejected",
-        job.stages.len(),
-        report.applications,
-        report.substeps,
-        report.rejected
-    ));
-    tell_terminal(&format!("soak: {}", summary.line(unit)));
-    let told = not_finite(&summary, field.len(), heating.as_ref(), &request.files.matrix.to_string(), true);
-    told.map_or(Ok(()), |told| Err(Failure::NotFinite(told)))
 }
 
-/// With places a map of the last field, else a curve for the start and one for each stage.
-fn drawn(picture: &Picture, start: &[f64], between: &[Vec<f64>], names: &[String]) -> String {
-    if picture.geometry.is_some() {
-        return picture.main();
+/// Where stages are written, each tried before the run.
+struct Sinks<'a> {
+    output: Sink,
+    plot: Option<Sink>,
+    folder: Option<Folder<'a>>,
+    series: series::Sinks,
+    reports: report::Sinks,
+}
+
+impl<'a> Sinks<'a> {
+    fn open(request: &'a Request, rows: usize) -> Result<Self, Failure> {
+        let output = Sink::open(&request.output)?;
+        let plot = request.plot.as_deref().map(Sink::open).transpose()?;
+        let reports = report::Sinks::open(&request.reports)?;
+        let folder = request.every_stage.as_deref().map(Folder::open).transpose()?;
+        request.series.check(rows)?;
+        Ok(Sinks { output, plot, folder, series: request.series.open()?, reports })
     }
-    let labelled = between.iter().zip(names).map(|(field, name)| (format!("stage {name}"), field.as_slice()));
-    let curves: Vec<(String, &[f64])> = std::iter::once(("start".into(), start)).chain(labelled).collect();
-    plot::curves(picture, &curves)
+}
+
+/// A schedule after its run.
+struct Ended<'a> {
+    job: &'a Job<'a>,
+    sinks: &'a Sinks<'a>,
+    /// Those that were run one by one.
+    done: Vec<Done>,
+    series: Series,
+    seconds: f64,
+}
+
+impl Ended<'_> {
+    /// The field is written whatever it holds; that it is not finite has a status of its own.
+    fn finish(&self, soaked: &Soaked) -> Result<(), Failure> {
+        let Soaked { field, report } = soaked;
+        let (job, unit, title) = (self.job, self.job.request.unit(), self.job.title());
+        self.sinks.output.fill(|to| vectors::write(to, field))?;
+        let summary = Summary::of(field, job.model.mass());
+        self.sinks.series.fill(&self.series, &title, unit)?;
+        if let Some(plot) = &self.sinks.plot {
+            let picture = Picture { title, quantity: "temperature", unit, field, summary: &summary, geometry: job.geometry.as_ref() };
+            plot.fill(|to| to.write_all(self.drawn(&picture).as_bytes()))?;
+        }
+        let told = not_finite(&summary, field.len(), job.heating.as_ref(), &job.request.files.matrix.to_string(), true);
+        self.report(job.warnings().into_iter().chain(told.clone()).collect(), *report, None)?;
+        tell(&format!(
+            "stages: {} stages, {} applications, {} substeps, {} rejected",
+            job.stages.len(),
+            report.applications,
+            report.substeps,
+            report.rejected
+        ));
+        tell_terminal(&format!("soak: {}", summary.line(unit)));
+        told.map_or(Ok(()), |told| Err(Failure::NotFinite(told)))
+    }
+
+    /// The field that is left goes where the field would go; a comment says what it is, and as a vector it reads back.
+    fn refused(&self, Refused { failure, left }: Refused) -> Result<(), Failure> {
+        if let Some((field, what)) = &left {
+            self.sinks.output.fill(|to| {
+                writeln!(to, "# not the field after all stages: {what}")?;
+                vectors::write(to, field)
+            })?;
+            tell(&format!("soak: what is written is not the field after all stages: {what}"));
+        }
+        if let Failure::RefusedStage { refusal, place, stage } = &failure {
+            let left = left.as_ref().map(|(_, what)| what.as_str());
+            let told = report::stages::Refused { refusal: *refusal, place: place.as_deref(), stage: *stage, left };
+            let mut spent = StagedReport::default();
+            self.done.iter().for_each(|done| add(&mut spent, &done.cost));
+            self.report(self.job.warnings(), spent, Some(told))?;
+        }
+        Err(failure)
+    }
+
+    fn report(&self, warnings: Vec<String>, spent: StagedReport, refused: Option<report::stages::Refused>) -> Result<(), Failure> {
+        let Ended { job, done, series, seconds, .. } = self;
+        let report = report::stages::Report {
+            request: job.request,
+            title: &job.title(),
+            unit: job.request.unit(),
+            rows: job.rows(),
+            entries: job.model.matrix().entries.len(),
+            mass: job.model.mass(),
+            start: &job.start.numbers,
+            stages: &job.stages,
+            done,
+            spent,
+            series,
+            geometry: job.geometry.as_ref(),
+            seconds: *seconds,
+            warnings: &warnings,
+            refused,
+        };
+        self.sinks.reports.fill(|kind| report.text(kind))
+    }
+
+    /// With places a map of the last field, else a curve for the start and one for each stage.
+    fn drawn(&self, picture: &Picture) -> String {
+        match picture.geometry {
+            Some(_) => picture.main(),
+            None => plot::curves(picture, &schedule::curves(&self.job.start.numbers, &self.job.stages, &self.done)),
+        }
+    }
 }
 
 struct Job<'a> {
@@ -130,37 +215,62 @@ struct Job<'a> {
     model: Model<'a>,
     start: Vector,
     stages: Vec<Stage>,
+    geometry: Option<Geometry>,
+    heating: Option<Heating>,
 }
 
-impl Job<'_> {
+impl<'a> Job<'a> {
+    fn read(request: &'a Request) -> Result<Self, Failure> {
+        let model = Model::read(&request.files)?;
+        let start = request.start.vector()?;
+        let stages = schedule::read(&request.schedule)?;
+        request.guarded().reads(stages.iter().flat_map(|stage| &stage.vectors).map(|vector| &vector.source)).check()?;
+        let geometry = points::of(&request.drawing, model.matrix().n, &request.files.matrix)?;
+        let heating = Heating::of(&model.matrix());
+        Ok(Job { request, model, start, stages, geometry, heating })
+    }
+
+    fn rows(&self) -> usize {
+        self.model.matrix().n
+    }
+
+    fn warnings(&self) -> Vec<String> {
+        self.heating.iter().map(|heating| heating.warning(&self.request.files.matrix.to_string())).collect()
+    }
+
     /// The library's own call.
     fn in_one_call(&self) -> Result<Soaked, Box<Refused>> {
         let further: Vec<Vec<&[f64]>> = self.stages.iter().map(Stage::further).collect();
         let of = |(stage, further): (&Stage, _)| hazhendu::Stage { tau: stage.tau, further, solver: stage.solver };
         let schedule: Vec<hazhendu::Stage> = self.stages.iter().zip(further.iter().map(Vec::as_slice)).map(of).collect();
         match stages(&self.model.matrix(), &schedule, &self.start.numbers) {
-            Ok(staged) => Ok(Soaked { between: vec![], field: staged.field, report: staged.report }),
+            Ok(staged) => Ok(Soaked { field: staged.field, report: staged.report }),
             Err(StageError::OutOfMemory { doubles }) => Err(Failure::OutOfMemory { doubles }.into()),
             Err(StageError::Refused { refusal, stage, field }) => Err(self.refused(refusal, stage as usize, field)),
         }
     }
 
     /// Each stage as a call of its own, to the same bits and counts, with a line about it and its field written where that is asked for.
-    fn one_by_one(&self, folder: Option<&Folder>) -> Result<Soaked, Box<Refused>> {
-        let mut soaked = Soaked { between: vec![], field: self.start.numbers.clone(), report: StagedReport::default() };
+    fn one_by_one(&self, folder: Option<&Folder>, done: &mut Vec<Done>) -> Result<Soaked, Box<Refused>> {
+        let mut soaked = Soaked { field: self.start.numbers.clone(), report: StagedReport::default() };
         for (i, stage) in self.stages.iter().enumerate() {
-            let mut line = Line::new();
-            line.write(&schedule::line(stage, i, self.stages.len()));
-            let made = self.single(i, &soaked.field);
-            drop(line);
+            let made = self.watched(i, &soaked.field);
             let (field, cost) = made.map_err(|error| self.refused_single(error, i, &soaked))?;
             tell(&format!("stage {}: {}", stage.called(i), cost_line(&cost)));
             add(&mut soaked.report, &cost);
             folder.map_or(Ok(()), |folder| folder.write(i, stage, &field))?;
-            soaked.between.push(field.clone());
+            done.push(Done { field: field.clone(), cost });
             soaked.field = field;
         }
         Ok(soaked)
+    }
+
+    /// A stage, with a line about it on a terminal that tells how long it has been running.
+    fn watched(&self, i: usize, field: &[f64]) -> Result<(Vec<f64>, Cost), Error> {
+        let told = schedule::line(&self.stages[i], i, self.stages.len());
+        let mut line = Line::new();
+        line.write(&told);
+        line.during(|gone| format!("{told}, {}", progress::lasting(gone)), || self.single(i, field))
     }
 
     /// A vector of the wrong length is put to the library alone, for it to refuse by 16 in its place.
@@ -203,18 +313,6 @@ impl Job<'_> {
         Box::new(Refused { failure, left: left.map(|field| (field, what)) })
     }
 
-    /// The field that is left goes where the field would go; a comment says what it is, and as a vector it reads back.
-    fn leave(&self, output: &Sink, Refused { failure, left }: Refused) -> Result<Soaked, Failure> {
-        if let Some((field, what)) = left {
-            output.fill(|to| {
-                writeln!(to, "# not the field after all stages: {what}")?;
-                vectors::write(to, &field)
-            })?;
-            tell(&format!("soak: what is written is not the field after all stages: {what}"));
-        }
-        Err(failure)
-    }
-
     /// Where a refusal has its cause.
     fn place(&self, refusal: Refusal, stage: usize) -> Option<String> {
         let Some(at) = stage.checked_sub(1).and_then(|i| self.stages.get(i)) else {
@@ -252,12 +350,12 @@ impl Job<'_> {
         })
     }
 
-    /// The start, and the field after each stage, at its time.
-    fn series(&self, between: &[Vec<f64>]) -> Series {
+    /// The start, and the field after each stage that was run, at its time.
+    fn series(&self, done: &[Done]) -> Series {
         let mut series = Series::new(self.request.series.node, "stage", "temperature");
         let mut time = 0.0;
         series.push(time, &self.start.numbers, self.model.mass());
-        for (stage, field) in self.stages.iter().zip(between) {
+        for (stage, Done { field, .. }) in self.stages.iter().zip(done) {
             time += stage.tau;
             series.push(time, field, self.model.mass());
         }
@@ -265,7 +363,8 @@ impl Job<'_> {
     }
 
     fn title(&self) -> String {
-        format!("{}, {}", self.request.files.matrix.short_name(), self.request.schedule.short_name())
+        let usual = || format!("{}, {}", self.request.files.matrix.short_name(), self.request.schedule.short_name());
+        self.request.drawing.title.clone().unwrap_or_else(usual)
     }
 }
 

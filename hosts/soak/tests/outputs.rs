@@ -498,3 +498,98 @@ fn a_report_says_what_was_taken_and_why() {
         .success());
     assert!(fs::read_to_string(&report).unwrap().contains(r#""chosen":[]"#));
 }
+
+/// A report of each kind.
+fn reported(name: &str, words: &str) -> (Option<i32>, [Option<String>; 3]) {
+    let reports = ["html", "json", "csv"].map(|kind| scratch(&format!("{name}.{kind}")));
+    let named: String = reports.iter().map(|path| format!(" --report {}", path.display())).collect();
+    let output = run(&format!("{words}{named} --output /dev/null"));
+    (output.status.code(), reports.map(|path| fs::read_to_string(path).ok()))
+}
+
+fn has_all(text: &Option<String>, parts: &[&str]) {
+    let text = text.as_deref().unwrap();
+    parts.iter().for_each(|part| assert!(text.contains(part), "no {part} in {text}"));
+}
+
+const STAGES: &str = "stages rod.mtx --mass mass.txt --start start.txt --schedule";
+
+#[test]
+fn stages_have_a_page_and_lists_for_programs() {
+    let (status, [html, json, csv]) = reported("staged", &format!("{STAGES} stages.csv --unit °C"));
+    assert_eq!(status, Some(0));
+    has_all(&html, &["<!DOCTYPE html>", "Soaked in 3 stages.", "Stage by stage", "2 (hold)", "temperature over the time", "°C", "8 rows"]);
+    has_all(&html, &["180 applications", "krylov, tol 1e-8, m 4", "stages rod.mtx --mass mass.txt", "time of the call", "heating.txt"]);
+    has_all(&json, &["\"status\":0", "\"refusal\":null", "\"name\":\"hold\"", "\"until\":690", "\"applications\":910", "\"field\":[23.69"]);
+    has_all(&csv, &["row,start,stage 1 (warm-up),stage 2 (hold),stage 3 (cool-down)\n1,20,"]);
+    // The last column is the field of the call alone.
+    let field = String::from_utf8(run(&format!("{STAGES} stages.csv")).stdout).unwrap();
+    let last: String = csv.unwrap().lines().skip(1).map(|line| line.rsplit(',').next().unwrap().to_owned() + "\n").collect();
+    assert_eq!(last, field);
+}
+
+#[test]
+fn a_page_of_stages_has_the_map() {
+    let points = scratch("stages-rz.txt");
+    let boxes: String = (0..8).map(|i| format!("0 5 {} {}\n", 10 * i, 10 * i + 10)).collect();
+    fs::write(&points, format!("# r0/mm r1/mm z0/mm z1/mm\n{boxes}")).unwrap();
+    let (_, [html, json, csv]) = reported("staged-map", &format!("{STAGES} stages.csv --points {}", points.display()));
+    has_all(&html, &["temperature over z and r", "temperature along z", ">z, mm<"]);
+    has_all(&json, &["\"axes\":[\"z, mm\",\"r, mm\"]", "\"places\":[[5,2.5]"]);
+    has_all(&csv, &["row,z/mm,r/mm,start,stage 1 (warm-up)"]);
+}
+
+#[test]
+fn refused_stages_have_a_page_of_those_before() {
+    let (status, [html, json, csv]) = reported("staged-refused", &format!("{STAGES} stages-limit.csv"));
+    assert_eq!((status, csv), (Some(27), None));
+    has_all(
+        &html,
+        &["Refused at stage ", "there is no field after all stages", "raise the limit", "What follows is of the stage before it"],
+    );
+    has_all(&json, &["\"status\":27", "\"number\":27", "\"stage\":2", "the state after the last accepted substep of stage 2"]);
+    let (status, [html, json, csv]) = reported("staged-none", &format!("{STAGES} stages-65.csv"));
+    assert_eq!((status, csv), (Some(37), None));
+    has_all(&html, &["Refused before any stage: there is no field."]);
+    has_all(&json, &["\"status\":37", "\"stage\":0", "\"left\":null"]);
+}
+
+#[test]
+fn a_log_has_a_page_and_lists_for_programs() {
+    let (status, [html, json, csv]) = reported("logged", &format!("{LOG} --records log.csv --window 2"));
+    assert_eq!(status, Some(0));
+    has_all(
+        &html,
+        &["Soaked through 5 records.", "temperature of row 8 over the time, the band of the last 2 records", "5 records", "8 rows"],
+    );
+    has_all(&html, &["products with the generator, by the plans", "The field after record 5", "temperature over the rows", "log rod.mtx"]);
+    has_all(&json, &["\"status\":0", "\"node\":8", "\"until\":[600,1200,1500,2100,2160]", "\"not_a_number_after\":null", "\"field\":["]);
+    // As single soaks make them.
+    let made = |tau: u32| {
+        let told = run(&format!("rod.mtx --mass mass.txt --tau {tau} --vector start.txt --vector losses.txt --solver taylor"));
+        let told = String::from_utf8(told.stderr).unwrap();
+        told.trim().rsplit(", ").next().and_then(|last| last.split(' ').next()).unwrap().parse::<u64>().unwrap()
+    };
+    has_all(&json, &[&format!("\"applications\":{}", 3 * made(600) + made(300) + made(60))]);
+    // Without record and time it is the table of results.
+    let results = String::from_utf8(run(&format!("{LOG} --records log.csv --window 2")).stdout).unwrap();
+    let without = |line: &str| line.splitn(3, ',').nth(2).unwrap().to_owned() + "\n";
+    assert_eq!(csv.unwrap().lines().map(without).collect::<String>(), results);
+}
+
+#[test]
+fn a_log_that_is_not_whole_has_a_page_of_what_there_is() {
+    let (status, [html, json, csv]) = reported("log-refused", &format!("{LOG} --records log-negative.csv --window 2"));
+    assert_eq!((status, csv), (Some(14), None));
+    has_all(&html, &["Refused at record 3 of 4.", "give a finite time of 0 or more", "What follows is of the 2 records before it."]);
+    has_all(&json, &["\"status\":14", "\"record\":3", "\"until\":[600,660]"]);
+    let nan = "log difference.mtx --field three-zeros.txt --load large-load.txt --records log-nan.csv --node 1 --window 2";
+    let (status, [html, json, csv]) = reported("log-not-a-number", nan);
+    assert_eq!((status, csv), (Some(82), None));
+    has_all(&html, &["Not a number after record 3 of 3.", "what to change", "not finite"]);
+    has_all(&json, &["\"status\":82", "\"not_a_number_after\":3", "\"refusal\":null"]);
+    let (status, [html, json, _]) = reported("log-none", &format!("{LOG} --records log-none.csv --window 2"));
+    assert_eq!(status, Some(39));
+    has_all(&html, &["Refused before any record: there is no result."]);
+    has_all(&json, &["\"status\":39", "\"temperatures\":[]"]);
+}
