@@ -3,11 +3,10 @@
 
     samples/table.py FOLDER
 
-For each barrel it reads spacer.json (samples/make.py), and for each solver the report, SOLVER.json; for a soak in stages the field after each
-and what soak told of it, stages.log; for a logged day its results, log.csv, and the field at its end, log.txt. Status 1 if the solvers differ by more than ALLOWED.
+For each barrel it reads spacer.json (samples/make.py), and the reports: SOLVER.json for each solver, stages.json for a soak in stages, log.json for
+a logged day. Status 1 if the solvers differ by more than ALLOWED.
 """
 
-import csv
 import json
 import os
 import sys
@@ -27,8 +26,8 @@ def work_done(cost):
     return f"{cost['substeps']} substeps, {cost['applications']} applications, {cost['rejected']} rejected, error {cost['estimated_error']:.3g}"
 
 
-def read_report(folder, barrel, solver):
-    with open(os.path.join(folder, barrel.name, f"{solver}.json")) as file:
+def read_report(folder, barrel, name):
+    with open(os.path.join(folder, barrel.name, f"{name}.json")) as file:
         return json.load(file)
 
 
@@ -42,42 +41,29 @@ def rows_of(folder, barrel):
     return max(abs(a - b) for a, b in zip(*(report["field"] for report in reports)))
 
 
-def numbers_of(*places):
-    with open(os.path.join(*places)) as file:
-        return [float(line) for line in file if not line.startswith("#")]
-
-
 def stages_of(folder, barrel):
     """A line for each stage: its time, the power, what it cost, and the field after it."""
-    folder = os.path.join(folder, barrel.name)
-    capacity = numbers_of(folder, "capacity.txt")
-    with open(os.path.join(folder, "stages.log")) as file:
-        told = [line.split(": ", 1)[1].strip() for line in file if line.startswith("stage ")]
+    report = read_report(folder, barrel, "stages")
     power = sum(part.power for part in barrel.parts)
-    for i, (phase, line) in enumerate(zip(barrel.phases, told)):
-        field = numbers_of(folder, "stages", f"stage-{i + 1:02}.txt")
-        change = spacer_change(os.path.join(folder, "spacer.json"), field)
-        mean = sum(c * t for c, t in zip(capacity, field)) / sum(capacity)
-        applications = next(part for part in line.split(", ") if part.endswith(" applications"))
-        work = f"{phase.name} at {power * phase.share:g} W, {applications}"
+    for i, (phase, stage) in enumerate(zip(barrel.phases, report["stages"])):
+        change = spacer_change(os.path.join(folder, barrel.name, "spacer.json"), stage["field"])
+        work = f"{phase.name} at {power * phase.share:g} W, {stage['cost']['applications']} applications"
         head = ("in stages", "", "") if i == 0 else ("", "", "")
-        print(COLUMNS.format(*head, f"{phase.tau:g}", phase.solver, work, f"{max(field):.4f}", f"{mean:.4f}", f"{change * 1e6:+.4f}"))
+        hottest, mean = stage["hottest"]["value"], stage["mean"]
+        print(COLUMNS.format(*head, f"{phase.tau:g}", phase.solver, work, f"{hottest:.4f}", f"{mean:.4f}", f"{change * 1e6:+.4f}"))
 
 
 def day_of(folder, barrel):
     """A line for the logged day: from where to where the cell went, how far at most within a window, and the field at the end."""
-    folder = os.path.join(folder, barrel.name)
-    with open(os.path.join(folder, "log.csv"), newline="") as file:
-        records = [{name: float(x) for name, x in record.items()} for record in csv.DictReader(file)]
-    capacity, field = numbers_of(folder, "capacity.txt"), numbers_of(folder, "log.txt")
-    change = spacer_change(os.path.join(folder, "spacer.json"), field)
-    mean = sum(c * t for c, t in zip(capacity, field)) / sum(capacity)
-    shown = [record["temperature"] for record in records]
-    moved = max(record["largest"] - record["smallest"] for record in records)
-    seconds = sum(record["duration"] for record in records)
+    report = read_report(folder, barrel, "log")
+    change = spacer_change(os.path.join(folder, barrel.name, "spacer.json"), report["field"])
+    hottest, mean = report["hottest"]["value"], report["mean"]
+    shown = report["temperatures"]
+    moved = max(largest - smallest for largest, smallest in zip(report["largest"], report["smallest"]))
+    seconds = sum(report["durations"])
     hours = barrel.day.every * barrel.day.window / 3600
-    work = f"{len(records)} records, lens {min(shown):.2f} to {max(shown):.2f} K, {moved:.2f} K in {hours:g} h"
-    print(COLUMNS.format("under a log", "", "", f"{seconds:g}", "taylor", work, f"{max(field):.4f}", f"{mean:.4f}", f"{change * 1e6:+.4f}"))
+    work = f"{len(shown)} records, lens {min(shown):.2f} to {max(shown):.2f} K, {moved:.2f} K in {hours:g} h"
+    print(COLUMNS.format("under a log", "", "", f"{seconds:g}", "taylor", work, f"{hottest:.4f}", f"{mean:.4f}", f"{change * 1e6:+.4f}"))
 
 
 def main():

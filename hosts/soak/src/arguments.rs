@@ -12,7 +12,7 @@ use crate::plan;
 use crate::report;
 use crate::rotate;
 use crate::series;
-use crate::sink::is_standard_output;
+use crate::sink::{is_device, is_standard_output};
 use crate::stages;
 use crate::steps::Tightening;
 use hazhendu::sizes::MAX_DEGREE;
@@ -74,10 +74,10 @@ impl Drawing {
 }
 
 impl Request {
-    /// Where the state goes that a refused run leaves, never under the field's name; Taylor leaves none.
+    /// Where the state goes that a refused run leaves, never under the field's name; Taylor leaves none. A device or a pipe gets it itself.
     pub fn state(&self) -> Option<PathBuf> {
         let mut name = self.output.clone().into_os_string();
-        if !is_standard_output(&self.output) {
+        if !is_standard_output(&self.output) && !is_device(&self.output) {
             name.push(".state");
         }
         self.solver.may_leave_state().then_some(name.into())

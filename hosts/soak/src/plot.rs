@@ -41,14 +41,19 @@ impl Picture<'_> {
 
     /// All pictures, each with a word on what it shows.
     pub fn all(&self) -> Vec<(String, String)> {
-        match self.geometry {
-            Some(geometry) => vec![
-                (format!("{} over {} and {}", self.quantity, bare(&geometry.across), bare(&geometry.up)), map::draw(self, geometry)),
-                (format!("{} along {}", self.quantity, bare(&geometry.across)), along::draw(self, geometry)),
-                (format!("{} over the rows", self.quantity), profile::draw(self)),
-            ],
-            None => vec![(format!("{} over the rows", self.quantity), profile::draw(self))],
-        }
+        let mut pictures = self.placed();
+        pictures.push((format!("{} over the rows", self.quantity), profile::draw(self)));
+        pictures
+    }
+
+    /// Those that need places.
+    pub fn placed(&self) -> Vec<(String, String)> {
+        let Some(geometry) = self.geometry else { return vec![] };
+        let (across, up) = (bare(&geometry.across), bare(&geometry.up));
+        vec![
+            (format!("{} over {across} and {up}", self.quantity), map::draw(self, geometry)),
+            (format!("{} along {across}", self.quantity), along::draw(self, geometry)),
+        ]
     }
 
     fn label(&self) -> String {

@@ -51,6 +51,11 @@ pub fn is_standard_output(name: &Path) -> bool {
     name.as_os_str() == "-"
 }
 
+/// A device or a pipe, which has no place beside it.
+pub fn is_device(name: &Path) -> bool {
+    fs::metadata(name).is_ok_and(|found| !found.is_file() && !found.is_dir())
+}
+
 /// A file beside the place is made and taken away again.
 fn tried(name: &Path) -> io::Result<Place> {
     let path = name.canonicalize().unwrap_or_else(|_| name.to_owned());

@@ -170,7 +170,7 @@ impl Run<'_> {
         }
         let transposed = if request.files.transposed { ", transposed" } else { "" };
         let matrix = request.files.matrix.short_name();
-        format!("{matrix}{transposed}, tau {}, {}", shortest(request.tau), choice::name(self.taken.solver))
+        format!("{matrix}{transposed}, tau {} s, {}", shortest(request.tau), choice::name(self.taken.solver))
     }
 
     fn report(&self, outcome: Outcome) -> Result<(), Failure> {

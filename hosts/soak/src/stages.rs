@@ -144,6 +144,9 @@ impl Ended<'_> {
         let summary = Summary::of(field, job.model.mass());
         self.sinks.series.fill(&self.series, &title, unit)?;
         if let Some(plot) = &self.sinks.plot {
+            let after =
+                job.geometry.as_ref().and(job.stages.last()).map(|last| format!(", after stage {}", last.called(job.stages.len() - 1)));
+            let title = title + &after.unwrap_or_default();
             let picture = Picture { title, quantity: "temperature", unit, field, summary: &summary, geometry: job.geometry.as_ref() };
             plot.fill(|to| to.write_all(self.drawn(&picture).as_bytes()))?;
         }

@@ -330,7 +330,7 @@ fn a_plot_has_axes_labels_and_a_curve() {
     assert!(run(&words).status.success());
     let text = fs::read_to_string(&plot).unwrap();
     assert!(text.starts_with("<svg ") && text.ends_with("</svg>\n"));
-    for part in [">row</text>", ">temperature, K</text>", "files/rod.mtx, tau 60, taylor", ">18</text>", "#a50026"] {
+    for part in [">row</text>", ">temperature, K</text>", "files/rod.mtx, tau 60 s, taylor", ">18</text>", "#a50026"] {
         assert!(text.contains(part), "no {part}");
     }
 }
@@ -340,12 +340,21 @@ fn a_map_has_a_scale_and_the_parts() {
     let (points, outline, plot) = (scratch("rz.txt"), scratch("parts.txt"), scratch("map.svg"));
     let boxes: String = (0..8).map(|i| format!("0 5 {} {}\n", 10 * i, 10 * i + 10)).collect();
     fs::write(&points, format!("# r0/mm r1/mm z0/mm z1/mm\n{boxes}")).unwrap();
-    fs::write(&outline, "0 5 0 40 cold <end>\n0 5 40 80 warm end\n").unwrap();
+    fs::write(&outline, "0 5 0 40 cold <end>\n0 5 40 80 warm end\n4 5 10 12 a sensor & its wire\n").unwrap();
     let job = "rod.mtx --mass mass.txt --tau 60 --vector start.txt --title Rod --unit °C";
     let words = format!("{job} --points {} --outline {} --plot {}", points.display(), outline.display(), plot.display());
     assert!(run(&words).status.success());
     let text = fs::read_to_string(&plot).unwrap();
-    for part in [">Rod<", ">z, mm<", ">r, mm<", ">temperature, °C<", ">cold &lt;end&gt;<", ">warm end<", "stroke-dasharray"] {
+    for part in [
+        ">Rod<",
+        ">z, mm<",
+        ">r, mm<",
+        ">temperature, °C<",
+        ">cold &lt;end&gt;<",
+        ">warm end<",
+        ">1: a sensor &amp; its wire<",
+        "stroke-dasharray",
+    ] {
         assert!(text.contains(part), "no {part}");
     }
 }
@@ -519,7 +528,10 @@ fn stages_have_a_page_and_lists_for_programs() {
     let (status, [html, json, csv]) = reported("staged", &format!("{STAGES} stages.csv --unit °C"));
     assert_eq!(status, Some(0));
     has_all(&html, &["<!DOCTYPE html>", "Soaked in 3 stages.", "Stage by stage", "2 (hold)", "temperature over the time", "°C", "8 rows"]);
-    has_all(&html, &["180 applications", "krylov, tol 1e-8, m 4", "stages rod.mtx --mass mass.txt", "time of the call", "heating.txt"]);
+    has_all(
+        &html,
+        &[">180</td>", ">910</td>", "krylov, tol 1e-8, m 4", "stages rod.mtx --mass mass.txt", "time of the call", "heating.txt"],
+    );
     has_all(&json, &["\"status\":0", "\"refusal\":null", "\"name\":\"hold\"", "\"until\":690", "\"applications\":910", "\"field\":[23.69"]);
     has_all(&csv, &["row,start,stage 1 (warm-up),stage 2 (hold),stage 3 (cool-down)\n1,20,"]);
     // The last column is the field of the call alone.

@@ -4,6 +4,7 @@ use super::svg::{Anchor, Svg};
 
 /// Ticks that an axis has about.
 const WANTED: f64 = 7.0;
+const COARSE: f64 = 4.0;
 
 /// The values of an axis's ends, and its round ticks between them.
 pub struct Scale {
@@ -26,9 +27,29 @@ impl Scale {
         Scale::between((middle - room).max(f64::MIN), (middle + room).min(f64::MAX))
     }
 
-    /// Halves, since the whole range may be too large for a double.
+    /// The rows of a field, from 1: ticks are whole.
+    pub fn rows(count: usize) -> Scale {
+        match count {
+            0 | 1 => Scale { low: 0.0, high: 2.0, step: 1.0 },
+            _ => {
+                let scale = Scale::between(1.0, count as f64);
+                Scale { step: scale.step.max(1.0), ..scale }
+            }
+        }
+    }
+
+    /// With fewer ticks, for an axis that is short.
+    pub fn coarse(self) -> Scale {
+        Scale::with_ticks(self.low, self.high, COARSE)
+    }
+
     fn between(low: f64, high: f64) -> Scale {
-        let raw = (high / 2.0 - low / 2.0) / WANTED * 2.0;
+        Scale::with_ticks(low, high, WANTED)
+    }
+
+    /// Halves, since the whole range may be too large for a double.
+    fn with_ticks(low: f64, high: f64, wanted: f64) -> Scale {
+        let raw = (high / 2.0 - low / 2.0) / wanted * 2.0;
         let power = 10f64.powf(raw.log10().floor());
         let step = [1.0, 2.0, 5.0, 10.0].map(|factor| factor * power).into_iter().find(|step| *step >= raw).unwrap_or(raw);
         Scale { low, high, step: if step > 0.0 && step.is_finite() { step } else { raw } }
@@ -164,5 +185,18 @@ mod tests {
         let day = Scale::of([0.0, 24.0].into_iter()).stepped(&[1.0, 3.0, 6.0]);
         assert_eq!(day.ticks(), [0.0, 3.0, 6.0, 9.0, 12.0, 15.0, 18.0, 21.0, 24.0]);
         assert_eq!(labels(1.0, 8.0), ["1", "2", "3", "4", "5", "6", "7", "8"]);
+        assert_eq!(Scale::of([17.4, 21.6].into_iter()).coarse().ticks(), [18.0, 20.0]);
+    }
+
+    #[test]
+    fn rows_are_whole() {
+        let labels = |count| {
+            let scale = Scale::rows(count);
+            scale.ticks().into_iter().map(|tick| scale.label(tick)).collect::<Vec<_>>()
+        };
+        assert_eq!(labels(1), ["0", "1", "2"]);
+        assert_eq!(labels(2), ["1", "2"]);
+        assert_eq!(labels(3), ["1", "2", "3"]);
+        assert_eq!(labels(60), ["10", "20", "30", "40", "50", "60"]);
     }
 }

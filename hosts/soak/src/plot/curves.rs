@@ -1,7 +1,7 @@
 //! Several fields over their rows, one curve each.
 
 use super::axis::Scale;
-use super::colour::{colour, SHADES};
+use super::colour::of_curve;
 use super::profile::{curve, FRAME};
 use super::svg::{Anchor, Svg};
 use super::Picture;
@@ -9,16 +9,18 @@ use super::Picture;
 /// Names that stand beside the curves at most.
 const NAMED: usize = 16;
 
-/// From the first in blue to the last in red; the picture's own field gives title and words.
+/// The first in grey, the others in the order of their colours; the picture's own field, which is the last, gives title and words.
 pub fn draw(picture: &Picture, curves: &[(String, &[f64])]) -> String {
-    let mut svg = Svg::new(900.0, 392.0, &picture.title, &picture.subtitle());
-    let rows = Scale::of([1.0, picture.field.len().max(1) as f64].into_iter());
+    let mut below = picture.subtitle();
+    below.text = curves.last().map_or(String::new(), |(name, _)| format!("after {name}: ")) + &below.text;
+    let mut svg = Svg::new(900.0, 392.0, &picture.title, &below);
+    let rows = Scale::rows(picture.field.len());
     let scale = Scale::of(curves.iter().flat_map(|(_, field)| field.iter().copied())).rounded();
     FRAME.across(&mut svg, &rows, "row");
     FRAME.up(&mut svg, &scale, &picture.label(), true);
     FRAME.border(&mut svg);
     for (i, (name, field)) in curves.iter().enumerate() {
-        let stroke = colour(i * (SHADES - 1) / curves.len().saturating_sub(1).max(1));
+        let stroke = of_curve(i, curves.len());
         let style = format!(r##"stroke="{stroke}" stroke-width="1.5" stroke-linecap="round" stroke-linejoin="round" fill="none""##);
         svg.path(&curve(field, &rows, &scale), &style);
         if i < NAMED {

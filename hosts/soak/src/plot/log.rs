@@ -37,7 +37,7 @@ pub fn draw(curves: &Curves) -> String {
     let mut svg = Svg::new(960.0, 512.0, &curves.title, &curves.below(&time));
     let shown = curves.temperatures.iter().chain(curves.largest).chain(curves.smallest).copied();
     let temperatures = Scale::of(std::iter::once(curves.start).chain(shown)).widened().rounded();
-    let levels = Scale::of(curves.levels.iter().copied()).widened().rounded();
+    let levels = Scale::of(curves.levels.iter().copied()).widened().coarse().rounded();
     ABOVE.upright(&mut svg, &time.scale);
     BELOW.upright(&mut svg, &time.scale);
     ABOVE.up(&mut svg, &temperatures, &format!("temperature, {}", curves.unit), true);

@@ -14,6 +14,12 @@ const LEAST_HEIGHT: f64 = 150.0;
 /// Above so many cells, patches of a grid are drawn, each with the mean of its rows, about ten to a patch.
 const MOST_CELLS: usize = 20_000;
 
+/// The width of a letter of a part's name.
+const LETTER: f64 = 6.3;
+/// The key of parts whose names have no room: letters of a line, and its height.
+const KEY_WIDTH: usize = 100;
+const KEY_LINE: f64 = 15.0;
+
 /// One cell of the map: its corners, and the value it shows.
 type Patch = (Vec<[f64; 2]>, f64);
 
@@ -22,9 +28,10 @@ pub fn draw(picture: &Picture, geometry: &Geometry) -> String {
     let places = || polygons.iter().flatten().copied().chain(geometry.corners());
     let (across, up) = (Scale::of(places().map(|p| p[0])), Scale::of(places().map(|p| p[1])));
     let (frame, per_unit) = fitted(&across, &up);
-    let mut svg = Svg::new(frame.right + 130.0, frame.bottom + 52.0, &picture.title, &picture.subtitle());
-    let scale = picture.scale();
     let page = |[x, y]: [f64; 2]| (frame.left + (x - across.low) * per_unit[0], frame.bottom - (y - up.low) * per_unit[1]);
+    let key = key(&geometry.parts, page);
+    let mut svg = Svg::new(frame.right + 130.0, frame.bottom + 52.0 + KEY_LINE * key.len() as f64, &picture.title, &picture.subtitle());
+    let scale = picture.scale();
 
     let drawn = match polygons.is_empty() {
         true => patches(picture.field, geometry, &across, &up),
@@ -43,6 +50,13 @@ pub fn draw(picture: &Picture, geometry: &Geometry) -> String {
     frame.across(&mut svg, &across, &geometry.across);
     frame.up(&mut svg, &up, &geometry.up, false);
     scale_bar(&mut svg, picture, &frame, &scale);
+    for (i, line) in key.iter().enumerate() {
+        svg.push(&format!(
+            r#"<text x="20" y="{:.1}" font-size="11">{}</text>"#,
+            frame.bottom + 54.0 + KEY_LINE * i as f64,
+            super::escaped(line)
+        ));
+    }
     svg.end()
 }
 
@@ -88,30 +102,74 @@ fn cells(svg: &mut Svg, patches: Vec<Patch>, scale: &Scale, page: impl Fn([f64; 
     }
 }
 
-fn outlines(svg: &mut Svg, parts: &[Part], page: impl Fn([f64; 2]) -> (f64, f64)) {
-    for part in parts {
+/// A part as it lies on the page.
+struct Outline<'a> {
+    name: &'a str,
+    left: f64,
+    right: f64,
+    top: f64,
+    bottom: f64,
+}
+
+impl<'a> Outline<'a> {
+    fn of(part: &'a Part, page: impl Fn([f64; 2]) -> (f64, f64)) -> Self {
         let (left, bottom) = page([part.across[0], part.up[0]]);
         let (right, top) = page([part.across[1], part.up[1]]);
-        svg.path(&closed([(left, bottom), (right, bottom), (right, top), (left, top)]), r#"fill="none" stroke="black" stroke-width="0.8""#);
-        name(svg, &part.name, [left, right], [top, bottom]);
+        Outline { name: &part.name, left, right, top, bottom }
+    }
+
+    fn length(&self) -> f64 {
+        LETTER * self.name.chars().count() as f64
+    }
+
+    fn is_wide(&self) -> bool {
+        self.right - self.left > self.length() && self.bottom - self.top > 12.0
+    }
+
+    fn is_high(&self) -> bool {
+        self.bottom - self.top > self.length() && self.right - self.left > 12.0
+    }
+
+    fn has_no_room(&self) -> bool {
+        !self.name.is_empty() && !self.is_wide() && !self.is_high()
+    }
+
+    fn middle(&self) -> (f64, f64) {
+        ((self.left + self.right) / 2.0, (self.top + self.bottom) / 2.0)
     }
 }
 
-/// A part's name in its middle, upright where it is wide enough, upwards where it is high enough, else as a title that a pointer shows.
-fn name(svg: &mut Svg, name: &str, [left, right]: [f64; 2], [top, bottom]: [f64; 2]) {
-    let length = 6.3 * name.chars().count() as f64;
-    let (x, y) = ((left + right) / 2.0, (top + bottom) / 2.0);
+/// A part's name in its middle, across where it is wide enough, upwards where it is high enough, else a number that the key has.
+fn outlines(svg: &mut Svg, parts: &[Part], page: impl Fn([f64; 2]) -> (f64, f64)) {
     let halo = r#"font-size="11" text-anchor="middle" stroke="white" stroke-width="2.5" stroke-opacity="0.75" paint-order="stroke""#;
-    let text = super::escaped(name);
-    if right - left > length && bottom - top > 12.0 {
-        svg.push(&format!(r#"<text x="{x:.1}" y="{:.1}" {halo}>{text}</text>"#, y + 4.0));
-    } else if bottom - top > length && right - left > 12.0 {
-        svg.push(&format!(r#"<text transform="translate({:.1} {y:.1})rotate(-90)" {halo}>{text}</text>"#, x + 4.0));
-    } else {
-        svg.push(&format!(
-            r#"<path d="M{left:.1} {top:.1}H{right:.1}V{bottom:.1}H{left:.1}z" fill-opacity="0"><title>{text}</title></path>"#
-        ));
+    let mut number = 0;
+    for part in parts.iter().map(|part| Outline::of(part, &page)) {
+        let Outline { left, right, top, bottom, .. } = part;
+        svg.path(&closed([(left, bottom), (right, bottom), (right, top), (left, top)]), r#"fill="none" stroke="black" stroke-width="0.8""#);
+        let ((x, y), text) = (part.middle(), super::escaped(part.name));
+        if part.has_no_room() {
+            number += 1;
+            svg.push(&format!(r#"<text x="{x:.1}" y="{:.1}" {halo}>{number}<title>{text}</title></text>"#, y + 4.0));
+        } else if part.is_wide() {
+            svg.push(&format!(r#"<text x="{x:.1}" y="{:.1}" {halo}>{text}</text>"#, y + 4.0));
+        } else if part.is_high() {
+            svg.push(&format!(r#"<text transform="translate({:.1} {y:.1})rotate(-90)" {halo}>{text}</text>"#, x + 4.0));
+        }
     }
+}
+
+/// The names that have no room in their parts, numbered in order, in lines.
+fn key(parts: &[Part], page: impl Fn([f64; 2]) -> (f64, f64)) -> Vec<String> {
+    let names = parts.iter().map(|part| Outline::of(part, &page)).filter(Outline::has_no_room);
+    let mut lines: Vec<String> = vec![];
+    for (i, part) in names.enumerate() {
+        let entry = format!("{}: {}", i + 1, part.name);
+        match lines.last_mut() {
+            Some(line) if line.chars().count() + entry.chars().count() < KEY_WIDTH => *line += &format!(", {entry}"),
+            _ => lines.push(entry),
+        }
+    }
+    lines
 }
 
 /// Marks at the hottest and the coldest row.

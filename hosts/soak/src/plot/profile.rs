@@ -1,6 +1,7 @@
 //! A field over its rows.
 
 use super::axis::{Frame, Scale};
+use super::colour::NOT_FINITE;
 use super::svg::{Anchor, Svg};
 use super::Picture;
 use std::fmt::Write;
@@ -8,11 +9,13 @@ use std::fmt::Write;
 pub const FRAME: Frame = Frame { left: 90.0, right: 740.0, top: 64.0, bottom: 340.0 };
 /// Points that the curve has at most, two for each column of the picture.
 const COLUMNS: usize = 640;
+/// Up to so many rows each has a dot.
+const DOTTED: usize = 60;
 
 pub fn draw(picture: &Picture) -> String {
     let mut svg = Svg::new(760.0, 392.0, &picture.title, &picture.subtitle());
     let n = picture.field.len();
-    let rows = Scale::of([1.0, n.max(1) as f64].into_iter());
+    let rows = Scale::rows(n);
     let scale = picture.scale().rounded();
     FRAME.across(&mut svg, &rows, "row");
     FRAME.up(&mut svg, &scale, &picture.label(), true);
@@ -22,15 +25,19 @@ pub fn draw(picture: &Picture) -> String {
         &curve(picture.field, &rows, &scale),
         r##"stroke="#a50026" stroke-width="1.5" stroke-linecap="round" stroke-linejoin="round" fill="none""##,
     );
+    if n <= DOTTED {
+        svg.path(&dots(picture.field, &rows, &scale), r##"stroke="#a50026" stroke-width="5" stroke-linecap="round" fill="none""##);
+    }
     if picture.summary.not_finite == n && n > 0 {
-        svg.label(
-            (FRAME.left + FRAME.right) / 2.0,
-            (FRAME.top + FRAME.bottom) / 2.0,
-            Anchor::Middle,
-            "nothing to draw: no number is finite",
-        );
+        let middle = (FRAME.top + FRAME.bottom) / 2.0 - 8.0;
+        svg.label((FRAME.left + FRAME.right) / 2.0, middle, Anchor::Middle, "nothing to draw: no number is finite");
     }
     svg.end()
+}
+
+fn dots(field: &[f64], rows: &Scale, scale: &Scale) -> String {
+    let finite = field.iter().enumerate().filter(|(_, value)| value.is_finite());
+    finite.map(|(i, value)| format!("M{:.1} {:.1}h0", FRAME.x(rows, (i + 1) as f64), FRAME.y(scale, *value))).collect()
 }
 
 /// The blocks of rows that share a column of the picture.
@@ -39,7 +46,7 @@ fn blocks(field: &[f64]) -> impl Iterator<Item = (f64, &[f64])> {
     field.chunks(width).enumerate().map(move |(block, values)| ((block * width + 1) as f64, values))
 }
 
-/// What is not finite is a red line from top to bottom.
+/// What is not finite is a line from top to bottom, with a word on it.
 fn gaps(svg: &mut Svg, field: &[f64], rows: &Scale) {
     let mut path = String::new();
     for (row, values) in blocks(field) {
@@ -48,7 +55,11 @@ fn gaps(svg: &mut Svg, field: &[f64], rows: &Scale) {
         }
     }
     if !path.is_empty() {
-        svg.path(&path, r##"stroke="#ff00ff" stroke-opacity="0.5" stroke-width="1.5""##);
+        let style = format!(r#"stroke="{NOT_FINITE}" stroke-opacity="0.6" stroke-width="2.5""#);
+        svg.path(&path, &style);
+        let (x, y) = (FRAME.right - 90.0, FRAME.bottom + 34.0);
+        svg.path(&format!("M{x:.1} {:.1}v12", y - 6.0), &style);
+        svg.label(x + 8.0, y + 4.0, Anchor::Start, "not finite");
     }
 }
 

@@ -26,13 +26,12 @@ pub fn draw(series: &Series, title: &str, unit: &str) -> String {
     let dotted = series.moments.len() <= DOTTED;
     for (i, (name, colour, value)) in curves.iter().enumerate() {
         let points = points(series, &time, &scale, value);
-        let broken = if dotted { r#" stroke-dasharray="5 4" stroke-opacity="0.7""# } else { "" };
-        let stroke = format!(r#"stroke="{colour}" stroke-width="1.5" stroke-linecap="round" stroke-linejoin="round" fill="none"{broken}"#);
+        let stroke = stroke(colour, name, dotted);
         let dot = format!(r#"stroke="{colour}" stroke-width="5" stroke-linecap="round" fill="none""#);
         svg.path(&way(&points), &stroke);
         let (x, y) = (FRAME.right + 14.0, FRAME.top + 8.0 + 18.0 * i as f64);
         svg.path(&format!("M{x:.1} {y:.1}h18"), &stroke);
-        if dotted {
+        if dotted && !is_node(name) {
             let dots: String = points.iter().flatten().map(|(x, y)| format!("M{x:.1} {y:.1}h0")).collect();
             svg.path(&format!("{dots}M{x:.1} {y:.1}h0M{:.1} {y:.1}h0", x + 18.0), &dot);
         }
@@ -41,15 +40,30 @@ pub fn draw(series: &Series, title: &str, unit: &str) -> String {
     svg.end()
 }
 
+/// A row that is asked for lies wide and pale below the others: it may be the hottest or the coldest.
+fn stroke(colour: &str, name: &str, dotted: bool) -> String {
+    let kind = match (is_node(name), dotted) {
+        (true, _) => r#" stroke-width="7" stroke-opacity="0.35""#,
+        (false, true) => r#" stroke-width="1.5" stroke-dasharray="5 4" stroke-opacity="0.7""#,
+        (false, false) => r#" stroke-width="1.5""#,
+    };
+    format!(r#"stroke="{colour}"{kind} stroke-linecap="round" stroke-linejoin="round" fill="none""#)
+}
+
+fn is_node(name: &str) -> bool {
+    name.starts_with("row ")
+}
+
 fn curves(series: &Series) -> Vec<Curve<'_>> {
-    let mut curves: Vec<Curve> = vec![
-        ("hottest row".into(), "#a50026", Box::new(|moment| moment.hottest.map(|extreme| extreme.value))),
-        ("mean".into(), "#555555", Box::new(|moment| moment.mean)),
-        ("coldest row".into(), "#4575b4", Box::new(|moment| moment.coldest.map(|extreme| extreme.value))),
-    ];
+    let mut curves: Vec<Curve> = vec![];
     if let Some(node) = series.node {
         curves.push((format!("row {node}"), "#1b7837", Box::new(|moment| moment.value.filter(|value| value.is_finite()))));
     }
+    curves.extend::<[Curve; 3]>([
+        ("hottest row".into(), "#a50026", Box::new(|moment| moment.hottest.map(|extreme| extreme.value))),
+        ("mean".into(), "#555555", Box::new(|moment| moment.mean)),
+        ("coldest row".into(), "#4575b4", Box::new(|moment| moment.coldest.map(|extreme| extreme.value))),
+    ]);
     curves
 }
 

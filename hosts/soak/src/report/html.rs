@@ -59,7 +59,7 @@ fn asked(report: &Report) -> Vec<Named> {
     let request = report.request;
     let mut rows = page::model(&request.files, report.rows, report.entries);
     rows.extend(request.vectors.iter().enumerate().map(|(k, source)| (format!("w_{k}"), source.to_string())));
-    rows.push(("tau".into(), shortest(request.tau)));
+    rows.push(("tau".into(), format!("{} s", shortest(request.tau))));
     let transposed = if request.files.transposed { ", on the transposed matrix" } else { "" };
     rows.push(("solver".into(), format!("{}{transposed}", solver(&report.taken.solver))));
     rows.extend(report.taken.told.iter().map(|line| ("chosen".into(), line.trim_start_matches("auto: ").to_owned())));

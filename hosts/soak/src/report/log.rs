@@ -110,7 +110,7 @@ impl Report<'_> {
         }
     }
 
-    /// When the last result is.
+    /// When the field is.
     fn when(&self) -> String {
         match (&self.end, self.curves.temperatures.len()) {
             (End::NotANumber(record), _) => format!("after record {record}"),
@@ -128,7 +128,7 @@ impl Report<'_> {
         };
         let last = temperatures.last().map_or("none".into(), |x| format!("{} {unit}", rounded(*x)));
         vec![
-            (format!("row {row}, {}", self.when()), last),
+            (format!("row {row}, after record {}", temperatures.len()), last),
             ("its largest after a record".into(), extreme(hottest)),
             ("its smallest".into(), extreme(coldest)),
         ]
@@ -163,7 +163,7 @@ impl Report<'_> {
             return format!("<p>{count} records: --results or a report as JSON or CSV lists them.</p>\n");
         }
         let temperature = format!("temperature, {}", self.curves.unit);
-        let names = ["record", "until", "duration", "level", &temperature, "largest", "smallest"];
+        let names = ["record", "until, s", "duration, s", "level", &temperature, "largest", "smallest"];
         let line = |(i, numbers): (usize, [f64; 6])| std::iter::once((i + 1).to_string()).chain(numbers.map(shortest)).collect();
         let lines: Vec<Vec<String>> = self.results().enumerate().map(line).collect();
         folded(&counted(count), &names.map(|name| (name, Column::Number)), &lines)

@@ -73,8 +73,7 @@ impl Report<'_> {
         let mut body = self.told();
         if let (Some(last), Some(summary)) = (self.done.last(), self.summary()) {
             let picture = self.picture(&last.field, &summary);
-            let took = table(self.took());
-            let field = page::field(&picture);
+            let (took, field) = (self.took(), page::field(&picture));
             body += &table(summed(&summary, self.unit));
             body += &figures(&self.pictures(&picture));
             body += &format!("<h2>Stage by stage</h2>\n{}<h2>What it took</h2>\n{took}", self.by_stage());
@@ -118,13 +117,13 @@ impl Report<'_> {
         Picture { title, quantity: "temperature", unit: self.unit, field, summary, geometry: self.geometry }
     }
 
-    /// With places all of the last field; then all stages over the rows and over the time.
+    /// With places those of the last field; then all stages over the rows and over the time.
     fn pictures(&self, picture: &Picture) -> Vec<Named> {
-        let mut pictures = if self.geometry.is_some() { picture.all() } else { vec![] };
+        let mut pictures = picture.placed();
         let over_rows = Picture { title: self.title.to_owned(), geometry: None, ..*picture };
         pictures.push(("temperature over the rows, at the start and after each stage".into(), plot::curves(&over_rows, &self.curves())));
         let over_time = plot::series(self.series, self.title, self.unit);
-        pictures.push(("temperature over the time, at the start and after each stage".into(), over_time));
+        pictures.push(("temperature over the time, at the start and after each stage; nothing is computed between them".into(), over_time));
         pictures
     }
 
@@ -133,26 +132,28 @@ impl Report<'_> {
         let names = [named("hottest"), named("coldest"), named("mean")];
         let [hottest, coldest, mean] = [&names[0], &names[1], &names[2]].map(|name| (name.as_str(), Column::Number));
         let row = ("in row", Column::Number);
-        let head = [("stage", Column::Words), ("until", Column::Number), hottest, row, coldest, row, mean, ("what it took", Column::Words)];
-        let after_each = self.done.iter().zip(self.series.moments.iter().skip(1)).enumerate();
-        let rows: Vec<Vec<String>> = after_each.map(|(i, (done, moment))| cells(self.stages[i].called(i), done, moment)).collect();
+        let head = [("stage", Column::Words), ("until, s", Column::Number), hottest, row, coldest, row, mean];
+        let after_each = self.series.moments.iter().skip(1).enumerate();
+        let rows: Vec<Vec<String>> = after_each.map(|(i, moment)| cells(self.stages[i].called(i), moment)).collect();
         columns(&head, &rows)
     }
 
-    fn took(&self) -> Vec<Named> {
-        vec![
-            ("products with the generator".into(), self.spent.applications.to_string()),
-            ("substeps of krylov".into(), self.spent.substeps.to_string()),
-            ("lengths rejected".into(), self.spent.rejected.to_string()),
-            seconds(self.seconds),
-        ]
+    /// A line for each stage that was run, and their sums.
+    fn took(&self) -> String {
+        let names = ["products with the generator", "substeps", "lengths rejected", "estimated error"];
+        let head: Vec<(&str, Column)> = std::iter::once(("stage", Column::Words)).chain(names.map(|name| (name, Column::Number))).collect();
+        let mut lines: Vec<Vec<String>> =
+            self.done.iter().enumerate().map(|(i, done)| work(self.stages[i].called(i), &done.cost)).collect();
+        let StagedReport { applications, substeps, rejected } = self.spent;
+        lines.push(vec!["all".into(), applications.to_string(), substeps.to_string(), rejected.to_string(), String::new()]);
+        columns(&head, &lines) + &table(vec![seconds(self.seconds)])
     }
 
     fn asked(&self) -> String {
         let mut rows = page::model(&self.request.files, self.rows, self.entries);
         rows.push(("start".into(), self.request.start.to_string()));
         rows.push(("schedule".into(), format!("{}, {} stages", self.request.schedule, self.stages.len())));
-        let head = [("stage", Column::Words), ("tau", Column::Number), ("solver", Column::Words), ("vectors", Column::Words)];
+        let head = [("stage", Column::Words), ("tau, s", Column::Number), ("solver", Column::Words), ("vectors", Column::Words)];
         let stage = |(i, stage): (usize, &Stage)| {
             vec![stage.called(i), shortest(stage.tau), solver(&stage.solver), sources(stage).collect::<Vec<_>>().join(", ")]
         };
@@ -209,27 +210,23 @@ fn refusal(refused: &Refused) -> String {
 }
 
 /// What a stage came to.
-fn cells(name: String, done: &Done, moment: &Moment) -> Vec<String> {
+fn cells(name: String, moment: &Moment) -> Vec<String> {
     let extreme = |extreme: &Option<Extreme>| {
         extreme.map_or(["none is finite".into(), String::new()], |Extreme { row, value }| [rounded(value), (row + 1).to_string()])
     };
     let mut cells = vec![name, shortest(moment.time)];
     cells.extend(extreme(&moment.hottest));
     cells.extend(extreme(&moment.coldest));
-    cells.extend([moment.mean.map_or("none".into(), rounded), work(&done.cost)]);
+    cells.push(moment.mean.map_or("none".into(), rounded));
     cells
 }
 
-/// In few words.
-fn work(cost: &Cost) -> String {
+fn work(name: String, cost: &Cost) -> Vec<String> {
     match cost {
-        Cost::Taylor(plan) => format!("{} applications", plan.applications),
-        Cost::Krylov(report) => format!(
-            "{} applications in {} substeps, {} rejected, error {}",
-            report.matvecs,
-            report.substeps,
-            report.rejected,
-            rounded(report.estimated_error)
-        ),
+        Cost::Taylor(plan) => vec![name, plan.applications.to_string(), String::new(), String::new(), String::new()],
+        Cost::Krylov(report) => {
+            let counts = [report.matvecs, report.substeps, report.rejected].map(|count| count.to_string());
+            std::iter::once(name).chain(counts).chain([rounded(report.estimated_error)]).collect()
+        }
     }
 }
