@@ -137,6 +137,9 @@ struct Given {
 
 pub fn parse(words: impl Iterator<Item = OsString>) -> Result<Command, Failure> {
     let mut words = words.skip(1).peekable();
+    if words.next_if(|word| word == "help").is_some() {
+        return Ok(Command::Help);
+    }
     let check = words.next_if(|word| word == "check").is_some();
     let plan = !check && words.next_if(|word| word == "plan").is_some();
     let join = !check && !plan && words.next_if(|word| word == "join").is_some();
@@ -286,7 +289,7 @@ impl Given {
     fn files(&mut self) -> Result<Files, Failure> {
         let matrix = match self.matrices.len() {
             0 | 1 => self.matrices.pop().ok_or_else(|| Failure::Usage("MATRIX is missing".into()))?,
-            _ => return Err(Failure::Usage("MATRIX is given twice".into())),
+            _ => return Err(Failure::Usage(format!("MATRIX is given twice: {} and {}", self.matrices[0], self.matrices[1]))),
         };
         Ok(Files { matrix, mass: self.mass.take(), transposed: std::mem::take(&mut self.transposed) })
     }

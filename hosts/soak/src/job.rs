@@ -55,6 +55,11 @@ impl<'a> Job<'a> {
         combine(solver, &self.model.matrix(), tau, count, &w).map_err(|error| self.failure(error))
     }
 
+    /// The norm of the generator, if the matrix is accepted.
+    pub fn norm(&self) -> Option<f64> {
+        self.model.check().ok().map(|largest| largest.norm)
+    }
+
     /// What a Taylor soak over this time costs, if it has a plan.
     pub fn plan(&self, tau: f64, options: TaylorOptions) -> Option<Plan> {
         let planned = if self.request.files.transposed { transposed::taylor_plan } else { taylor_plan };
@@ -112,7 +117,7 @@ impl<'a> Job<'a> {
             20 => Some("--m or --limit".into()),
             21 | 22 => Some("--tau and the vectors from the second on".into()),
             25 => Some(format!("--tau {}, {}{}", shortest(self.request.tau), self.request.files.matrix, self.degree())),
-            24 => Some(format!("--tau {} and {}", shortest(self.request.tau), self.request.files.matrix)),
+            24 | 29 => Some(format!("--tau {} and {}", shortest(self.request.tau), self.request.files.matrix)),
             27 => Some("--limit".into()),
             28 => Some("--m; a soak of its own without --solver takes another m by itself, then taylor".into()),
             _ => self.model.place(refusal),

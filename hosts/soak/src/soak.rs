@@ -27,9 +27,12 @@ pub fn run(request: &Request) -> Result<(), Failure> {
     request.frames.as_ref().map_or(Ok(()), Frames::open)?;
     let sinks = Sinks::open(request)?;
     let heating = Heating::of(&job.matrix());
-    let warnings = heating.iter().map(|heating| heating.warning(&request.files.matrix.to_string())).collect();
+    let mut warnings: Vec<String> = heating.iter().map(|heating| heating.warning(&request.files.matrix.to_string())).collect();
     request.series.check(job.matrix().n)?;
     let taken = Taken::of(request.solver, &job, request.tau)?;
+    if let Solver::Krylov(options) = taken.solver {
+        warnings.extend(job.norm().and_then(|norm| warnings::below_round_off(options.tol, request.tau, norm)));
+    }
     let series = Series::new(request.series.node, "substep", quantity(request));
     let mut run = Run { request, job, taken, geometry, sinks, heating, warnings, series, seconds: 0.0 };
     run.warnings.iter().for_each(|warning| tell(warning));

@@ -1,7 +1,7 @@
 //! What a reader of the field should know: rows of the matrix that heat themselves, and fields that conduction cannot give.
 
 use crate::summary::rounded;
-use hazhendu::Matrix;
+use hazhendu::{shortest, KrylovOptions, Matrix};
 
 /// Rows are named up to so many.
 const NAMED: usize = 8;
@@ -104,9 +104,24 @@ pub fn beyond(field: &[f64], tau: f64, vectors: &[&[f64]], unit: &str) -> Option
     })
 }
 
+/// A warning where a tol tighter than the usual one is below what one substep's round-off counts for.
+pub fn below_round_off(tol: f64, tau: f64, norm: f64) -> Option<String> {
+    let round_off = tau * norm * f64::EPSILON;
+    let asked = tol > 0.0 && tol < KrylovOptions::default().tol;
+    (asked && tol < round_off && round_off.is_finite()).then(|| {
+        format!(
+            "soak: warning: a tol of {} is below round-off, which it does not govern: tau times the norm times 2.2e-16 is {}\n  \
+             what to change: nothing is gained below a tol of {}; the estimated error counts round-off in each substep",
+            shortest(tol),
+            rounded(round_off),
+            rounded(round_off)
+        )
+    })
+}
+
 #[cfg(test)]
 mod tests {
-    use super::{beyond, reachable, Heating};
+    use super::{below_round_off, beyond, reachable, Heating};
     use hazhendu::Matrix;
 
     fn heating(entries: [f64; 4]) -> Option<(Vec<usize>, bool)> {
@@ -130,6 +145,13 @@ mod tests {
         let heating = Heating::of(&Matrix::new(20, &starts, &columns, &[-1.0; 20])).unwrap();
         assert_eq!(heating.told("A.mtx"), "rows 1, 2, 3, 4, 5, 6, 7, 8 and 12 more of A.mtx heat themselves");
         assert!(heating.warning("A.mtx").contains("seems to be G itself"));
+    }
+
+    #[test]
+    fn a_tol_below_round_off_is_told() {
+        assert!(below_round_off(1e-16, 1800.0, 50.0).unwrap().contains("below a tol of 1.9984e-11"));
+        assert_eq!([1e-10, 1e-11, 0.0, f64::NAN].map(|tol| below_round_off(tol, 600.0, 50.0)), [None, None, None, None]);
+        assert_eq!([0.0, f64::MAX, f64::NAN].map(|tau| below_round_off(1e-16, tau, 50.0)), [None, None, None]);
     }
 
     #[test]
