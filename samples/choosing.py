@@ -3,9 +3,10 @@
 
     samples/choosing.py times         time, work and error of each way, at the barrels' own tau
     samples/choosing.py plates        the same on square plates, mild and stiffer
-    samples/choosing.py rule          what is taken where no solver is named, and the time of both
     samples/choosing.py accuracy      error of both solvers, and Krylov's estimate, over tau
     samples/choosing.py refusals      where Krylov refuses by 28, over tau and tol, for several m
+
+What is taken where no solver is named, beside the time of both, is measured by hosts/rust/examples/choosing.rs, without Python's part of a call.
 """
 
 import os
@@ -112,19 +113,6 @@ def plates():
             print(f"| {side**2} | {argument} | " + " | ".join(f"{seconds * 1e3:.3g}" for seconds in best) + " |", flush=True)
 
 
-def rule():
-    print("| job | entries and rows | tau × norm | plan's applications | taken | taylor, ms | krylov, ms |\n|---|---|---|---|---|---|---|")
-    jobs = [(barrel, *load(barrel), tau) for barrel, tau in BARRELS.items()]
-    for side in (8, 9, 10, 16, 32):
-        w = [np.cos(np.arange(side**2)), np.ones(side**2)]
-        jobs += [(f"plate of {side**2}", plate(side), None, w, argument / 8) for argument in (20, 60, 200, 1000, 10000)]
-    for name, a, mass, w, tau in jobs:
-        plan, argument = hazhendu.plan(a, tau, mass), tau * hazhendu.check(a, mass).norm
-        taken = hazhendu.soak(a, tau, w, mass).chosen[0].split(":")[0]
-        best = [timed(lambda: hazhendu.soak(a, tau, w, mass, solver=solver))[0] * 1e3 for solver in ("taylor", "krylov")]
-        print(f"| {name} | {a.nnz + a.shape[0]} | {argument:.2g} | {plan.applications} | {taken} | {best[0]:.3g} | {best[1]:.3g} |", flush=True)
-
-
 def start_norm(tau, w):
     """The 2-norm of the augmented start, to which tol and the estimate are relative, in the field's unit."""
     size = sum(tau**j * np.abs(w[j]).max() for j in range(1, len(w)))
@@ -170,7 +158,7 @@ def refusals():
 
 
 def main():
-    tables = {"times": times, "plates": plates, "rule": rule, "accuracy": accuracy, "refusals": refusals}
+    tables = {"times": times, "plates": plates, "accuracy": accuracy, "refusals": refusals}
     if len(sys.argv) != 2 or sys.argv[1] not in tables:
         sys.exit(__doc__)
     tables[sys.argv[1]]()

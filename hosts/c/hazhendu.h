@@ -266,7 +266,7 @@ enum {
 };
 
 /* The rule of hazhendu_choose: entries and rows together, and applications of a plan, up to which Taylor is taken; the m tried after 28. */
-enum { HAZHENDU_SMALL = 400, HAZHENDU_MILD = 600 };
+enum { HAZHENDU_SMALL = 350, HAZHENDU_MILD = 400 };
 #define HAZHENDU_OTHER_M {60, 20, 15}
 
 /* Why a job or a join is refused, and the double reported with it. The checks of a job run in number order, but for 33 directly after 14;
@@ -527,7 +527,8 @@ uint32_t hazhendu_combine(
 
 /* The plan of a Taylor job alone: s, plan_m, mu and the applications that its run over this matrix, tau and degree would report, by either of
    hazhendu_phi_combination and hazhendu_phi_action; a batch makes p + 1 times as many applications. It is refused as they are by 1 to 11, 14, 33,
-   24 and 25, and they not otherwise by these; then by 26. work needs hazhendu_plan_work, nothing without a mass. */
+   24 and 25, and they not otherwise by these; then by 26. work needs hazhendu_plan_work, nothing without a mass. The transposed matrix has no such
+   call of its own: put to this one, without a mass, what hazhendu_check_transposed has written to its buffers. */
 uint32_t hazhendu_taylor_plan(
     size_t n,
     const uint32_t *starts, size_t starts_len,

@@ -92,7 +92,10 @@ def join(barrel, mount):
 
 
 def plan(a, tau, mass=None, *, degree=memory.MAX_DEGREE, transposed=False):
-    """The plan of a Taylor job alone: what its run over this matrix, tau and degree would report, before it is run."""
+    """The plan of a Taylor job alone: what its run over this matrix, tau and degree would report, before it is run.
+
+    With transposed=True the transposed matrix is made first, and it is the plan of a transposed soak.
+    """
     if transposed:
         a, mass = transpose(a, mass), None
     matrix = Matrix(a, mass)

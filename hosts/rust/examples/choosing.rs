@@ -3,7 +3,7 @@
 //!     cargo run --release --offline --example choosing -- ../samples/out
 //!
 //! in hosts/, after samples/run. Each job is called by Taylor and by Krylov in turn, and of each the least processor time of the thread
-//! counts, of calls that fill a second or of at least seven: so other work on the machine matters little. Memory is part of a call, files are not.
+//! counts, of calls that fill half a second or of at least seven: so other work on the machine matters little. Memory is part of a call, files are not.
 
 use hazhendu::{choose, combine, matrix_market, taylor_plan, vectors, AutoOptions, Csr, Matrix, Solver, TaylorOptions};
 use std::fs::File;
@@ -12,11 +12,11 @@ use std::path::Path;
 
 const BARRELS: [&str; 3] = ["relay-35mm", "collimator-90mm", "zoom-two-groups"];
 const TAUS: [f64; 4] = [10.0, 100.0, 600.0, 1800.0];
-const SIDES: [usize; 8] = [4, 6, 8, 10, 12, 16, 32, 64];
+const SIDES: [usize; 9] = [4, 6, 8, 9, 10, 12, 16, 32, 64];
 /// Of tau times the norm.
-const ARGUMENTS: [f64; 8] = [20.0, 60.0, 100.0, 200.0, 400.0, 1000.0, 10_000.0, 50_000.0];
+const ARGUMENTS: [f64; 9] = [20.0, 30.0, 40.0, 50.0, 60.0, 100.0, 200.0, 1000.0, 10_000.0];
 /// A job that would make more by Taylor takes too long for a table.
-const MOST_WORK: f64 = 4e9;
+const MOST_WORK: f64 = 2e9;
 
 struct Job {
     name: String,
@@ -122,7 +122,7 @@ fn best(job: &Job, solvers: [Solver; 2]) -> [f64; 2] {
             let took = seconds() - at;
             *best = if soaked.is_ok() { best.min(took) } else { f64::INFINITY };
         }
-        if call >= 6 && seconds() - begun > 1.0 {
+        if call >= 6 && seconds() - begun > 0.5 {
             break;
         }
     }

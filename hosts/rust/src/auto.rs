@@ -5,9 +5,9 @@ use crate::{combine, sizes, taylor_plan, transposed, Cost, Error, KrylovOptions,
 use std::fmt;
 
 /// Up to so many entries and rows together an application of Taylor costs less than what Krylov's small exponential makes in its place.
-pub const SMALL: usize = 400;
+pub const SMALL: usize = 350;
 /// Up to so many applications Taylor costs about as much as the first few substeps of Krylov.
-pub const MILD: u64 = 600;
+pub const MILD: u64 = 400;
 /// The m that are tried in turn where Krylov is refused by 28, before Taylor is.
 pub const OTHER_DIMENSIONS: [usize; 3] = [60, 20, 15];
 
@@ -39,7 +39,7 @@ pub enum Why {
 impl fmt::Display for Why {
     fn fmt(&self, f: &mut fmt::Formatter) -> fmt::Result {
         match self {
-            Why::Small { size } => write!(f, "{size} entries and rows, and up to {SMALL} taylor is as fast or faster"),
+            Why::Small { size } => write!(f, "{size} entries and rows, and up to {SMALL} taylor is mostly as fast or faster"),
             Why::Mild { applications } => write!(f, "{applications} applications, and up to {MILD} taylor is about as fast"),
             Why::Stiff { applications } => write!(f, "taylor would make {applications} applications"),
             Why::NoPlan { number } => write!(f, "taylor is refused by {number}"),
@@ -122,7 +122,7 @@ pub struct Auto {
 /// let a = Matrix::new(2, &[0, 2, 4], &[0, 1, 0, 1], &[0.5, -0.5, -0.5, 0.6]).with_mass(&[8.0, 8.0]);
 /// let soaked = auto(&a, 60.0, 1, &[20.0, 20.0], AutoOptions::default())?;
 /// assert!(matches!(soaked.choice.solver, Solver::Taylor(_)));
-/// assert_eq!(soaked.choice.why.to_string(), "6 entries and rows, and up to 400 taylor is as fast or faster");
+/// assert_eq!(soaked.choice.why.to_string(), "6 entries and rows, and up to 350 taylor is mostly as fast or faster");
 /// # Ok::<(), hazhendu::Error>(())
 /// ```
 pub fn auto(a: &Matrix, tau: f64, count: usize, w: &[f64], options: AutoOptions) -> Result<Auto, Error> {

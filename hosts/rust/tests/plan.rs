@@ -93,9 +93,9 @@ fn small_and_mild_jobs_are_taken_by_taylor() {
     let options = AutoOptions::default();
     let taken = |n: u32, tau: f64| choose(&rod(n).0.matrix(), tau, 1, options).unwrap();
     let size = |n: usize| 4 * n - 2;
-    assert_eq!(size(100), 398);
-    assert!(size(100) <= SMALL && size(101) > SMALL);
-    assert_eq!(taken(100, 1e4).why, Why::Small { size: 398 });
+    assert_eq!(size(88), 350);
+    assert!(size(88) <= SMALL && size(89) > SMALL);
+    assert_eq!(taken(88, 1e4).why, Why::Small { size: 350 });
     assert!(matches!(taken(101, 10.0).why, Why::Mild { applications } if applications <= MILD));
     let stiff = taken(101, 1e4);
     assert!(matches!((stiff.why, stiff.solver), (Why::Stiff { applications }, Solver::Krylov(_)) if applications > MILD));

@@ -605,3 +605,13 @@ fn a_log_that_is_not_whole_has_a_page_of_what_there_is() {
     has_all(&html, &["Refused before any record: there is no result."]);
     has_all(&json, &["\"status\":39", "\"temperatures\":[]"]);
 }
+
+#[test]
+fn a_plan_is_what_the_run_takes_transposed_too() {
+    for (mass, transposed) in [("mass.txt", ""), ("mass-rising.txt", ""), ("mass.txt", "--transpose"), ("mass-rising.txt", "--transpose")] {
+        let model = format!("rod.mtx --mass {mass} --tau 600 {transposed}");
+        let planned = String::from_utf8(run(&format!("plan {model}")).stdout).unwrap();
+        let told = String::from_utf8(run(&format!("{model} --vector start.txt --vector heating.txt --solver taylor")).stderr).unwrap();
+        assert_eq!(planned.lines().next(), told.lines().next(), "{model}");
+    }
+}
