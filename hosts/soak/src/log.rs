@@ -300,7 +300,7 @@ impl<'a> Job<'a> {
                 tell(&self.told(&ran.temperatures));
                 let Some(field) = &ran.field else { return Ok(()) };
                 let summary = Summary::of(field, self.model.mass());
-                tell_terminal(&format!("soak: {}", summary.line(self.request.unit())));
+                tell_terminal(&format!("soak: {}", summary.line("temperature", self.request.unit())));
                 let told = not_finite(&summary, field.len(), self.heating.as_ref(), &matrix, self.request.output.is_some());
                 told.map_or(Ok(()), |told| Err(Failure::NotFinite(told)))
             }

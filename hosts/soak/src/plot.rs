@@ -68,12 +68,12 @@ impl Picture<'_> {
     /// One line below the title; what is not finite is said first.
     fn subtitle(&self) -> svg::Line {
         match self.summary.not_finite {
-            0 => svg::Line::plain(self.summary.line(self.unit)),
+            0 => svg::Line::plain(self.summary.line(self.quantity, self.unit)),
             count if count == self.field.len() => svg::Line::warning("no number of the field is finite".into()),
             count => svg::Line::warning(format!(
                 "{count} of {} rows are not finite; of the others: {}",
                 self.field.len(),
-                self.summary.line(self.unit)
+                self.summary.line(self.quantity, self.unit)
             )),
         }
     }

@@ -116,7 +116,7 @@ impl Run<'_> {
         self.sinks.series.fill(&self.series, &self.title(), unit)?;
         self.report(Outcome::Soaked { cost: &soaked.cost, picture: self.picture(field, &summary) })?;
         tell(&cost_line(&soaked.cost));
-        tell_terminal(&format!("soak: {}", summary.line(unit)));
+        tell_terminal(&format!("soak: {}", summary.line(quantity(self.request), unit)));
         not_finite.map_or(Ok(()), |told| Err(Failure::NotFinite(told)))
     }
 

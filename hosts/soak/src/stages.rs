@@ -159,7 +159,7 @@ impl Ended<'_> {
             report.substeps,
             report.rejected
         ));
-        tell_terminal(&format!("soak: {}", summary.line(unit)));
+        tell_terminal(&format!("soak: {}", summary.line("temperature", unit)));
         told.map_or(Ok(()), |told| Err(Failure::NotFinite(told)))
     }
 

@@ -46,15 +46,24 @@ impl Summary {
         }
     }
 
-    /// In one line, rows from 1.
-    pub fn line(&self, unit: &str) -> String {
+    /// In one line, rows from 1, of a temperature or a sensitivity.
+    pub fn line(&self, quantity: &str, unit: &str) -> String {
         let extreme = |name: &str, extreme: &Option<Extreme>| match extreme {
             Some(Extreme { row, value }) => format!("{name} {} {unit} in row {}", rounded(*value), row + 1),
             None => format!("no {name} row"),
         };
         let weighed = if self.by_mass { " (by mass)" } else { "" };
         let mean = self.mean.map_or("no mean".into(), |mean| format!("mean{weighed} {} {unit}", rounded(mean)));
-        format!("{}, {}, {mean}", extreme("hottest", &self.hottest), extreme("coldest", &self.coldest))
+        let [most, least] = extremes(quantity);
+        format!("{}, {}, {mean}", extreme(most, &self.hottest), extreme(least, &self.coldest))
+    }
+}
+
+/// What the extremes of a quantity are called.
+pub fn extremes(quantity: &str) -> [&'static str; 2] {
+    match quantity {
+        "temperature" => ["hottest", "coldest"],
+        _ => ["largest", "smallest"],
     }
 }
 
@@ -70,7 +79,8 @@ mod tests {
     #[test]
     fn extremes_are_the_first_and_means_are_weighed() {
         let summary = Summary::of(&[1.0, 3.0, f64::NAN, 3.0, 1.0], None);
-        assert_eq!(summary.line("K"), "hottest 3 K in row 2, coldest 1 K in row 1, mean 2 K");
+        assert_eq!(summary.line("temperature", "K"), "hottest 3 K in row 2, coldest 1 K in row 1, mean 2 K");
+        assert_eq!(summary.line("sensitivity", "K/K"), "largest 3 K/K in row 2, smallest 1 K/K in row 1, mean 2 K/K");
         assert_eq!((summary.not_finite, summary.first_not_finite.map(|first| first.row)), (1, Some(2)));
         assert_eq!(Summary::of(&[1.0, 3.0], Some(&[3.0, 1.0])).mean, Some(1.5));
         assert_eq!(Summary::of(&[f64::NAN], None).mean, None);

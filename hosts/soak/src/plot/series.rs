@@ -4,7 +4,7 @@ use super::axis::{Frame, Scale};
 use super::log::{shown, Time};
 use super::svg::{Anchor, Line, Svg};
 use crate::series::{Moment, Series};
-use crate::summary::{rounded, Extreme};
+use crate::summary::{extremes, rounded, Extreme};
 use std::fmt::Write;
 
 const FRAME: Frame = Frame { left: 90.0, right: 740.0, top: 64.0, bottom: 340.0 };
@@ -59,10 +59,11 @@ fn curves(series: &Series) -> Vec<Curve<'_>> {
     if let Some(node) = series.node {
         curves.push((format!("row {node}"), "#1b7837", Box::new(|moment| moment.value.filter(|value| value.is_finite()))));
     }
+    let [most, least] = extremes(series.quantity).map(|name| format!("{name} row"));
     curves.extend::<[Curve; 3]>([
-        ("hottest row".into(), "#a50026", Box::new(|moment| moment.hottest.map(|extreme| extreme.value))),
+        (most, "#a50026", Box::new(|moment| moment.hottest.map(|extreme| extreme.value))),
         ("mean".into(), "#555555", Box::new(|moment| moment.mean)),
-        ("coldest row".into(), "#4575b4", Box::new(|moment| moment.coldest.map(|extreme| extreme.value))),
+        (least, "#4575b4", Box::new(|moment| moment.coldest.map(|extreme| extreme.value))),
     ]);
     curves
 }
@@ -105,7 +106,8 @@ fn below(series: &Series, time: &Time, unit: &str) -> Line {
     };
     let hottest = all(|moment| moment.hottest).fold(None, |best, next| first(best, next, |a, b| a > b));
     let coldest = all(|moment| moment.coldest).fold(None, |best, next| first(best, next, |a, b| a < b));
+    let [most, least] = extremes(series.quantity);
     let count = series.moments.len().saturating_sub(1);
     let each = if count == 1 { series.each.to_owned() } else { format!("{}s", series.each) };
-    Line::plain(format!("{count} {each}: {}, {}", told("hottest", hottest), told("coldest", coldest)))
+    Line::plain(format!("{count} {each}: {}, {}", told(most, hottest), told(least, coldest)))
 }

@@ -39,7 +39,7 @@ fn soaked(report: &Report, cost: &Cost, picture: &Picture) -> String {
     took.push(seconds(report.seconds));
     format!(
         "{told}{}{}<h2>What it took</h2>\n{}<h2>The field</h2>\n{}",
-        table(summed(picture.summary, picture.unit)),
+        table(summed(picture)),
         figures(&pictures),
         table(took),
         page::field(picture)

@@ -75,7 +75,7 @@ impl Report<'_> {
             let title = format!("{}, {}", self.curves.title, self.when());
             let picture =
                 Picture { title, quantity: "temperature", unit: self.curves.unit, field, summary: &summary, geometry: self.geometry };
-            body += &format!("<h2>The field {}</h2>\n{}", self.when(), table(page::summed(&summary, self.curves.unit)));
+            body += &format!("<h2>The field {}</h2>\n{}", self.when(), table(page::summed(&picture)));
             body += &figures(&picture.all());
             body += &page::field(&picture);
         }

@@ -4,7 +4,7 @@ use super::command_line;
 use crate::model::Files;
 use crate::plot::{escaped, Picture};
 use crate::sink::is_standard_output;
-use crate::summary::{rounded, Extreme, Summary};
+use crate::summary::{extremes, rounded, Extreme, Summary};
 use hazhendu::{shortest, Cost, Refusal, Solver};
 use std::path::Path;
 
@@ -99,14 +99,16 @@ pub fn refused(refusal: Refusal, place: Option<&str>) -> Vec<Named> {
     rows
 }
 
-pub fn summed(summary: &Summary, unit: &str) -> Vec<Named> {
+pub fn summed(picture: &Picture) -> Vec<Named> {
+    let (summary, unit) = (picture.summary, picture.unit);
     let extreme = |extreme: &Option<Extreme>| {
         extreme.map_or("none is finite".into(), |Extreme { row, value }| format!("{} {unit}, row {}", rounded(value), row + 1))
     };
     let mean = if summary.by_mass { "mean, weighed by the mass" } else { "mean of the rows" };
+    let [most, least] = extremes(picture.quantity);
     vec![
-        ("hottest".into(), extreme(&summary.hottest)),
-        ("coldest".into(), extreme(&summary.coldest)),
+        (most.into(), extreme(&summary.hottest)),
+        (least.into(), extreme(&summary.coldest)),
         (mean.into(), summary.mean.map_or("none".into(), |mean| format!("{} {unit}", rounded(mean)))),
     ]
 }

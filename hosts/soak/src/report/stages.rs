@@ -74,7 +74,7 @@ impl Report<'_> {
         if let (Some(last), Some(summary)) = (self.done.last(), self.summary()) {
             let picture = self.picture(&last.field, &summary);
             let (took, field) = (self.took(), page::field(&picture));
-            body += &table(summed(&summary, self.unit));
+            body += &table(summed(&picture));
             body += &figures(&self.pictures(&picture));
             body += &format!("<h2>Stage by stage</h2>\n{}<h2>What it took</h2>\n{took}", self.by_stage());
             body += &format!("<h2>The field after {}</h2>\n{field}", self.last_name());
