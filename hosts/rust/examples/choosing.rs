@@ -60,7 +60,7 @@ fn read(folder: &Path, name: &str, tau: f64) -> Result<Job, Box<dyn std::error::
     Ok(Job { name: name.into(), csr, mass, tau, w })
 }
 
-/// A square plate of five entries a row; every second column of cells may be heavier, so that it is still warming up when the light ones
+/// A square plate of five entries a row; every second cell may be heavier, so that it is still warming up when the light ones
 /// have long come to rest.
 fn plate(side: usize, heavy: f64, argument: f64) -> Job {
     let n = side * side;

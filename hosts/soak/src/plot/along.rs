@@ -3,6 +3,7 @@
 use super::axis::{Frame, Scale};
 use super::svg::{closed, Anchor, Svg};
 use super::{Geometry, Picture};
+use crate::summary::extremes;
 use std::fmt::Write;
 
 const FRAME: Frame = Frame { left: 90.0, right: 740.0, top: 64.0, bottom: 340.0 };
@@ -38,7 +39,8 @@ pub fn draw(picture: &Picture, geometry: &Geometry) -> String {
         let _ = write!(mean, "{}{x:.1} {y:.1}h0", if mean.is_empty() { 'M' } else { 'L' });
     }
     svg.path(&mean, r##"stroke="#a50026" stroke-width="1.5" stroke-linecap="round" fill="none""##);
-    svg.label(FRAME.right, FRAME.bottom + 38.0, Anchor::End, "line: mean of the rows; band: coldest to hottest");
+    let [most, least] = extremes(picture.quantity);
+    svg.label(FRAME.right, FRAME.bottom + 38.0, Anchor::End, &format!("line: mean of the rows; band: {least} to {most}"));
     svg.end()
 }
 
