@@ -3,7 +3,6 @@ use mathlib.Core.Bool.{Bool, true, false}
 use mathlib.Core.List.{List, [], _∷_, _++_}
 use mathlib.Core.Path.{_≡_, refl, sym, ap, _∙_}
 use Prim.Native.Nat.{ℕ, _+_, _-_, _*_, _≤_, _<_}
-use native.Mathlib.Nat.{add-zero}
 use native.Mathlib.Numerals.{add-one}
 use native.Mathlib.Omega.{arith}
 use lib.ListN.{length, getD, set, take, drop}
@@ -16,17 +15,14 @@ use Rattle.lists.proofs.Bounds.{column-within, cell-within}
 use Rattle.lists.specs.Frame.{Kept}
 use Rattle.lists.proofs.Frame.{Wrote, wrote, wrote-set, written, untouched, wrote-long, kept-all, kept-by, kept-on}
 use Rattle.lists.proofs.Loop.{getD-tabulate, tabulate-ext, tabulate-snoc}
-use Rattle.lists.proofs.Window.{part-window, length-window, window-window, window-set-in, splice-comm, splice-splice}
+use Rattle.lists.proofs.Window.{part-window, length-window, window-set-in}
 use Rattle.doubles.specs.F64.{_⊘_, +0, 1f}
 use Rattle.vectors.specs.Vectors.{scale}
 use Rattle.vectors.proofs.Laws.{length-scale}
-use Rattle.general_operator.specs.Csr.{Csr, csr, apply-generator}
-use Rattle.general_operator.proofs.Rows.{length-apply}
+use Rattle.general_operator.specs.Csr.{Csr, csr}
 use Rattle.phi_action_helpers.specs.declared.Layout.{Layout}
 use Rattle.phi_action_helpers.specs.declared.Coupling.{Coupling}
-use Rattle.phi_action_helpers.specs.declared.Scales.{Scales}
-use Rattle.phi_action_helpers.specs.Augmented.{aug-matvec}
-use Rattle.phi_action_helpers.specs.Laid.{matrix-at, operator-of}
+use Rattle.phi_action_helpers.specs.Laid.{matrix-at}
 use Rattle.phi_action_helpers.proofs.Augmented.{length-aug-matvec}
 use Rattle.phi_action_helpers.proofs.Sweeps.{values-kept}
 use Rattle.arnoldi.specs.Basis.{Setting, len, norm2, apply, Rest, orthogonal, rest, broken, extend, arnoldi-step}
@@ -54,45 +50,9 @@ module _ {l : Layout} {k : Krylov} where
   room-kept starts cols vals {w₀ = w₀} {w = w} s h = rw (values-kept (l .mass) (l .q) vals w₀ w s, s .long) h
 
 module _ (l : Layout) (b : Coupling) (k : Krylov) (starts cols : List ℕ) (vals vectors : List Float) where
-  -- column j is copied
-  pub copied : (j : ℕ) {v x : ℕ} (w₀ w₁ : List Float) → Room l b k (matrix-at l starts cols vals w₀) v x (length w₀) → j ≤ k .m
-      → w₁ ≡ splice (l .w) (window (j * (l .n + l .d)) (l .n + l .d) w₀) w₀
-      → Wrote (l .w) (l .n + l .d) (window (j * (l .n + l .d)) (l .n + l .d) w₀) w₀ w₁ × Spared l k w₀ w₁
-  copied j w₀ w₁ r h e =
-      let m = l .n + l .d in
-      let f = column-within j (k .m + 1) m (omega arith) in
-      let t = wrote (l .w) m _ w₀ w₁ (length-window (j * m) m w₀ (omega arith)) e in
-      (t, spared-by (spared-all w₀) t (omega arith) (omega arith))
-
-  -- the copy and the product
-  pub product-made : (j : ℕ) {v x : ℕ} (w₀ w₁ w₂ : List Float) → Room l b k (matrix-at l starts cols vals w₀) v x (length w₀) → j ≤ k .m
-      → w₁ ≡ splice (l .w) (window (j * (l .n + l .d)) (l .n + l .d) w₀) w₀
-      → w₂ ≡ splice (l .w) (aug-matvec (operator-of l b (matrix-at l starts cols vals w₁) vectors) (record { shifted = false; tau = k .tau; one = 1f; mu = +0 }) (window (l .w) (l .n + l .d) w₁)) (splice (l .av) (apply-generator (matrix-at l starts cols vals w₁) (window (l .w) (l .n) w₁)) w₁)
-      → w₂ ≡ splice (l .w) (apply (setting-at l b k (matrix-at l starts cols vals w₀) vectors) (column (l .n + l .d) w₀ j)) (splice (l .av) (apply-generator (matrix-at l starts cols vals w₀) (window (j * (l .n + l .d)) (l .n) w₀)) w₀)
-  unfolding apply column
-  product-made j w₀ w₁ w₂ r h e₁ e₂ =
-      let n = l .n in
-      let m = l .n + l .d in
-      let s : Scales = record { shifted = false; tau = k .tau; one = 1f; mu = +0 } in
-      let c = window (j * m) m w₀ in
-      let t₁ = copied j w₀ w₁ r h e₁ in
-      let lc = t₁ .0 .size in
-      let q₁ = values-kept (l .mass) (l .q) vals w₀ w₁ (t₁ .1 .kept) in
-      let x-is : window (l .w) m w₁ ≡ c = written (t₁ .0) (omega arith) in
-      let front : (at : ℕ) (w : List Float) → window at n w ≡ window 0 n (window at m w) = λ at w. sym (window-window at m 0 n w (omega arith) ∙ rw (add-zero at)) in
-      let u-is : window (l .w) n w₁ ≡ window (j * m) n w₀ = front (l .w) w₁ ∙ ap (window 0 n) x-is ∙ sym (front (j * m) w₀) in
-      let q = matrix-at l starts cols vals w₀ in
-      let y = aug-matvec (operator-of l b q vectors) s c in
-      let g = apply-generator q (window (j * m) n w₀) in
-      let ly : length y ≡ m = length-aug-matvec (operator-of l b q vectors) s c in
-      e₂
-      ∙ (λ t. splice (l .w) (aug-matvec (operator-of l b (csr n starts cols (q₁ t)) vectors) s (x-is t)) (splice (l .av) (apply-generator (csr n starts cols (q₁ t)) (u-is t)) (e₁ t)))
-      ∙ ap (splice (l .w) y) (sym (splice-comm (l .w) (l .av) c g w₀ (omega arith)))
-      ∙ splice-splice (l .w) y c (splice (l .av) g w₀) (omega arith)
-
   -- the product, and then its parts taken away
   pub rested : (j : ℕ) {v x : ℕ} (w₀ w₁ w₂ : List Float) → Room l b k (matrix-at l starts cols vals w₀) v x (length w₀) → j ≤ k .m
-      → w₁ ≡ splice (l .w) (apply (setting-at l b k (matrix-at l starts cols vals w₀) vectors) (column (l .n + l .d) w₀ j)) (splice (l .av) (apply-generator (matrix-at l starts cols vals w₀) (window (j * (l .n + l .d)) (l .n) w₀)) w₀)
+      → w₁ ≡ splice (l .w) (apply (setting-at l b k (matrix-at l starts cols vals w₀) vectors) (column (l .n + l .d) w₀ j)) w₀
       → (let R = orthogonal (column (l .n + l .d) w₁) (k .m + 2) j (j + 1) (rest-at (l .n + l .d) (l .w) (k .h) (k .m + 2) w₁) in w₂ ≡ splice (l .w) (R .z) (splice (k .h) (R .h) w₁))
       → Rested l k (setting-at l b k (matrix-at l starts cols vals w₀) vectors) j w₀ w₂
   unfolding column rest
@@ -100,18 +60,16 @@ module _ (l : Layout) (b : Coupling) (k : Krylov) (starts cols : List ℕ) (vals
       let m = l .n + l .d in
       let dim = k .m + 2 in
       let p = setting-at l b k (matrix-at l starts cols vals w₀) vectors in
-      let t₀ = wrote (l .av) (l .n) (apply-generator (matrix-at l starts cols vals w₀) (window (j * m) (l .n) w₀)) w₀ _ (length-apply _ _) refl in
-      let l₀ = wrote-long t₀ in
-      let t₁ = wrote (l .w) m (apply p (column m w₀ j)) _ w₁ (length-product p _) e₁ in
+      let t₁ = wrote (l .w) m (apply p (column m w₀ j)) w₀ w₁ (length-product p _) e₁ in
       let l₁ = wrote-long t₁ in
       let f = rest-at m (l .w) (k .h) dim w₁ in
       let S = orthogonal (column m w₁) dim j (j + 1) f in
       let at : (i : ℕ) → i < j + 1 → i * m + m ≤ l .w = λ i g. let a = column-within i (j + 1) m g in let a′ = column-within j (k .m + 1) m (omega arith) in omega arith in
-      let vs : (i : ℕ) → i < j + 1 → column m w₁ i ≡ column m w₀ i = λ i g. let a = at i g in untouched t₁ (i * m) m (omega arith) ∙ untouched t₀ (i * m) m (omega arith) in
+      let vs : (i : ℕ) → i < j + 1 → column m w₁ i ≡ column m w₀ i = λ i g. let a = at i g in untouched t₁ (i * m) m (omega arith) in
       let u : ℕ → List Float = λ i. getD (tabulate (j + 1) (column m w₀)) i [] in
       let us : (i : ℕ) → i < j + 1 → u i ≡ column m w₀ i = λ i g. getD-tabulate (j + 1) (column m w₀) i [] g in
       let zs : window (l .w) m w₁ ≡ apply p (u j) = written t₁ (omega arith) ∙ ap (apply p) (sym (us j (omega arith))) in
-      let hs : window (k .h) (dim * dim) w₁ ≡ window (k .h) (dim * dim) w₀ = untouched t₁ (k .h) (dim * dim) (omega arith) ∙ untouched t₀ (k .h) (dim * dim) (omega arith) in
+      let hs : window (k .h) (dim * dim) w₁ ≡ window (k .h) (dim * dim) w₀ = untouched t₁ (k .h) (dim * dim) (omega arith) in
       let rs : S ≡ rest p j (columns-at l k (j + 1) 0 w₀) = orthogonal-ext (column m w₁) dim j u (j + 1) f (λ i g. vs i g ∙ sym (us i g)) ∙ (λ t. orthogonal u dim j (j + 1) (record { z = zs t; h = hs t })) in
       let lz : length (S .z) ≡ m = orthogonal-long (column m w₁) dim j (j + 1) m f (length-window (l .w) m w₁ (omega arith)) (λ i g. let a = at i g in length-column m w₁ i (omega arith)) in
       let lh : length (S .h) ≡ dim * dim = orthogonal-h-long (column m w₁) dim j (j + 1) f ∙ length-window (k .h) (dim * dim) w₁ (omega arith) in
@@ -122,7 +80,7 @@ module _ (l : Layout) (b : Coupling) (k : Krylov) (starts cols : List ℕ) (vals
         z-is = written t₃ (omega arith) ∙ ap (λ (x : Rest). x .z) rs;
         h-is = untouched t₃ (k .h) (dim * dim) (omega arith) ∙ written t₂ (omega arith) ∙ ap (λ (x : Rest). x .h) rs;
         v-is = λ i g. let a = at i g in untouched t₃ (i * m) m (omega arith) ∙ untouched t₂ (i * m) m (omega arith) ∙ vs i g;
-        spared = spared-by (spared-by (spared-by (spared-by (spared-all w₀) t₀ (omega arith) (omega arith)) t₁ (omega arith) (omega arith)) t₂ (omega arith) (omega arith)) t₃ (omega arith) (omega arith);
+        spared = spared-by (spared-by (spared-by (spared-all w₀) t₁ (omega arith) (omega arith)) t₂ (omega arith) (omega arith)) t₃ (omega arith) (omega arith);
       }
 
   -- the corrector's entry of h is stored
@@ -134,7 +92,7 @@ module _ (l : Layout) (b : Coupling) (k : Krylov) (starts cols : List ℕ) (vals
   -- and then the last product made
   pub ended : {v x : ℕ} (w₀ w₁ : List Float) (avnorm : Float) → Room l b k (matrix-at l starts cols vals w₀) v x (length w₀)
       → (let u = set w₀ (k .h + place (k .m + 2) (k .m + 1) (k .m)) 1f in
-      w₁ ≡ splice (l .w) (apply (setting-at l b k (matrix-at l starts cols vals u) vectors) (column (l .n + l .d) u (k .m))) (splice (l .av) (apply-generator (matrix-at l starts cols vals u) (window (k .m * (l .n + l .d)) (l .n) u)) u))
+      w₁ ≡ splice (l .w) (apply (setting-at l b k (matrix-at l starts cols vals u) vectors) (column (l .n + l .d) u (k .m))) u)
       → avnorm ≡ norm2 (take (l .w + (l .n + l .d) - l .w) (drop (l .w) w₁))
       → Ended l k (setting-at l b k (matrix-at l starts cols vals w₀) vectors) w₀ w₁ avnorm
   unfolding column
@@ -149,17 +107,15 @@ module _ (l : Layout) (b : Coupling) (k : Krylov) (starts cols : List ℕ) (vals
       let s₀ = cornered w₀ r in
       let q₀ = values-kept (l .mass) (l .q) vals w₀ u (s₀ .kept) in
       let p = setting-at l b k (matrix-at l starts cols vals u) vectors in
-      let t₁ = wrote (l .av) (l .n) (apply-generator (matrix-at l starts cols vals u) (window (k .m * m) (l .n) u)) u _ (length-apply _ _) refl in
-      let l₁ = wrote-long t₁ in
-      let t₂ = wrote (l .w) m (apply p (column m u (k .m))) _ w₁ (length-product p _) e₁ in
+      let t₁ = wrote (l .w) m (apply p (column m u (k .m))) u w₁ (length-product p _) e₁ in
       let vs : (i : ℕ) → i < k .m + 1 → column m u i ≡ column m w₀ i = λ i g. let a = column-within i (k .m + 1) m g in untouched t₀ (i * m) m (omega arith) in
-      let v₁ : (i : ℕ) → i < k .m + 1 → column m w₁ i ≡ column m u i = λ i g. let a = column-within i (k .m + 1) m g in untouched t₂ (i * m) m (omega arith) ∙ untouched t₁ (i * m) m (omega arith) in
-      let zs : window (l .w) m w₁ ≡ apply (setting-at l b k (matrix-at l starts cols vals w₀) vectors) (column m w₀ (k .m)) = written t₂ (omega arith) ∙ (λ t. apply (setting-at l b k (csr (l .n) starts cols (q₀ t)) vectors) (vs (k .m) (omega arith) t)) in
+      let v₁ : (i : ℕ) → i < k .m + 1 → column m w₁ i ≡ column m u i = λ i g. let a = column-within i (k .m + 1) m g in untouched t₁ (i * m) m (omega arith) in
+      let zs : window (l .w) m w₁ ≡ apply (setting-at l b k (matrix-at l starts cols vals w₀) vectors) (column m w₀ (k .m)) = written t₁ (omega arith) ∙ (λ t. apply (setting-at l b k (csr (l .n) starts cols (q₀ t)) vectors) (vs (k .m) (omega arith) t)) in
       record {
         v-is = tabulate-ext (k .m + 1) (column m w₁) (column m w₀) (λ i g. v₁ i g ∙ vs i g);
-        h-is = untouched t₂ (k .h) (dim * dim) (omega arith) ∙ untouched t₁ (k .h) (dim * dim) (omega arith) ∙ window-set-in (k .h) (dim * dim) w₀ e 1f cell (omega arith);
+        h-is = untouched t₁ (k .h) (dim * dim) (omega arith) ∙ window-set-in (k .h) (dim * dim) w₀ e 1f cell (omega arith);
         avnorm-is = rw (part-window (l .w) m w₁, zs) at ea;
-        spared = spared-by (spared-by s₀ t₁ (omega arith) (omega arith)) t₂ (omega arith) (omega arith);
+        spared = spared-by s₀ t₁ (omega arith) (omega arith);
       }
 
 -- ---- a turn

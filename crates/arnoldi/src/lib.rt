@@ -9,7 +9,7 @@ ghost use Rattle.lists.specs.Window.{window, splice};
 ghost use Rattle.doubles.specs.F64.{_⊘_, +0, 1f};
 ghost use Rattle.vectors.specs.Vectors.{scale};
 ghost use Rattle.hess_product.specs.HessProduct.{place};
-ghost use Rattle.general_operator.specs.Csr.{csr, apply-generator};
+ghost use Rattle.general_operator.specs.Csr.{csr};
 ghost use Rattle.phi_action_helpers.specs.Laid.{matrix-at};
 ghost use Rattle.phi_action_helpers.specs.declared.Coupling.{Coupling};
 ghost use Rattle.arnoldi.specs.Basis.{norm2, apply, orthogonal, broken, arnoldi-step, close, arnoldi};
@@ -64,17 +64,16 @@ fn apply_in(
 )
     requires { ⌜ Room l b k (matrix-at l (now starts) (now cols) (now vals) (now work)) (length (now vals)) (length (now vectors)) (length (now work)) ⌝ }
     requires { ⌜ j ≤ k .m ⌝ }
-    ensures { λ _. ⌜ now (work .exit) ≡ splice (l .w) (apply (setting-at l b k (matrix-at l (now (starts .entry)) (now (cols .entry)) (now (vals .entry)) (now (work .entry))) (now (vectors .entry))) (column (l .n + l .d) (now (work .entry)) j)) (splice (l .av) (apply-generator (matrix-at l (now (starts .entry)) (now (cols .entry)) (now (vals .entry)) (now (work .entry))) (window (j * (l .n + l .d)) (l .n) (now (work .entry)))) (now (work .entry))) ⌝ }
+    ensures { λ _. ⌜ now (work .exit) ≡ splice (l .w) (apply (setting-at l b k (matrix-at l (now (starts .entry)) (now (cols .entry)) (now (vals .entry)) (now (work .entry))) (now (vectors .entry))) (column (l .n + l .d) (now (work .entry)) j)) (now (work .entry)) ⌝ }
 {
     let len = l.n + l.d;
-    vectors::copy_in(work, l.w, j * len, len);
     let s = Scales {
         shifted: false,
         tau: k.tau,
         one: 1.0,
         mu: 0.0,
     };
-    phi_action_helpers::aug_matvec(starts, cols, vals, vectors, work, l, b, s);
+    phi_action_helpers::aug_product(starts, cols, vals, vectors, work, l, b, s, j * len);
 }
 
 // z less its parts along columns 0 to j, whose sizes go to column j of h: one pass of modified Gram-Schmidt. Each part is taken away

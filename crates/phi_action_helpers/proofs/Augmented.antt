@@ -1,6 +1,7 @@
 -- What the parts of a product read. Assumes nothing.
 use mathlib.Core.Path.{_≡_, sym, ap, _∙_}
 use mathlib.Core.Logic.{⊎-elim}
+use mathlib.Core.Bool.{true, false}
 use mathlib.Core.List.{List, _++_}
 use Prim.Native.Nat.{ℕ, _+_, _≤_, _<_}
 use native.Mathlib.Omega.{arith}
@@ -13,11 +14,13 @@ use Rattle.lists.specs.Loop.{iter, tabulate}
 use Rattle.lists.specs.Window.{window, splice}
 use Rattle.lists.proofs.Bounds.{lt-or-le, part-apart}
 use Rattle.lists.proofs.Loop.{iter-none, iter-next, tabulate-ext, length-tabulate, passed, unwritten}
-use Rattle.lists.proofs.Window.{getD-window, window-window, splice-append, splice-comm}
-use Rattle.lists.proofs.Frame.{wrote, written, untouched}
+use Rattle.lists.proofs.Window.{length-window, getD-window, window-window, splice-append, splice-comm, splice-splice}
+use Rattle.lists.proofs.Frame.{wrote, written, untouched, wrote-long}
 use Rattle.doubles.specs.F64.{_⊕_, _⊗_, at}
 use Rattle.general_operator.specs.Csr.{apply-generator}
 use Rattle.general_operator.proofs.Rows.{length-apply}
+use Rattle.csr_matvec.specs.Values.{generator-by}
+use Rattle.csr_matvec.proofs.Values.{length-by, scaled-at}
 use Rattle.phi_action_helpers.specs.declared.Scales.{Scales}
 use Rattle.phi_action_helpers.specs.Augmented.{Augmented, scalars, coupled, generator-term, chain-term, top, bottom, aug-matvec}
 
@@ -93,3 +96,63 @@ product b k w av sc w₀ w₁ w₂ w₃ fw fav apart e₁ es e₂ e₃ =
     let c₂ : window (w + n) d w₂ ≡ window n d x = untouched t₂ (w + n) d (omega arith) ∙ c₁ in
     let e₃′ : w₃ ≡ splice (w + n) B (splice w T w₁) = e₃ ∙ rw (c₂, e₂′) in
     e₃′ ∙ sym (splice-comm w (w + n) T B w₁ (omega arith)) ∙ ap (λ (m : ℕ). splice w T (splice (w + m) B w₁)) (sym lT) ∙ sym (splice-append w T B w₁) ∙ ap (splice w (T ++ B)) e₁
+
+-- without a shift the generator's share is tau G u
+pub unshifted : (k : Scales) (av u : Float) → k .shifted ≡ false → generator-term k av u ≡ k .tau ⊗ av
+unfolding generator-term
+unshifted k av u e = rw e
+
+-- the rows where the generator's shares stand in the memory
+made-rows : (b : Augmented) (k : Scales) (w : ℕ) (work av u c : List Float)
+    → ((i : ℕ) → i < b .matrix .n → at work (w + i) ≡ generator-term k (at av i) (at u i))
+    → tabulate (b .matrix .n) (λ i. coupled (b .vectors) (b .places) (b .count) (scalars (b .gains) (b .count) (k .one) c) i (at work (w + i)))
+    ≡ top b k av u c
+unfolding top
+made-rows b k w work av u c row = tabulate-ext (b .matrix .n) _ _ (λ i h. rw (row i h))
+
+-- the five steps of a product that is read from src and made at w, in one
+pub straight : (b : Augmented) (k : Scales) (src w : ℕ) (sc w₀ w₁ w₂ w₃ w₄ : List Float)
+    → src + (b .matrix .n + b .d) ≤ w
+    → w + (b .matrix .n + b .d) ≤ length w₀
+    → k .shifted ≡ false
+    → w₁ ≡ splice w (generator-by true (k .tau) (b .matrix) (window src (b .matrix .n) w₀)) w₀
+    → w₂ ≡ splice (w + b .matrix .n) (window (src + b .matrix .n) (b .d) w₁) w₁
+    → sc ≡ scalars (b .gains) (b .count) (k .one) (window (w + b .matrix .n) (b .d) w₂)
+    → w₃ ≡ splice w (tabulate (b .matrix .n) (λ i. coupled (b .vectors) (b .places) (b .count) sc i (at w₂ (w + i)))) w₂
+    → w₄ ≡ splice (w + b .matrix .n) (bottom k (b .d) (window (w + b .matrix .n) (b .d) w₃)) w₃
+    → w₄ ≡ splice w (aug-matvec b k (window src (b .matrix .n + b .d) w₀)) w₀
+unfolding aug-matvec
+straight b k src w sc w₀ w₁ w₂ w₃ w₄ before fw plain e₁ e₂ es e₃ e₄ =
+    let n = b .matrix .n in
+    let d = b .d in
+    let x = window src (n + d) w₀ in
+    let u : window 0 n x ≡ window src n w₀ = window-window src (n + d) 0 n w₀ (omega arith) ∙ rw (add-zero src) in
+    let c : window n d x ≡ window (src + n) d w₀ = window-window src (n + d) n d w₀ (omega arith) in
+    let g = generator-by true (k .tau) (b .matrix) (window src n w₀) in
+    let lg : length g ≡ n = length-by true (k .tau) (b .matrix) (window src n w₀) in
+    let t₁ = wrote w n g w₀ w₁ lg e₁ in
+    let l₁ = wrote-long t₁ in
+    let c₁ : window (src + n) d w₁ ≡ window n d x = untouched t₁ (src + n) d (omega arith) ∙ sym c in
+    let lc : length (window (src + n) d w₁) ≡ d = length-window (src + n) d w₁ (omega arith) in
+    let t₂ = wrote (w + n) d (window (src + n) d w₁) w₁ w₂ lc e₂ in
+    let l₂ = wrote-long t₂ in
+    let c₂ : window (w + n) d w₂ ≡ window n d x = written t₂ (omega arith) ∙ c₁ in
+    let g₂ : window w n w₂ ≡ g = untouched t₂ w n (omega arith) ∙ written t₁ (omega arith) in
+    let row : (i : ℕ) → i < n → at w₂ (w + i) ≡ generator-term k (at (apply-generator (b .matrix) (window 0 n x)) i) (at (window 0 n x) i)
+    = λ i h. sym (getD-window w n w₂ i nan h) ∙ ap (λ (r : List Float). at r i) g₂ ∙ scaled-at (k .tau) (b .matrix) (window src n w₀) i h ∙ ap (λ (r : List Float). k .tau ⊗ at (apply-generator (b .matrix) r) i) (sym u) ∙ sym (unshifted k _ _ plain) in
+    let T = top b k (apply-generator (b .matrix) (window 0 n x)) (window 0 n x) (window n d x) in
+    let B = bottom k d (window n d x) in
+    let e₃′ : w₃ ≡ splice w T w₂ = e₃ ∙ rw (es, c₂, made-rows b k w w₂ (apply-generator (b .matrix) (window 0 n x)) (window 0 n x) (window n d x) row) in
+    let lT : length T ≡ n = length-top b k _ _ _ in
+    let lB : length B ≡ d = length-bottom k d _ in
+    let t₃ = wrote w n T w₂ w₃ lT e₃′ in
+    let c₃ : window (w + n) d w₃ ≡ window n d x = untouched t₃ (w + n) d (omega arith) ∙ c₂ in
+    let e₄′ : w₄ ≡ splice (w + n) B (splice w T w₂) = e₄ ∙ rw (c₃, e₃′) in
+    e₄′ ∙ sym (splice-comm w (w + n) T B w₂ (omega arith))
+    ∙ ap (λ (r : List Float). splice w T (splice (w + n) B r)) e₂
+    ∙ ap (splice w T) (splice-splice (w + n) B (window (src + n) d w₁) w₁ (omega arith))
+    ∙ ap (λ (r : List Float). splice w T (splice (w + n) B r)) e₁
+    ∙ ap (splice w T) (sym (splice-comm w (w + n) g B w₀ (omega arith)))
+    ∙ splice-splice w T g (splice (w + n) B w₀) (omega arith)
+    ∙ ap (λ (m : ℕ). splice w T (splice (w + m) B w₀)) (sym lT)
+    ∙ sym (splice-append w T B w₀)

@@ -1,3 +1,4 @@
 pub mod Augmented
 pub mod Counts
+pub mod SingleTerm
 pub mod Sweeps

@@ -4,12 +4,15 @@ use Prim.Native.Nat.{ℕ, _+_, _≤_, _<_}
 use lib.ListN.{length, getD}
 use lib.Ieee.{Float}
 use Rattle.lists.specs.Bounds.{Disjoint}
-use Rattle.lists.specs.Window.{window}
-use Rattle.general_operator.specs.Csr.{Csr, csr, Valid}
+use Rattle.lists.specs.Loop.{zipWith}
+use Rattle.lists.specs.Window.{window, splice}
+use Rattle.doubles.specs.F64.{_⊕_}
+use Rattle.general_operator.specs.Csr.{Csr, csr, Valid, apply-generator}
 use Rattle.csr_matvec.specs.Values.{values, Stored}
 use Rattle.phi_action_helpers.specs.declared.Layout.{Layout}
 use Rattle.phi_action_helpers.specs.declared.Coupling.{Coupling}
-use Rattle.phi_action_helpers.specs.Augmented.{Augmented, augmented}
+use Rattle.phi_action_helpers.specs.declared.Scales.{Scales}
+use Rattle.phi_action_helpers.specs.Augmented.{Augmented, augmented, aug-matvec}
 use Rattle.phi_action_helpers.specs.Sweeps.{Horner, Swept}
 
 -- the matrix: with a mass its values stand in the lent memory
@@ -41,6 +44,13 @@ pub record Lined (l : Layout) : Type 0 where
   pub field-first : l .n + l .d ≤ l .w
   pub then-term : l .w + (l .n + l .d) ≤ l .av
   pub then-product : l .av + l .n ≤ l .q
+
+-- G w and the next term, in the memory; and the field with the term added
+abbrev pub termed : Layout → Augmented → Scales → List Float → List Float
+termed l b k work = splice (l .w) (aug-matvec b k (window (l .w) (l .n + l .d) work)) (splice (l .av) (apply-generator (b .matrix) (window (l .w) (l .n) work)) work)
+
+abbrev pub added : Layout → List Float → List Float
+added l work = splice 0 (zipWith _⊕_ (window 0 (l .n + l .d) work) (window (l .w) (l .n + l .d) work)) work
 
 -- the field, the term and the count, as a sweep's memory holds them
 abbrev pub horner-at : Layout → ℕ → List Float → Horner

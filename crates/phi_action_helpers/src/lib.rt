@@ -1,5 +1,6 @@
 // The augmented operator [tau G, W; 0, J], and Taylor sweeps with it.
 ghost use mathlib.Core.Path.{_≡_};
+ghost use mathlib.Core.Bool.{false};
 ghost use Prim.Native.Nat.{ℕ, _+_, _≤_, _<_};
 ghost use lib.ListN.{length, getD};
 ghost use Rattle.lists.specs.Loop.{iter, tabulate, zipWith};
@@ -11,7 +12,7 @@ ghost use Rattle.vectors.specs.Vectors.{scale};
 ghost use Rattle.general_operator.specs.Csr.{apply-generator};
 ghost use Rattle.phi_action_helpers.specs.Augmented.{scalars, coupled, generator-term, chain-term, bottom, aug-matvec};
 ghost use Rattle.phi_action_helpers.specs.Sweeps.{shifted, scales, horner-step, aug-horner-outer, rescale, sweep, run-sweeps};
-ghost use Rattle.phi_action_helpers.specs.Laid.{matrix-at, operator-at, Ready, Lined, horner-at, swept-at};
+ghost use Rattle.phi_action_helpers.specs.Laid.{matrix-at, operator-at, Ready, Lined, termed, added, horner-at, swept-at};
 
 // The schedule: s sweeps of degree m, and the shift mu, 0 for none.
 pub struct SweepPlan {
@@ -97,7 +98,27 @@ fn add_column_in(vectors: &[f64], p: usize, s: f64, work: &mut [f64], w: usize, 
     }
 }
 
-// work[w + i] becomes row i of the product: work[av + i] is row i of G w. Column by column, so that each loop runs along the memory.
+// The columns' shares are added to work[w + i]. Column by column, so that each loop runs along the memory.
+fn columns_in(
+    vectors: &[f64],
+    places: [usize; 3],
+    sc: [f64; 3],
+    count: usize,
+    work: &mut [f64],
+    w: usize,
+    n: usize,
+)
+    requires { ⌜ (count ≤ 3) × ((j : ℕ) → j < count → getD places j 0 + n ≤ length (now vectors)) ⌝ }
+    requires { ⌜ w + n ≤ length (now work) ⌝ }
+    ensures { λ _. ⌜ now (work .exit) ≡ splice w (tabulate n (λ i. coupled (now (vectors .entry)) places count sc i (at (now (work .entry)) (w + i)))) (now (work .entry)) ⌝ }
+{
+    for j in 0..count {
+        let p = places[j];
+        add_column_in(vectors, p, sc[j], work, w, n);
+    }
+}
+
+// work[w + i] becomes row i of the product: work[av + i] is row i of G w.
 fn top_in(
     vectors: &[f64],
     places: [usize; 3],
@@ -115,10 +136,7 @@ fn top_in(
     ensures { λ _. ⌜ now (work .exit) ≡ splice w (tabulate n (λ i. coupled (now (vectors .entry)) places count sc i (generator-term k (at (now (work .entry)) (av + i)) (at (now (work .entry)) (w + i))))) (now (work .entry)) ⌝ }
 {
     generator_terms_in(k, work, w, av, n);
-    for j in 0..count {
-        let p = places[j];
-        add_column_in(vectors, p, sc[j], work, w, n);
-    }
+    columns_in(vectors, places, sc, count, work, w, n);
 }
 
 // Value i of the product's chain.
@@ -174,9 +192,64 @@ pub fn aug_matvec(
     let places = b.places;
     let gains = b.gains;
     let count = b.count;
-    csr_matvec::apply_generator(starts, cols, vals, l.mass, work, l.q, w, av, n);
+    csr_matvec::apply_generator(
+        starts,
+        cols,
+        vals,
+        l.mass,
+        work,
+        l.q,
+        w,
+        av,
+        n,
+        false,
+        k.tau,
+    );
     let sc = scalars(gains, count, k.one, &work[chain..end]);
     top_in(vectors, places, sc, count, k, work, w, av, n);
+    chain_in(work, chain, d, k);
+}
+
+// The product of the vector from src, which lies before w, goes to w. There is no shift, and so no G w besides.
+pub fn aug_product(
+    starts: &[u32],
+    cols: &[u32],
+    vals: &[f64],
+    vectors: &[f64],
+    work: &mut [f64],
+    l: Layout,
+    b: Coupling,
+    k: Scales,
+    src: usize,
+)
+    requires { ⌜ Ready l b (now starts) (now cols) (now vals) (now vectors) (now work) ⌝ }
+    requires { ⌜ (src + (l .n + l .d) ≤ l .w) × (l .w + (l .n + l .d) ≤ l .q) × (k .shifted ≡ false) ⌝ }
+    ensures { λ _. ⌜ now (work .exit) ≡ splice (l .w) (aug-matvec (operator-at l b (now (starts .entry)) (now (cols .entry)) (now (vals .entry)) (now (vectors .entry)) (now (work .entry))) k (window src (l .n + l .d) (now (work .entry)))) (now (work .entry)) ⌝ }
+{
+    let n = l.n;
+    let d = l.d;
+    let w = l.w;
+    let chain = w + n;
+    let end = chain + d;
+    let places = b.places;
+    let gains = b.gains;
+    let count = b.count;
+    csr_matvec::apply_generator(
+        starts,
+        cols,
+        vals,
+        l.mass,
+        work,
+        l.q,
+        src,
+        w,
+        n,
+        true,
+        k.tau,
+    );
+    vectors::copy_in(work, chain, src + n, d);
+    let sc = scalars(gains, count, k.one, &work[chain..end]);
+    columns_in(vectors, places, sc, count, work, w, n);
     chain_in(work, chain, d, k);
 }
 
@@ -206,6 +279,94 @@ fn add_in(work: &mut [f64], y: usize, w: usize, len: usize)
     }
 }
 
+// Where W has one column, work[w + i] becomes row i of the next term, and is added to the field: what `top_in` and `add_in` do, in one loop.
+fn term_rows_in(
+    k: Scales,
+    vectors: &[f64],
+    p: usize,
+    s: f64,
+    work: &mut [f64],
+    w: usize,
+    av: usize,
+    n: usize,
+)
+    requires { ⌜ p + n ≤ length (now vectors) ⌝ }
+    requires { ⌜ (n ≤ w) × (w + n ≤ av) × (av + n ≤ length (now work)) ⌝ }
+    ensures { λ _. ⌜ now (work .exit) ≡ splice 0 (tabulate n (λ i. at (now (work .entry)) i ⊕ (generator-term k (at (now (work .entry)) (av + i)) (at (now (work .entry)) (w + i)) ⊕ s ⊗ at (now (vectors .entry)) (p + i)))) (splice w (tabulate n (λ i. generator-term k (at (now (work .entry)) (av + i)) (at (now (work .entry)) (w + i)) ⊕ s ⊗ at (now (vectors .entry)) (p + i))) (now (work .entry))) ⌝ }
+{
+    for i in 0..n {
+        let t = generator_term(k, work[av + i], work[w + i]) + s * vectors[p + i];
+        let u = work[i];
+        work[w + i] = t;
+        work[i] = u + t;
+    }
+}
+
+// The next term and the field, where W has one column.
+fn single_term_in(
+    starts: &[u32],
+    cols: &[u32],
+    vals: &[f64],
+    vectors: &[f64],
+    work: &mut [f64],
+    l: Layout,
+    b: Coupling,
+    k: Scales,
+)
+    requires { ⌜ Ready l b (now starts) (now cols) (now vals) (now vectors) (now work) ⌝ }
+    requires { ⌜ Lined l × (b .count ≡ 1) ⌝ }
+    ensures { λ _. ⌜ now (work .exit) ≡ added l (termed l (operator-at l b (now (starts .entry)) (now (cols .entry)) (now (vals .entry)) (now (vectors .entry)) (now (work .entry))) k (now (work .entry))) ⌝ }
+{
+    let n = l.n;
+    let d = l.d;
+    let w = l.w;
+    let av = l.av;
+    let chain = w + n;
+    let end = chain + d;
+    let p = b.places[0];
+    let gains = b.gains;
+    csr_matvec::apply_generator(
+        starts,
+        cols,
+        vals,
+        l.mass,
+        work,
+        l.q,
+        w,
+        av,
+        n,
+        false,
+        k.tau,
+    );
+    let sc = scalars(gains, 1, k.one, &work[chain..end]);
+    term_rows_in(k, vectors, p, sc[0], work, w, av, n);
+    chain_in(work, chain, d, k);
+    add_in(work, n, chain, d);
+}
+
+// The next term, and the field with it added.
+fn term_in(
+    starts: &[u32],
+    cols: &[u32],
+    vals: &[f64],
+    vectors: &[f64],
+    work: &mut [f64],
+    l: Layout,
+    b: Coupling,
+    k: Scales,
+)
+    requires { ⌜ Ready l b (now starts) (now cols) (now vals) (now vectors) (now work) ⌝ }
+    requires { ⌜ Lined l ⌝ }
+    ensures { λ _. ⌜ now (work .exit) ≡ added l (termed l (operator-at l b (now (starts .entry)) (now (cols .entry)) (now (vals .entry)) (now (vectors .entry)) (now (work .entry))) k (now (work .entry))) ⌝ }
+{
+    if b.count == 1 {
+        single_term_in(starts, cols, vals, vectors, work, l, b, k);
+    } else {
+        aug_matvec(starts, cols, vals, vectors, work, l, b, k);
+        add_in(work, 0, l.w, l.n + l.d);
+    }
+}
+
 // Term k + 1: it takes the place of the last one and is added to the field. The products with the generator are counted.
 fn horner_step(
     starts: &[u32],
@@ -226,10 +387,7 @@ fn horner_step(
     let b = x.b;
     let p = x.p;
     let s = scales_of(x.tau, p, k + 1);
-    aug_matvec(starts, cols, vals, vectors, work, l, b, s);
-    let w = l.w;
-    let len = l.n + l.d;
-    add_in(work, 0, w, len);
+    term_in(starts, cols, vals, vectors, work, l, b, s);
     applied + 1
 }
 

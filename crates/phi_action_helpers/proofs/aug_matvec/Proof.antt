@@ -3,6 +3,7 @@ use native.Mathlib.Omega.{arith}
 use borrow.Author.Needs.{needs}
 use lib.ListN.{length-take, length-drop}
 use Rattle.lists.proofs.Window.{part-window}
+use Rattle.csr_matvec.proofs.Values.{not-scaled}
 use Rattle.phi_action_helpers.specs.Laid.{operator-at}
 use Rattle.lists.proofs.Bounds.{part-apart}
 use Rattle.phi_action_helpers.proofs.Augmented.{product}
@@ -27,7 +28,7 @@ returns c =
     let start = c .before .before .before .before .before .before .before .before .before .before .before .before .before .before .before .before .before .before .before .before .before .before in
     let a = start .args in
     product (operator-at (a .l) (a .b) (a .starts .now) (a .cols .now) (a .vals .now) (a .vectors .now) (a .work .now)) (a .k) _ _ _ (a .work .now) _ _ _ (start .pre .w-in) (start .pre .av-in) (start .pre .apart)
-    (c .before .before .before .before .before .before .before .before .before .before .before .before .before .apply-generator .ensures)
+    (rw not-scaled at (c .before .before .before .before .before .before .before .before .before .before .before .before .before .apply-generator .ensures))
     (rw part-window at (c .before .before .before .before .before .before .before .before .scalars .ensures))
     (c .before .before .before .before .before .before .top-in .ensures)
     (c .before .before .chain-in .ensures)
