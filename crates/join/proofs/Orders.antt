@@ -27,3 +27,8 @@ other = refl
 differ : join-call (csr 1 (0 ∷ 2 ∷ []) (0 ∷ 0 ∷ []) (1f ∷ 1f ∷ [])) (csr 2 (0 ∷ 0 ∷ 0 ∷ []) [] []) [] [] [] ≡ record { answer = Refusal 34 nan; starts = []; columns = []; values = [] }
 unfolding open-Join
 differ = refl
+
+-- the barrel wholly before the mount: its entry is no number, and the mount has no rows
+barrel-first : join-call (csr 1 (0 ∷ 1 ∷ []) (0 ∷ []) (nan ∷ [])) (csr 0 [] [] []) [] [] [] ≡ record { answer = Refusal 6 nan; starts = []; columns = []; values = [] }
+unfolding open-Join
+barrel-first = refl
