@@ -1,20 +1,16 @@
-//! Links what `rt staticlib` has written for `exports`, `exports_transposed`, `exports_paused`, `exports_rotation`, `exports_stages`,
-//! `exports_ambient`, `exports_plan` and, with the feature `bytes`, for those of them that are on bytes too.
+//! Links what `rt staticlib` has written for the crates that export functions on slices and, with the feature `bytes`, for those on bytes too.
 
 use std::path::Path;
 
 fn main() {
-    let folder = concat!(env!("CARGO_MANIFEST_DIR"), "/../../target/staticlib");
-    println!("cargo:rustc-link-search=native={folder}");
-    let on_bytes: &[&str] = match std::env::var_os("CARGO_FEATURE_BYTES") {
-        Some(_) => &["exports_bytes", "exports_transposed_bytes", "exports_paused_bytes"],
-        None => &[],
-    };
-    let on_slices =
-        ["exports", "exports_transposed", "exports_paused", "exports_rotation", "exports_stages", "exports_ambient", "exports_plan"];
-    for name in on_slices.iter().chain(on_bytes) {
-        let archive = Path::new(folder).join(format!("lib{name}.a"));
-        println!("cargo:rerun-if-changed={}", archive.display());
+    let root = Path::new(env!("CARGO_MANIFEST_DIR")).join("../..");
+    let folder = root.join("target/staticlib");
+    println!("cargo:rustc-link-search=native={}", folder.display());
+    let list = std::fs::read_to_string(root.join("crates.txt")).expect("crates.txt");
+    let on_bytes = std::env::var_os("CARGO_FEATURE_BYTES").is_some();
+    let names = list.lines().filter_map(|line| line.split_once(':')).map(|(name, _)| name);
+    for name in names.filter(|name| name.starts_with("exports") && (on_bytes || !name.ends_with("_bytes"))) {
+        println!("cargo:rerun-if-changed={}", folder.join(format!("lib{name}.a")).display());
         println!("cargo:rustc-link-lib=static={name}");
     }
 }

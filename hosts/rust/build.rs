@@ -1,17 +1,21 @@
-//! Links the proved code, target/staticlib/libexports.a, libexports_transposed.a, libexports_paused.a, libexports_stages.a,
-//! libexports_ambient.a, libexports_rotation.a and libexports_plan.a; hosts/library writes what is missing or older than its sources.
+//! Links the proved code, an archive in target/staticlib for each crate that exports functions on slices; hosts/library writes those that are
+//! missing or older than their sources.
 
 use std::path::Path;
 use std::process::{exit, Command};
 
-const PROVED: [&str; 7] =
-    ["exports", "exports_transposed", "exports_paused", "exports_stages", "exports_ambient", "exports_rotation", "exports_plan"];
+/// The crates of crates.txt that export functions on slices, as `scripts/exports slices` tells them.
+fn exports(root: &Path) -> Vec<String> {
+    let list = std::fs::read_to_string(root.join("crates.txt")).expect("crates.txt");
+    let names = list.lines().filter_map(|line| line.split_once(':')).map(|(name, _)| name);
+    names.filter(|name| name.starts_with("exports") && !name.ends_with("_bytes")).map(str::to_string).collect()
+}
 
 fn main() {
     let root = Path::new(env!("CARGO_MANIFEST_DIR")).join("../..");
     let folder = root.join("target/staticlib");
-    let archives = PROVED.map(|name| format!("target/staticlib/lib{name}.a"));
-    for source in archives.iter().map(String::as_str).chain(["crates", "crates.txt"]) {
+    let names = exports(&root);
+    for source in ["crates", "crates.txt"] {
         println!("cargo:rerun-if-changed={}", root.join(source).display());
     }
     if !Command::new("sh").arg(root.join("hosts/library")).status().is_ok_and(|status| status.success()) {
@@ -19,7 +23,8 @@ fn main() {
         exit(1);
     }
     println!("cargo:rustc-link-search=native={}", folder.display());
-    for name in PROVED {
+    for name in names {
+        println!("cargo:rerun-if-changed={}", folder.join(format!("lib{name}.a")).display());
         println!("cargo:rustc-link-lib=static={name}");
     }
 }

@@ -1,13 +1,11 @@
 // A soak under a changing ambient level: Taylor combinations in a row, and the extremes of one node's temperature over a window.
+use ambient_turns::AmbientAnswer;
 use checks::Checked;
 use generator_action::MatrixAnswer;
 use generator_action::Shape;
-use taylor_job::TaylorAnswer;
 ghost use mathlib.Core.Path.{_≡_};
-ghost use mathlib.Core.List.{List};
-ghost use Prim.Native.Nat.{_+_, _-_, _≤_, _<_};
+ghost use Prim.Native.Nat.{_-_, _≤_};
 ghost use lib.ListN.{length};
-ghost use lib.Ieee.{Float};
 ghost use Rattle.lists.specs.Walk.{walk, on};
 ghost use Rattle.lists.specs.Window.{window, splice};
 ghost use Rattle.checks.specs.First.{first};
@@ -16,43 +14,9 @@ ghost use Rattle.general_operator.specs.Csr.{csr};
 ghost use Rattle.generator_action.specs.Mass.{given, quotient-need, generator-checks};
 ghost use Rattle.generator_action.specs.Generator.{forward};
 ghost use Rattle.generator_action.specs.Known.{Passed};
-ghost use Rattle.combination.specs.Call.{ends};
 ghost use Rattle.ambient_checks.specs.Inner.{log-of};
-ghost use Rattle.ambient.specs.Ambient.{settle, record-step, ended, concluded, begun, ambient};
-ghost use Rattle.ambient.specs.Inner.{turn-at, results-of, shown-in, Logs, results, logging};
-
-// A refusal's number and double with the record that met it, from 1 (0: before any record); the record after which the temperature is NaN; or all done.
-pub enum AmbientAnswer {
-    Refusal(u32, f64, u32),
-    NotANumber(u32),
-    Logged,
-}
-
-// After record i + 1: a refusal or a NaN temperature ends the work, any other temperature is shown.
-fn settle(
-    i: usize,
-    node: usize,
-    answer: TaylorAnswer,
-    out: &[f64],
-    temperatures: &mut [f64],
-) -> AmbientAnswer
-    requires { ⌜ (i < 100000) × (node < length (now out)) × (i < length (now temperatures)) ⌝ }
-    ensures { λ r. ⌜ ((memory : List Float) → turn-at r (now (out .entry)) (now (out .entry)) memory (shown-in r (i + 1) (now (temperatures .exit))) ≡ settle node i (window 0 i (now (temperatures .entry))) (ends answer (now (out .entry)) memory) answer) ⌝ }
-    ensures { λ r. ⌜ (results-of r (i + 1) ≤ i + 1) × ((t₀ : List Float) → now (temperatures .entry) ≡ splice 0 (window 0 i (now (temperatures .entry))) t₀ → now (temperatures .exit) ≡ splice 0 (shown-in r (i + 1) (now (temperatures .exit))) t₀) ⌝ }
-{
-    let record = i as u32 + 1;
-    match answer {
-        TaylorAnswer::Refusal(k, x) => AmbientAnswer::Refusal(k, x, record),
-        TaylorAnswer::Result(_) => {
-            let t = out[node];
-            if t != t {
-                return AmbientAnswer::NotANumber(record);
-            }
-            temperatures[i] = t;
-            AmbientAnswer::Logged
-        }
-    }
-}
+ghost use Rattle.ambient_turns.specs.Ambient.{settle, record-step, ended, concluded, begun, ambient};
+ghost use Rattle.ambient_turns.specs.Inner.{results-of, shown-in, Logs, results, logging};
 
 // The records in order: the first starts from `field`, each other from what the one before it left in the output.
 fn run_records(
@@ -96,31 +60,9 @@ fn run_records(
             out,
             work,
         );
-        answer = settle(i, node, call, out, temperatures);
+        answer = ambient_turns::settle(i, node, call, out, temperatures);
     }
     answer
-}
-
-// How many of k records have a result.
-fn results_of(answer: AmbientAnswer, k: usize) -> usize
-    requires { ⌜ results-of answer k ≤ k ⌝ }
-    ensures { λ r. ⌜ r ≡ results-of answer k ⌝ }
-{
-    match answer {
-        AmbientAnswer::Refusal(_, _, i) => records_before(i),
-        AmbientAnswer::NotANumber(i) => records_before(i),
-        AmbientAnswer::Logged => k,
-    }
-}
-
-// The records before record i.
-fn records_before(i: u32) -> usize
-    ensures { λ r. ⌜ r ≡ i - 1 ⌝ }
-{
-    if i == 0 {
-        return 0;
-    }
-    i as usize - 1
 }
 
 // A soak under a changing ambient level over one matrix: each record has a duration and a level, and w_1 is the load times the level. Of the node the
@@ -185,7 +127,7 @@ pub fn ambient(
         work,
         temperatures,
     );
-    let count = results_of(answer, durations.len());
+    let count = ambient_turns::results_of(answer, durations.len());
     extremes::show_extremes(window, temperatures, count, largest, smallest);
     answer
 }

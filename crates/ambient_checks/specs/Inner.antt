@@ -8,8 +8,8 @@ use Rattle.checks.specs.First.{Check}
 use Rattle.generator_action.specs.declared.Shape.{Shape}
 use Rattle.expmv.specs.Select.{M-MAX}
 use Rattle.combination.specs.Checks.{plan-checks, finite-checks}
-use Rattle.admission.specs.Inner.{combination-job}
-use Rattle.admission.specs.declared.Job.{Job}
+use Rattle.taylor_schedule.specs.Inner.{combination-job}
+use Rattle.taylor_schedule.specs.declared.Job.{Job}
 use Rattle.ambient_checks.specs.Log.{Log, Places}
 
 abbrev pub log-of : List Float → List Float → Log

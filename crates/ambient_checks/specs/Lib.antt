@@ -1,3 +1,3 @@
--- The log of a soak under a changing ambient level, and its checks.
+-- The checks of a soak under a changing ambient level: of field, load and log.
 pub mod Log
 pub mod Inner

@@ -12,9 +12,9 @@ use Rattle.checks.specs.declared.Checked.the-variants.{Sound, Refused}
 use Rattle.generator_action.specs.Generator.{Generator}
 use Rattle.combination.specs.Call.{Call, ends, cleared}
 use Rattle.ambient_checks.specs.Log.{Log, records-of}
-use Rattle.ambient.specs.declared.AmbientAnswer.{AmbientAnswer}
-use Rattle.ambient.specs.declared.AmbientAnswer.the-variants.{Refusal, NotANumber, Logged}
-use Rattle.ambient.specs.Ambient.{Progress, Ended, ended, record-step, begun, concluded, ambient-checks, Results, places-of, Logging, written, unless-log-refused, ambient}
+use Rattle.ambient_turns.specs.declared.AmbientAnswer.{AmbientAnswer}
+use Rattle.ambient_turns.specs.declared.AmbientAnswer.the-variants.{Refusal, NotANumber, Logged}
+use Rattle.ambient_turns.specs.Ambient.{Progress, Ended, ended, record-step, begun, concluded, ambient-checks, Results, places-of, Logging, written, unless-log-refused, ambient}
 use Rattle.stages_claims.proofs.Walks.{next, walk-next, stays, EndedAt, ended-at}
 use Rattle.ambient_claims.specs.Ran.{record-need, Run, Complete, NanAt, RefusedAt}
 use Rattle.ambient_claims.proofs.Reached.{stands, call, temperature, checked, RanTo, Outcome, refused, nan, result, outcome, refused-step, nan-step, reached, standing, back}

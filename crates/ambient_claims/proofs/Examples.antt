@@ -9,9 +9,9 @@ use Rattle.doubles.specs.F64.{bits, nat, 1f, +0, +∞}
 use Rattle.general_operator.specs.Csr.{Csr, csr}
 use Rattle.generator_action.specs.Generator.{forward}
 use Rattle.ambient_checks.specs.Inner.{log-of}
-use Rattle.ambient.specs.declared.AmbientAnswer.the-variants.{Refusal, NotANumber, Logged}
-use Rattle.ambient.specs.Ambient.{Logging, ambient, open-Ambient}
-use Rattle.ambient.specs.Inner.{results, logging}
+use Rattle.ambient_turns.specs.declared.AmbientAnswer.the-variants.{Refusal, NotANumber, Logged}
+use Rattle.ambient_turns.specs.Ambient.{Logging, ambient, open-Ambient}
+use Rattle.ambient_turns.specs.Inner.{results, logging}
 
 -- no entries, of one row and of two
 abbrev empty : Csr

@@ -14,9 +14,9 @@ use Rattle.checks.specs.declared.Checked.the-variants.{Sound, Refused}
 use Rattle.generator_action.specs.Generator.{Generator}
 use Rattle.combination.specs.Call.{ends, cleared}
 use Rattle.ambient_checks.specs.Log.{Log}
-use Rattle.ambient.specs.declared.AmbientAnswer.{AmbientAnswer}
-use Rattle.ambient.specs.declared.AmbientAnswer.the-variants.{Refusal}
-use Rattle.ambient.specs.Ambient.{ambient-checks, ended, Results, places-of, Logging, written, unless-log-refused, ambient}
+use Rattle.ambient_turns.specs.declared.AmbientAnswer.{AmbientAnswer}
+use Rattle.ambient_turns.specs.declared.AmbientAnswer.the-variants.{Refusal}
+use Rattle.ambient_turns.specs.Ambient.{ambient-checks, ended, Results, places-of, Logging, written, unless-log-refused, ambient}
 use Rattle.combination.proofs.Cleared.{cleared-less}
 use Rattle.ambient_claims.specs.Ran.{record-need, Ran, NanAt, RefusedAt}
 use Rattle.ambient_claims.proofs.Answers.{whole, refused-at}

@@ -27,9 +27,9 @@ use Rattle.taylor_job.specs.Calls.{combination-checks}
 use Rattle.demand_3.proofs.Never23.{InRange, combination-no-number}
 use Rattle.ambient_checks.specs.Log.{Log, records-of, Places, field-checks, log-checks}
 use Rattle.ambient_checks.proofs.Checks.{Logged, log-known}
-use Rattle.ambient.specs.declared.AmbientAnswer.the-variants as answer
+use Rattle.ambient_turns.specs.declared.AmbientAnswer.the-variants as answer
 use Rattle.ambient_record.specs.Record.{wider}
-use Rattle.ambient.specs.Ambient.{ambient-checks, Results, places-of, Logging, written, unless-log-refused, ambient}
+use Rattle.ambient_turns.specs.Ambient.{ambient-checks, Results, places-of, Logging, written, unless-log-refused, ambient}
 use Rattle.ambient_claims.specs.Ran.{record-need, Ran, RefusedAt}
 use Rattle.ambient_claims.proofs.Answers.{whole, refused-at, at-refused-leaves, refusal-is}
 use Rattle.ambient_claims.proofs.Memory.{room-ran}

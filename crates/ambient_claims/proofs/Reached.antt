@@ -17,8 +17,8 @@ use Rattle.taylor_job.specs.Calls.{combination-checks}
 use Rattle.taylor_job.specs.declared.TaylorAnswer.{TaylorAnswer}
 use Rattle.taylor_job.specs.declared.TaylorAnswer.the-variants as taylor
 use Rattle.ambient_checks.specs.Log.{Log}
-use Rattle.ambient.specs.declared.AmbientAnswer.the-variants.{Refusal, NotANumber}
-use Rattle.ambient.specs.Ambient.{Progress, Ended, ended, shown, settle, record-step, begun}
+use Rattle.ambient_turns.specs.declared.AmbientAnswer.the-variants.{Refusal, NotANumber}
+use Rattle.ambient_turns.specs.Ambient.{Progress, Ended, ended, shown, settle, record-step, begun}
 use Rattle.ambient_record.specs.Record.{record-call}
 use Rattle.stages_claims.proofs.Walks.{next, walk-next}
 use Rattle.ambient_claims.specs.Ran.{Gave, record-need, vectors-at, call-at, Run, Next, Ran}

@@ -22,7 +22,7 @@ use Rattle.phi_shift.proofs.Ways as plan-ways
 use Rattle.combination.specs.Combination.{further, eta-of, combination-operator, combination-start}
 use Rattle.combination.specs.Call.{Call, ends, unless-refused, cleared}
 use Rattle.combination.specs.Checks.{plan-checks, vector-checks, magnitude-checks, schedule-checks, memory-checks, sweep-checks, taylor-need}
-use Rattle.admission.proofs.Admitted.{sweeps-known}
+use Rattle.taylor_schedule.proofs.Admitted.{sweeps-known}
 use Rattle.taylor_job.specs.Calls.{Fields, after-plan, swept-fields, combination-checks, combination-run, phi-combination}
 use Rattle.taylor_job.specs.declared.TaylorAnswer.{TaylorAnswer}
 use Rattle.taylor_job.specs.declared.TaylorAnswer.the-variants as taylor

@@ -23,10 +23,10 @@ use Rattle.checks.proofs.First.{sound-append}
 use Rattle.generator_action.specs.Generator.{Generator}
 use Rattle.ambient_checks.specs.Log.{Log, records-of, field-checks}
 use Rattle.ambient_checks.proofs.Checks.{log-known}
-use Rattle.ambient.specs.declared.AmbientAnswer.{AmbientAnswer}
-use Rattle.ambient.specs.declared.AmbientAnswer.the-variants.{Logged}
-use Rattle.ambient.specs.Ambient.{ambient-checks, ended, Results, places-of, Logging, written}
-use Rattle.ambient.specs.Inner.{results-of}
+use Rattle.ambient_turns.specs.declared.AmbientAnswer.{AmbientAnswer}
+use Rattle.ambient_turns.specs.declared.AmbientAnswer.the-variants.{Logged}
+use Rattle.ambient_turns.specs.Ambient.{ambient-checks, ended, Results, places-of, Logging, written}
+use Rattle.ambient_turns.specs.Inner.{results-of}
 use Rattle.ambient_claims.specs.Ran.{Ran}
 use Rattle.ambient_claims.specs.Claims.{Hit, Windowed, But}
 use Rattle.ambient_claims.proofs.Answers.{whole, End, all, at-nan, at-refusal, end, leaves}

@@ -8,7 +8,7 @@ use lib.Dec.{T}
 use lib.ListN.{length}
 use lib.Ieee.{Float, eq, isNan}
 use Rattle.doubles.specs.F64.{_⩽_, +0, at}
-use Rattle.ambient.specs.Ambient.{Results}
+use Rattle.ambient_turns.specs.Ambient.{Results}
 
 -- place j is in the window of W places, fewer at the start, that ends with place i
 abbrev pub InWindow : ℕ → ℕ → ℕ → Type 0

@@ -30,13 +30,13 @@ use Rattle.phi_shift.specs.Plan.{sweep-plan}
 use Rattle.combination.specs.Combination.{further, eta-of, combination-operator, combination-start}
 use Rattle.combination.specs.Checks.{count-checks, plan-checks, length-checks, finite-checks, magnitude-checks, schedule-checks, memory-checks, vector-checks-by, vector-checks, sweep-checks, taylor-need}
 use Rattle.combination.specs.Call.{Call, ends, cleared}
-use Rattle.admission.specs.Inner.{Coupled, matrix-of, after-checks}
-use Rattle.admission.specs.declared.Job.{Job}
-use Rattle.admission.proofs.Admitted.{coupled-in, sweeps-known, length-start}
+use Rattle.taylor_schedule.specs.Inner.{Coupled, matrix-of, after-checks}
+use Rattle.taylor_schedule.specs.declared.Job.{Job}
+use Rattle.taylor_schedule.proofs.Admitted.{coupled-in, sweeps-known, length-start}
 use Rattle.combination.proofs.Ends.{refused-by, runs}
 use Rattle.combination.proofs.Further.{further-behind, start-of}
 use Rattle.combination.proofs.Cleared.{clear-over, cleared-less}
-use Rattle.admission.proofs.Stored.{quotients-rows}
+use Rattle.taylor_schedule.proofs.Stored.{quotients-rows}
 use Rattle.taylor_job.specs.Calls.{Fields, after-plan, report, swept-fields, combination-checks, combination-run, phi-combination}
 use Rattle.taylor_job.specs.Inner.{Allowed, plan-by, operator-by, job-end}
 use Rattle.taylor_job.specs.declared.TaylorAnswer.{TaylorAnswer}

@@ -4,7 +4,7 @@ use Prim.Native.Nat.{_+_}
 use lib.Ieee.{Float}
 use Rattle.general_operator.specs.Csr.{Csr}
 use Rattle.combination.specs.Call.{Call, ends, cleared}
-use Rattle.admission.specs.declared.Job.{Job}
+use Rattle.taylor_schedule.specs.declared.Job.{Job}
 use Rattle.phi_action_helpers.specs.declared.SweepPlan.{SweepPlan}
 use Rattle.taylor_job.specs.Calls.{Fields, report}
 use Rattle.taylor_job.specs.Inner.{plan-by}

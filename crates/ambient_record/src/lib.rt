@@ -1,9 +1,9 @@
 // One record of a soak under a changing ambient level: the Taylor combination of the field and of the load times the level.
-use admission::Job;
 use checks::Checked;
 use generator_action::Shape;
 use phi_action_helpers::SweepArgs;
 use taylor_job::TaylorAnswer;
+use taylor_schedule::Job;
 ghost use mathlib.Core.Path.{_≡_};
 ghost use mathlib.Core.List.{List};
 ghost use Prim.Native.Nat.{_+_, _≤_};
@@ -15,7 +15,7 @@ ghost use Rattle.general_operator.specs.Csr.{csr};
 ghost use Rattle.generator_action.specs.Mass.{given};
 ghost use Rattle.generator_action.specs.Known.{Passed};
 ghost use Rattle.combination.specs.Call.{ends};
-ghost use Rattle.admission.specs.Inner.{Coupled, matrix-of, after-checks};
+ghost use Rattle.taylor_schedule.specs.Inner.{Coupled, matrix-of, after-checks};
 ghost use Rattle.taylor_job.specs.Calls.{swept-fields};
 ghost use Rattle.taylor_job.specs.Inner.{operator-by, Allowed};
 ghost use Rattle.ambient_checks.specs.Inner.{field-of};
@@ -47,7 +47,7 @@ fn run_record(
         tau: j.tau,
         p: p,
     };
-    let applied = phi_action_helpers::run_sweeps(starts, cols, vals, out, work, x);
+    let applied = taylor_sweeps::run_sweeps(starts, cols, vals, out, work, x);
     vectors::copy_from(out, 0, work, 0, n);
     taylor_job::finish(work, j.need + g.n, p, applied)
 }
@@ -71,16 +71,16 @@ pub fn record_call(
     requires { ⌜ (length (now field) ≡ g .n) × (length (now load) ≡ g .n) × (length (now out) ≡ g .n) ⌝ }
     ensures { λ r. ⌜ ((gs : List Check) → Sound ≡ first gs → ends r (now (out .exit)) (now (work .exit)) ≡ record-call (after-checks gs (csr (g .n) (now (starts .entry)) (now (cols .entry)) (now (vals .entry))) (given (g .«with_mass») (now (mass .entry))) g) duration level (field-of initial (now (field .entry)) (now (out .entry))) (now (load .entry)) (now (out .entry)) (now (work .entry))) ⌝ }
 {
-    let early = ambient_checks::check_record(duration, level, initial, field, out, load);
+    let early = record_checks::check_record(duration, level, initial, field, out, load);
     let Checked::Sound = early else {
         return TaylorAnswer::Refusal(checks::number(early), checks::reported(early));
     };
-    let j = ambient_checks::admit_record(g, duration, level, load, work.len());
+    let j = record_checks::admit_record(g, duration, level, load, work.len());
     let checked = j.checked;
     let Checked::Sound = checked else {
         return TaylorAnswer::Refusal(checks::number(checked), checks::reported(checked));
     };
-    ambient_checks::start_record(initial, field, out, g.n, j.inv, work);
-    ambient_checks::scale_into(load, level, out);
+    record_start::start_record(initial, field, out, g.n, j.inv, work);
+    record_start::scale_into(load, level, out);
     run_record(starts, cols, vals, mass, out, work, j)
 }

@@ -6,13 +6,13 @@ use lib.Ieee.{Float}
 use Rattle.doubles.specs.F64.{+0}
 use Rattle.generator_action.specs.declared.MatrixAnswer.{MatrixAnswer}
 use Rattle.generator_action.specs.declared.MatrixAnswer.the-variants as matrix
-use Rattle.join_checks.specs.Join.{Call}
-use Rattle.join_checks.specs.declared.JoinAnswer.{JoinAnswer}
-use Rattle.join_checks.specs.declared.JoinAnswer.the-variants as join
+use Rattle.join_rows.specs.Join.{Call}
+use Rattle.join_rows.specs.declared.JoinAnswer.{JoinAnswer}
+use Rattle.join_rows.specs.declared.JoinAnswer.the-variants as join
 use Rattle.taylor_job.specs.declared.TaylorReport.{TaylorReport}
 use Rattle.taylor_job.specs.declared.TaylorAnswer.{TaylorAnswer}
 use Rattle.taylor_job.specs.declared.TaylorAnswer.the-variants as taylor
-use Rattle.phi_krylov_arnoldi.specs.declared.KrylovPhiReport.{KrylovPhiReport}
+use Rattle.krylov_advance.specs.declared.KrylovPhiReport.{KrylovPhiReport}
 use Rattle.krylov_job.specs.declared.KrylovPhiOptions.{KrylovPhiOptions}
 use Rattle.krylov_job.specs.declared.KrylovAnswer.{KrylovAnswer}
 use Rattle.krylov_job.specs.declared.KrylovAnswer.the-variants as krylov

@@ -1,6 +1,6 @@
 // Answers as the numbers that an exported function hands back, and solvers from the numbers handed in.
 use generator_action::MatrixAnswer;
-use join_checks::JoinAnswer;
+use join_rows::JoinAnswer;
 use krylov_job::KrylovAnswer;
 use krylov_job::KrylovPhiOptions;
 use phi_solver::PhiAnswer;

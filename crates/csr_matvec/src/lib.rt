@@ -1,33 +1,11 @@
 // Products of the generator G = -Q with a vector: one row kernel, and loops over the rows.
 ghost use mathlib.Core.Path.{_≡_};
-ghost use Prim.Native.Nat.{ℕ, _+_, _≤_, _<_};
-ghost use lib.ListN.{length, getD};
+ghost use Prim.Native.Nat.{_+_, _≤_};
+ghost use lib.ListN.{length};
 ghost use Rattle.lists.specs.Window.{window, splice};
 ghost use Rattle.lists.specs.Bounds.{Disjoint, Apart};
-ghost use Rattle.general_operator.specs.Csr.{csr, Valid, row-product, apply-generator};
+ghost use Rattle.general_operator.specs.Csr.{csr, Valid, apply-generator};
 ghost use Rattle.csr_matvec.specs.Values.{values, Stored, factored, generator-by};
-
-// One row: the entries from `from` up to `to`, two a turn.
-pub fn row_product(cols: &[u32], vals: &[f64], x: &[f64], from: usize, to: usize) -> f64
-    requires { ⌜ (from ≤ to) × ((to ≤ length (now cols)) × (to ≤ length (now vals))) ⌝ }
-    requires { ⌜ ((k : ℕ) → k < length (now cols) → getD (now cols) k 0 < length (now x)) ⌝ }
-    ensures { λ r. ⌜ r ≡ row-product (now (cols .entry)) (now (vals .entry)) (now (x .entry)) from to ⌝ }
-{
-    let mut s = 0.0;
-    let mut k = from;
-    while 2 <= to - k {
-        let c = cols[k] as usize;
-        let d = cols[k + 1] as usize;
-        s = s + vals[k] * x[c];
-        s = s + vals[k + 1] * x[d];
-        k = k + 2;
-    }
-    if k < to {
-        let c = cols[k] as usize;
-        return -(s + vals[k] * x[c]);
-    }
-    -s
-}
 
 // dst = G src
 pub fn csr_matvec(starts: &[u32], cols: &[u32], vals: &[f64], src: &[f64], dst: &mut [f64])
@@ -39,7 +17,7 @@ pub fn csr_matvec(starts: &[u32], cols: &[u32], vals: &[f64], src: &[f64], dst: 
     let mut from = starts[0] as usize;
     for i in 0..n {
         let to = starts[i + 1] as usize;
-        dst[i] = row_product(cols, vals, src, from, to);
+        dst[i] = row_product::row_product(cols, vals, src, from, to);
         from = to;
     }
 }
@@ -76,7 +54,7 @@ fn matvec_in(
     let mut from = starts[0] as usize;
     for i in 0..n {
         let to = starts[i + 1] as usize;
-        let s = row_product(cols, vals, &work[src_at..src_end], from, to);
+        let s = row_product::row_product(cols, vals, &work[src_at..src_end], from, to);
         work[dst_at + i] = factored(scaled, tau, s);
         from = to;
     }
@@ -107,7 +85,7 @@ fn quotients_in(
     for i in 0..n {
         let to = starts[i + 1] as usize;
         let w = &work[..];
-        let s = row_product(cols, &w[q_at..q_end], &w[src_at..src_end], from, to);
+        let s = row_product::row_product(cols, &w[q_at..q_end], &w[src_at..src_end], from, to);
         work[dst_at + i] = factored(scaled, tau, s);
         from = to;
     }

@@ -10,10 +10,10 @@ use lib.Ieee.{Float}
 use Rattle.lists.specs.Walk.{Turn, on, out, walk}
 use Rattle.doubles.specs.F64.{_⊖_, 1f, minNum}
 use Rattle.hess_exp.specs.HessExp.{Small, unplanned, column, hess-exp-e1}
-use Rattle.arnoldi.specs.Basis.{Setting, dim, Basis, breakdown, full}
+use Rattle.gram_schmidt.specs.Basis.{Setting, dim, Basis, breakdown, full}
 use Rattle.trial_steps.specs.declared.Estimate.{Estimate}
 use Rattle.trial_steps.specs.Trials.{Trying, Tried, accepted, stuck, verdict, judge, try-step, exact-step, trials}
-use Rattle.phi_krylov_arnoldi.specs.Run.{State, End, finished, refused, applied-of, columns-of, counted, advance, unfinished, standing, settle, substep, started}
+use Rattle.krylov_advance.specs.Run.{State, End, finished, refused, applied-of, columns-of, counted, advance, unfinished, standing, settle, substep, started}
 use Rattle.demand_3.specs.Trace.{accepted-in, made, runs, trace, total, lengths, tried-on, attempts, Run, status-of, accepted-by, tried-by}
 use Rattle.trial_steps.proofs.Few.{Few, trials-few}
 use Rattle.demand_3.proofs.Counts.{reached, basis-of, trials-of, total-append, standing-state}

@@ -14,9 +14,9 @@ use Rattle.lists.proofs.Walk.{Kept, walk-keeps}
 use Rattle.doubles.specs.F64.{_⊘_, 1f}
 use Rattle.vectors.specs.Vectors.{axpy, scale}
 use Rattle.dot.specs.Dot.{dot}
-use Rattle.arnoldi.specs.Basis.{Setting, dim, Columns, Rest, Breakdown, Basis, breakdown, full, norm2, apply, lessen, orthogonal, rest, extend, arnoldi-step, close, first-column, arnoldi}
-use Rattle.arnoldi.proofs.GramSchmidt.{orthogonal-ext}
-use Rattle.phi_krylov_arnoldi.specs.Run.{columns-of}
+use Rattle.gram_schmidt.specs.Basis.{Setting, dim, Columns, Rest, Breakdown, Basis, breakdown, full, norm2, apply, lessen, orthogonal, rest, extend, arnoldi-step, close, first-column, arnoldi}
+use Rattle.gram_schmidt.proofs.GramSchmidt.{orthogonal-ext}
+use Rattle.krylov_advance.specs.Run.{columns-of}
 use Rattle.demand_3.specs.Krylov.{euclidean, left-of, Built, Based, Begun}
 
 -- what is left of a product does not depend on h

@@ -9,11 +9,11 @@ use lib.ListN.{length, length-append, length-map}
 use lib.Ieee.{Float}
 use Rattle.lists.specs.Walk.{Turn, on, out}
 use Rattle.doubles.specs.F64.{_⊕_, _⊖_, _⊗_, +0, 1f, maxNum}
-use Rattle.arnoldi.specs.Basis.{Setting, Basis, norm2, apply, arnoldi}
+use Rattle.gram_schmidt.specs.Basis.{Setting, Basis, norm2, apply, arnoldi}
 use Rattle.trial_steps.specs.Trials.{Trying, Tried, accepted, stuck, trials}
 use Rattle.trial_steps.proofs.Few.{Few, trials-few}
-use Rattle.phi_krylov_arnoldi.specs.Run.{State, End, finished, refused, EPSILON, applied-of, columns-of, combined, shorter, counted, advance, unfinished, standing, settle, substep, started}
-use Rattle.phi_krylov_arnoldi.proofs.Turns.{applied-few, each-once}
+use Rattle.krylov_advance.specs.Run.{State, End, finished, refused, EPSILON, applied-of, columns-of, combined, shorter, counted, advance, unfinished, standing, settle, substep, started}
+use Rattle.krylov_advance.proofs.Turns.{applied-few, each-once}
 use Rattle.demand_3.specs.Trace.{Accepted, accepted-in, made, runs, trace, total, time-after, last-after, field-after, estimate-after, Run, status-of, accepted-by}
 use Rattle.demand_3.specs.Krylov.{Each}
 

@@ -30,10 +30,10 @@ use Rattle.combination.specs.Call.{Call, unless-refused}
 use Rattle.combination.specs.Combination.{further}
 use Rattle.combination.specs.Checks.{out-of-range, count-checks, time-checks, length-checks, finite-checks, magnitude-checks, memory-checks, vector-checks-by, vector-checks}
 use Rattle.combination.proofs.Range.{no-23}
-use Rattle.admission.proofs.Admitted.{vectors-known, first-within, length-start}
-use Rattle.arnoldi.specs.Basis.{norm2}
-use Rattle.phi_krylov_arnoldi.specs.Run.{State, End, finished, refused, clamp-m, idle}
-use Rattle.phi_krylov_arnoldi.specs.declared.KrylovPhiReport.{KrylovPhiReport}
+use Rattle.taylor_schedule.proofs.Admitted.{vectors-known, first-within, length-start}
+use Rattle.gram_schmidt.specs.Basis.{norm2}
+use Rattle.krylov_advance.specs.Run.{State, End, finished, refused, clamp-m, idle}
+use Rattle.krylov_advance.specs.declared.KrylovPhiReport.{KrylovPhiReport}
 use Rattle.krylov_job.specs.KrylovCall.{bound, dimension, option-checks, bound-checks, run-checks, krylov-need, krylov-checks-by, krylov-checks, after-run, combination-run-krylov, phi-combination-krylov}
 use Rattle.krylov_job.specs.declared.KrylovPhiOptions.{KrylovPhiOptions}
 use Rattle.krylov_job.specs.declared.KrylovAnswer.{KrylovAnswer}

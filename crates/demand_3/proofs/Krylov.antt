@@ -18,8 +18,8 @@ use Rattle.pow2.specs.declared.Prescale.{Prescale}
 use Rattle.pow2.specs.declared.Prescale.the-variants.{By, None}
 use Rattle.pow2.proofs.Largest.{sup-zero, zero-sup}
 use Rattle.phi_action_helpers.specs.Augmented.{Augmented}
-use Rattle.arnoldi.specs.Basis.{Setting, norm2}
-use Rattle.phi_krylov_arnoldi.specs.Run.{State, End, finished, refused, spent, run, started, scaled-back, back, clamp-m, idle, expv-by, expv}
+use Rattle.gram_schmidt.specs.Basis.{Setting, norm2}
+use Rattle.krylov_advance.specs.Run.{State, End, finished, refused, spent, run, started, scaled-back, back, clamp-m, idle, expv-by, expv}
 use Rattle.demand_3.specs.Trace.{trace, Run, scaled, allowed, run-by, run-of, status-of, accepted-by, time-of, field-of, estimate-of}
 use Rattle.demand_3.specs.Krylov.{Each, Zeros, KrylovCost}
 use Rattle.demand_3.proofs.Runs.{run-runs}

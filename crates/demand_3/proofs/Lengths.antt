@@ -23,10 +23,10 @@ use Rattle.retry.specs.Retry.{accepts, retry}
 use Rattle.retry.proofs.Length.{retry-above, retry-fits, retry-nan, retry-at-most}
 use Rattle.trial_steps.proofs.Error.{error-clear}
 use Rattle.hess_exp.specs.HessExp.{Small, unplanned, column, hess-exp-e1}
-use Rattle.arnoldi.specs.Basis.{Setting, dim, Basis, breakdown, full, norm2, apply, arnoldi}
+use Rattle.gram_schmidt.specs.Basis.{Setting, dim, Basis, breakdown, full, norm2, apply, arnoldi}
 use Rattle.trial_steps.specs.declared.Estimate.{Estimate}
 use Rattle.trial_steps.specs.Trials.{Trying, Tried, accepted, stuck, local-error, verdict, judge, try-step, exact-step, trials}
-use Rattle.phi_krylov_arnoldi.specs.Run.{State, End, finished, refused, applied-of, columns-of, advance, unfinished, standing, settle, substep, first-length, started}
+use Rattle.krylov_advance.specs.Run.{State, End, finished, refused, applied-of, columns-of, advance, unfinished, standing, settle, substep, first-length, started}
 use Rattle.demand_3.specs.Trace.{Accepted, Attempt, accepted-in, made, runs, trace, lengths, tried-on, attempts, Run, status-of}
 use Rattle.lists.proofs.Walk.{Kept, walk-keeps}
 use Rattle.demand_3.specs.Krylov.{Each, Within, Step, Short, Landed, Begun, Based, Unended, Steps}

@@ -8,9 +8,9 @@ use native.Mathlib.Nat.{le-trans, le-of-eq, not-suc-le-zero, add-zero, zero-add}
 use native.Mathlib.Omega.{arith}
 use lib.ListN.{length}
 use Rattle.lists.specs.Walk.{Turn, on, out}
-use Rattle.arnoldi.specs.Basis.{Setting, Basis}
+use Rattle.gram_schmidt.specs.Basis.{Setting, Basis}
 use Rattle.trial_steps.specs.Trials.{Trying, Tried, accepted, stuck}
-use Rattle.phi_krylov_arnoldi.specs.Run.{State, End, finished, refused, applied-of, columns-of, counted, advance, unfinished, standing, settle, substep, started}
+use Rattle.krylov_advance.specs.Run.{State, End, finished, refused, applied-of, columns-of, counted, advance, unfinished, standing, settle, substep, started}
 use Rattle.lists.proofs.Walk.{Kept}
 use Rattle.demand_3.specs.Trace.{runs, Run, status-of}
 use Rattle.demand_3.proofs.Counts.{basis-of, trials-of}

@@ -17,10 +17,10 @@ use Rattle.vectors.specs.Vectors.{scale}
 use Rattle.pow2.specs.declared.Scale.{Scale}
 use Rattle.pow2.specs.declared.Prescale.{Prescale}
 use Rattle.pow2.specs.declared.Prescale.the-variants.{By, None}
-use Rattle.arnoldi.specs.Basis.{Setting, len, norm2}
-use Rattle.phi_krylov_arnoldi.specs.Run.{State, End, finished, refused, unfinished, substep, empty-report, started, relative-report}
-use Rattle.phi_krylov_arnoldi.proofs.Long.{FieldLong, substep-long}
-use Rattle.phi_krylov_arnoldi.specs.declared.KrylovPhiReport.{KrylovPhiReport}
+use Rattle.gram_schmidt.specs.Basis.{Setting, len, norm2}
+use Rattle.krylov_advance.specs.Run.{State, End, finished, refused, unfinished, substep, empty-report, started, relative-report}
+use Rattle.krylov_advance.proofs.Long.{FieldLong, substep-long}
+use Rattle.krylov_advance.specs.declared.KrylovPhiReport.{KrylovPhiReport}
 use Rattle.demand_3.specs.Trace.{runs, trace, attempts, total, last-after, field-after, estimate-after, Run, unscaled, relative, status-of, accepted-by, tried-by, time-of, field-of, estimate-of}
 use Rattle.demand_3.specs.Krylov.{euclidean, Each, Zeros, Shortest, Steps, Counted, GoesOn, Finished, Failed, KrylovCost}
 use Rattle.demand_3.proofs.Runs.{trace-settings}

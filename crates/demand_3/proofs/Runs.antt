@@ -4,9 +4,9 @@ use mathlib.Core.List.{List, [], _∷_, _++_, map, append-assoc}
 use Prim.Native.Nat.{ℕ, zero, suc, _+_}
 use lib.ListN.{length, replicate, take}
 use Rattle.lists.specs.Walk.{Turn, on, out, walk}
-use Rattle.arnoldi.specs.Basis.{Setting, Basis, arnoldi}
+use Rattle.gram_schmidt.specs.Basis.{Setting, Basis, arnoldi}
 use Rattle.trial_steps.specs.Trials.{Trying, Tried, accepted, stuck}
-use Rattle.phi_krylov_arnoldi.specs.Run.{State, End, refused, applied-of, columns-of, advance, unfinished, standing, settle, substep, spent, run}
+use Rattle.krylov_advance.specs.Run.{State, End, refused, applied-of, columns-of, advance, unfinished, standing, settle, substep, spent, run}
 use Rattle.demand_3.specs.Trace.{Accepted, Attempt, accepted-in, made, runs, trace, tried-on, attempts}
 
 -- ---- an ended run stays as it is

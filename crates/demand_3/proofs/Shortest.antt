@@ -11,7 +11,7 @@ use lib.Ieee.{Float, isNan}
 use Rattle.doubles.specs.F64.{_⊕_, _⩽_, +0, minNum}
 use Rattle.doubles.proofs.Total.{⩽-refl, ⩽-trans, lt-numbers}
 use Rattle.doubles.proofs.Extremes.{min-of-two}
-use Rattle.phi_krylov_arnoldi.specs.Run.{shorter}
+use Rattle.krylov_advance.specs.Run.{shorter}
 use Rattle.demand_3.specs.Trace.{Accepted}
 use Rattle.demand_3.specs.Krylov.{Each, OneOf, Shortest, Steps}
 use Rattle.demand_3.proofs.Counts.{shortest-after}

@@ -16,7 +16,7 @@ use Rattle.checks.specs.First.{first}
 use Rattle.checks.specs.declared.Checked.the-variants.{Sound}
 use Rattle.combination.specs.Combination.{further, eta-of, combination-operator, combination-start, action-operator, init-aug-vector}
 use Rattle.taylor_job.specs.Calls.{combination-checks, phi-combination, action-checks, phi-action, phi-action-batched}
-use Rattle.phi_krylov_arnoldi.specs.declared.KrylovPhiReport.{KrylovPhiReport}
+use Rattle.krylov_advance.specs.declared.KrylovPhiReport.{KrylovPhiReport}
 use Rattle.krylov_job.specs.KrylovCall.{bound, krylov-checks, phi-combination-krylov}
 use Rattle.krylov_job.specs.declared.KrylovPhiOptions.{KrylovPhiOptions}
 use Rattle.krylov_job.specs.declared.KrylovAnswer.the-variants.{Refusal, Result}

@@ -16,9 +16,9 @@ use Rattle.combination.specs.Call.{Call}
 use Rattle.sqrt.specs.Sqrt.{sqrt}
 use Rattle.vectors.specs.Vectors.{scale}
 use Rattle.dot.specs.Dot.{dot}
-use Rattle.arnoldi.specs.Basis.{Setting, dim, Basis, breakdown, full, apply, orthogonal}
-use Rattle.phi_krylov_arnoldi.specs.Run.{columns-of}
-use Rattle.phi_krylov_arnoldi.specs.declared.KrylovPhiReport.{KrylovPhiReport}
+use Rattle.gram_schmidt.specs.Basis.{Setting, dim, Basis, breakdown, full, apply, orthogonal}
+use Rattle.krylov_advance.specs.Run.{columns-of}
+use Rattle.krylov_advance.specs.declared.KrylovPhiReport.{KrylovPhiReport}
 use Rattle.krylov_job.specs.declared.KrylovAnswer.{KrylovAnswer}
 use Rattle.krylov_job.specs.declared.KrylovAnswer.the-variants.{Refusal}
 use Rattle.demand_3.specs.Trace.{Accepted, Attempt, total, Run, last-after, accepted-by, tried-by, time-of, field-of, left-by, estimate-of, relative}

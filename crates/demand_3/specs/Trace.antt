@@ -13,9 +13,9 @@ use Rattle.pow2.specs.Pow2.{pow2-scale}
 use Rattle.pow2.specs.declared.Prescale.{Prescale}
 use Rattle.pow2.specs.declared.Prescale.the-variants.{By, None}
 use Rattle.phi_action_helpers.specs.Augmented.{Augmented}
-use Rattle.arnoldi.specs.Basis.{Setting, Basis, breakdown, full, norm2, apply, arnoldi}
+use Rattle.gram_schmidt.specs.Basis.{Setting, Basis, breakdown, full, norm2, apply, arnoldi}
 use Rattle.trial_steps.specs.Trials.{Trying, Tried, accepted, stuck, try-step, trials}
-use Rattle.phi_krylov_arnoldi.specs.Run.{State, End, EPSILON, columns-of, combined, substep, started, setting, clamp-m}
+use Rattle.krylov_advance.specs.Run.{State, End, EPSILON, columns-of, combined, substep, started, setting, clamp-m}
 
 -- a length tried, and the time at which it was
 pub record Attempt : Type 0 where

@@ -3,8 +3,8 @@ use mathlib.Core.Path.{_≡_, ap, _∙_}
 use mathlib.Core.List.{List}
 use lib.Ieee.{Float}
 use Rattle.combination.specs.Call.{ends}
-use Rattle.ambient.specs.declared.AmbientAnswer.{AmbientAnswer}
-use Rattle.ambient.specs.Ambient.{Results, Logging}
+use Rattle.ambient_turns.specs.declared.AmbientAnswer.{AmbientAnswer}
+use Rattle.ambient_turns.specs.Ambient.{Results, Logging}
 use Rattle.exports_ambient.specs.Told.{AmbientNumbers, ambient-told, ambient-call, telling}
 
 pub all-told : {l : Logging} {t : AmbientNumbers} {a : AmbientAnswer} {output memory : List Float} {r : Results} → t ≡ ambient-told a → record { call = ends a output memory; results = r } ≡ l → ambient-call t output memory r ≡ telling l

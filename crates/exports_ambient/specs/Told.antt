@@ -3,9 +3,9 @@ use mathlib.Core.List.{List}
 use Prim.Native.Nat.{ℕ}
 use lib.Ieee.{Float, nan}
 use Rattle.doubles.specs.F64.{+0}
-use Rattle.ambient.specs.declared.AmbientAnswer.{AmbientAnswer}
-use Rattle.ambient.specs.declared.AmbientAnswer.the-variants.{Refusal, NotANumber, Logged}
-use Rattle.ambient.specs.Ambient.{Results, Logging}
+use Rattle.ambient_turns.specs.declared.AmbientAnswer.{AmbientAnswer}
+use Rattle.ambient_turns.specs.declared.AmbientAnswer.the-variants.{Refusal, NotANumber, Logged}
+use Rattle.ambient_turns.specs.Ambient.{Results, Logging}
 
 -- 0 or the refusal's number, the double reported, and the record that is named
 pub record AmbientNumbers : Type 0 where

@@ -1,12 +1,12 @@
 // A soak under a changing ambient level for programs in other languages: straight on slices, with no copy and no memory of its own.
-use ambient::AmbientAnswer;
+use ambient_turns::AmbientAnswer;
 ghost use mathlib.Core.Path.{_≡_};
 ghost use Rattle.general_operator.specs.Csr.{csr};
 ghost use Rattle.generator_action.specs.Mass.{given};
 ghost use Rattle.generator_action.specs.Generator.{forward};
 ghost use Rattle.ambient_checks.specs.Inner.{log-of};
-ghost use Rattle.ambient.specs.Ambient.{ambient};
-ghost use Rattle.ambient.specs.Inner.{results};
+ghost use Rattle.ambient_turns.specs.Ambient.{ambient};
+ghost use Rattle.ambient_turns.specs.Inner.{results};
 ghost use Rattle.exports_ambient.specs.Told.{ambient-numbers, ambient-told, ambient-call, telling};
 
 // The result is 0 or the refusal's number; `value` is the refusal's double, NaN where a temperature is, else 0; `record` is 0 where none is named.

@@ -10,7 +10,7 @@ use Rattle.general_operator.specs.Csr.{csr}
 use Rattle.generator_action.specs.Mass.{Mass, given}
 use Rattle.generator_action.specs.Generator.{Generator, forward}
 use Rattle.combination.specs.Call.{Call}
-use Rattle.admission.proofs.Stored.{quotients-rows}
+use Rattle.taylor_schedule.proofs.Stored.{quotients-rows}
 use Rattle.answers.specs.Told.{Numbers}
 use Rattle.le_bytes.specs.Bytes.{numbers-of, doubles-of, written-over}
 use Rattle.byte_arrays.specs.Inner.{Cut, lengths-told}
@@ -22,7 +22,7 @@ use Rattle.byte_calls.specs.declared.Told.{Told}
 use Rattle.byte_calls.specs.declared.PhiCall.{PhiCall}
 use Rattle.byte_calls.proofs.Jobs.{checks-cut}
 use Rattle.byte_calls.proofs.Calls.{CallCut, retell, told-again, call-cut}
-use Rattle.exports_bytes.specs.Replies.{Reply, replies, packed}
+use Rattle.array_calls.specs.Replies.{Reply, replies, packed}
 
 module _ (call : PhiCall) (n : ℕ) (vals : List Float) (tau : Float) (k : ℕ) (work : List ℕ) (few : n ≤ 64) (fits : length vals ≤ 512) (b : Bool) (starts cols mass v out : List ℕ) (len a d m p r : ℕ) where
   abbrev matrix : List ℕ → List ℕ → Mass → Generator

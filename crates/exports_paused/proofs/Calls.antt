@@ -21,7 +21,7 @@ use Rattle.general_operator.specs.Checks.{matrix-checks}
 use Rattle.general_operator.proofs.Sound.{shape-sound}
 use Rattle.generator_action.specs.Mass.{Mass, generator-checks}
 use Rattle.generator_action.specs.Generator.{forward}
-use Rattle.admission.proofs.Stored.{quotients-rows}
+use Rattle.taylor_schedule.proofs.Stored.{quotients-rows}
 use Rattle.krylov_job.specs.KrylovCall.{krylov-checks, krylov-checks-by}
 use Rattle.krylov_job.specs.declared.KrylovPhiOptions.{KrylovPhiOptions}
 use Rattle.paused_run.specs.Paused.{Job, Input, PausedCall, leaves, rows, degree, field-checks, start-checks, start-unless, start, step}

@@ -7,7 +7,7 @@ use lib.ListN.{length, getD}
 use lib.Ieee.{Float, nan}
 use Rattle.doubles.specs.F64.{if_then_else_, +0, 1f, at}
 use Rattle.checks.specs.First.{Check, refuse, first}
-use Rattle.phi_krylov_arnoldi.specs.Run.{empty-report}
+use Rattle.krylov_advance.specs.Run.{empty-report}
 use Rattle.krylov_job.specs.declared.KrylovPhiOptions.{KrylovPhiOptions}
 use Rattle.paused_run.specs.Paused.{Job, Input, PausedCall, start-checks, start-unless, step}
 use Rattle.paused_run.specs.declared.PausedRun.{PausedRun}

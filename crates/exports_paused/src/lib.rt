@@ -1,9 +1,9 @@
 // Paused runs for programs in other languages, straight on slices: a run crosses as ten doubles and eight numbers.
+use krylov_advance::KrylovPhiReport;
 use paused_run::PausedRun;
 use paused_run::StartAnswer;
 use paused_run::StepAnswer;
 use paused_run::Tolerance;
-use phi_krylov_arnoldi::KrylovPhiReport;
 use pow2::Scale;
 ghost use mathlib.Core.Path.{_≡_};
 ghost use Prim.Native.Nat.{ℕ, zero};

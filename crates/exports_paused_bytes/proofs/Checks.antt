@@ -24,7 +24,7 @@ use Rattle.generator_action.specs.Mass.{Mass, given, mass-checks, sum-checks, n
 use Rattle.generator_action.specs.Generator.{Generator, forward}
 use Rattle.combination.specs.Combination.{further, eta-of}
 use Rattle.combination.specs.Checks.{count-checks, time-checks, length-checks, finite-checks, magnitude-checks, memory-checks, vector-checks-by}
-use Rattle.admission.proofs.Stored.{quotients-rows}
+use Rattle.taylor_schedule.proofs.Stored.{quotients-rows}
 use Rattle.krylov_job.specs.KrylovCall.{bound, dimension, option-checks, bound-checks as argument-checks, run-checks, krylov-need, krylov-checks-by, krylov-checks}
 use Rattle.krylov_job.specs.declared.KrylovPhiOptions.{KrylovPhiOptions}
 use Rattle.paused_run.specs.Paused.{Job, rows, degree, field-checks, start-checks, start-unless, over, other-checks, step-checks, options-in, tol-in, step-unless, step}

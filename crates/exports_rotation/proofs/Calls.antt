@@ -27,7 +27,7 @@ use Rattle.paused_run.specs.declared.StartAnswer.the-variants.{Refusal, Started
 use Rattle.paused_run.specs.declared.StepAnswer.{StepAnswer}
 use Rattle.rotation.specs.Unit.{empty, waiting, next-place, UnitCall, unit-call, lowest-free, room, admitted-by, admitted, join, turn-of, turn}
 use Rattle.rotation.specs.declared.Rotation.{Rotation}
-use Rattle.rotation_turns.specs.declared.Joined.{Joined}
+use Rattle.rotation_joins.specs.declared.Joined.{Joined}
 use Rattle.rotation_turns.specs.declared.Turned.{Turned}
 use Rattle.exports_paused.specs.Told.{fits, State, start-state, step-state, told, state-checks}
 use Rattle.exports_paused.proofs.Calls.{checks-fit, checks-not}

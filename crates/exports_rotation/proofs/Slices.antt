@@ -23,7 +23,7 @@ use Rattle.paused_run.specs.declared.StartAnswer.the-variants.{Refusal, Started
 use Rattle.rotation.specs.Unit.{unread, run-at, empty, next-place, UnitCall, lowest-free, room, admitted-by, admitted, join, turn-of, turn}
 use Rattle.rotation.specs.declared.Rotation.{Rotation}
 use Rattle.rotation.proofs.Queue.{has-room}
-use Rattle.rotation_turns.proofs.Calls.{none-or-some}
+use Rattle.rotation_joins.proofs.Calls.{none-or-some}
 use Rattle.exports_paused.specs.Told.{numbers-of, flag, counts-of, fits, held, State, start-state, step-state, told}
 use Rattle.exports_paused.proofs.Calls.{checks-fit}
 use Rattle.exports_rotation.specs.Told.{unit-numbers, unit-counts, unit-fits, held-unit, no-unit, unit-of, unit-told, kept-or, told-by, join-told, turn-told, next-told, cleared, clear-told}

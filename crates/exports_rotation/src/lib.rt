@@ -1,6 +1,6 @@
 // Several barrels on one unit for programs in other languages, straight on slices: a unit crosses as 160 doubles and 144 numbers.
+use krylov_advance::KrylovPhiReport;
 use paused_run::PausedRun;
-use phi_krylov_arnoldi::KrylovPhiReport;
 use pow2::Scale;
 use rotation::Rotation;
 ghost use mathlib.Core.Path.{_≡_};
@@ -189,7 +189,7 @@ pub extern "C" fn hazhendu_rotation_next(queues: &[usize]) -> usize
     16
 }
 
-// `rotation_turns::join`, told by `exports_paused::start_state`; `place` is the place taken, 16 if none.
+// `rotation_joins::join`, told by `exports_paused::start_state`; `place` is the place taken, 16 if none.
 #[no_mangle]
 pub extern "C" fn hazhendu_rotation_join(
     n: usize,
@@ -219,7 +219,7 @@ pub extern "C" fn hazhendu_rotation_join(
     let o = answers::options(tol, m, max_substeps);
     let unit = read_unit(units, queues);
     let to = exports_paused::field_end(numbers, counts, field.len());
-    let joined = rotation_turns::join(
+    let joined = rotation_joins::join(
         unit,
         n,
         starts,

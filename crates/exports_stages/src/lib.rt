@@ -1,13 +1,13 @@
 // A soak in stages for programs in other languages: straight on slices, with no copy and no memory of its own.
-use stage_checks::StagedAnswer;
+use schedule_checks::StagedAnswer;
 ghost use mathlib.Core.Path.{_≡_};
 ghost use Rattle.combination.specs.Call.{ends};
 ghost use Rattle.general_operator.specs.Csr.{csr};
 ghost use Rattle.generator_action.specs.Mass.{given};
 ghost use Rattle.generator_action.specs.Generator.{forward};
 ghost use Rattle.phi_solver.specs.Combine.{answering};
-ghost use Rattle.stage_checks.specs.Inner.{schedule-of};
-ghost use Rattle.stages.specs.Stages.{staged};
+ghost use Rattle.schedule_checks.specs.Inner.{schedule-of};
+ghost use Rattle.stage_calls.specs.Stages.{staged};
 ghost use Rattle.exports_stages.specs.Told.{staged-numbers, staged-told};
 
 // The result is 0 or the refusal's number; `value` is 0 or the refusal's double; `stage` is 0 where no stage was refused.

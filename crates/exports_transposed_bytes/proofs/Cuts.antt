@@ -22,7 +22,7 @@ use Rattle.generator_action.specs.Answer.{unless-refused}
 use Rattle.transpose.specs.Transpose.{Lent, Buffers, buffers, lengths, transpose, start-checks, forward-checks, short, lent-checks, before-transposing, transposed-checks, filled, buffers-after, transposed, transposed-answer}
 use Rattle.transpose.proofs.Passed.{Transposable, transposable, transposed-valid, transposed-length}
 use Rattle.combination.specs.Call.{Call}
-use Rattle.admission.proofs.Stored.{quotients-rows}
+use Rattle.taylor_schedule.proofs.Stored.{quotients-rows}
 use Rattle.answers.specs.Told.{Numbers, numbers, run-numbers, matrix-numbers}
 use Rattle.le_bytes.specs.Bytes.{numbers-of, doubles-of, numbers-over, written-over}
 use Rattle.le_bytes.proofs.Counts.{count-numbers, count-doubles}

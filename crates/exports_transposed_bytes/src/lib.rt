@@ -10,7 +10,7 @@ ghost use Rattle.transpose.specs.Transpose.{lengths, buffers-after, transposed-
 ghost use Rattle.transposed.specs.Transposed.{phi-combination-transposed, phi-action-transposed, phi-action-batched-transposed, phi-combination-krylov-transposed};
 ghost use Rattle.le_bytes.specs.Bytes.{numbers-of, doubles-of};
 ghost use Rattle.answers.specs.Told.{numbers, run-numbers, matrix-numbers, taylor-numbers, krylov-numbers, options};
-ghost use Rattle.exports_transposed.specs.Telling.{telling, matrix-told};
+ghost use Rattle.transposed_told.specs.Telling.{telling, matrix-told};
 ghost use Rattle.byte_arrays.specs.Large.{large};
 ghost use Rattle.byte_calls.specs.Inner.{told};
 ghost use Rattle.transposed_byte_calls.specs.Replies.{lent, unpacked, replies, packs, replied, matrix-replies, matrix-packs, matrix-replied};
@@ -68,7 +68,7 @@ fn answer(
     byte_calls::reported(t, starts.len() / 4, mass_len / 8, out_len / 8, v.len() / 8)
 }
 
-// `transposed::phi_combination_transposed`.
+// `transposed_combination::phi_combination_transposed`.
 #[no_mangle]
 pub extern "C" fn hazhendu_phi_combination_transposed_bytes(
     n: usize,
@@ -116,7 +116,7 @@ pub extern "C" fn hazhendu_phi_combination_transposed_bytes(
     byte_calls::taylor_numbers(t, value, s, m, applications)
 }
 
-// `transposed::phi_action_transposed`.
+// `transposed_action::phi_action_transposed`.
 #[no_mangle]
 pub extern "C" fn hazhendu_phi_action_transposed_bytes(
     n: usize,
@@ -164,7 +164,7 @@ pub extern "C" fn hazhendu_phi_action_transposed_bytes(
     byte_calls::taylor_numbers(t, value, s, m, applications)
 }
 
-// `transposed::phi_action_batched_transposed`.
+// `transposed_batch::phi_action_batched_transposed`.
 #[no_mangle]
 pub extern "C" fn hazhendu_phi_action_batched_transposed_bytes(
     n: usize,
@@ -212,7 +212,7 @@ pub extern "C" fn hazhendu_phi_action_batched_transposed_bytes(
     byte_calls::taylor_numbers(t, value, s, m, applications)
 }
 
-// `transposed::phi_combination_krylov_transposed`.
+// `transposed_krylov::phi_combination_krylov_transposed`.
 #[no_mangle]
 pub extern "C" fn hazhendu_phi_combination_krylov_transposed_bytes(
     n: usize,

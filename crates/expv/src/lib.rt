@@ -1,11 +1,11 @@
 // The run over unit time: substeps until the time is 1, from a field scaled by a power of two.
-use arnoldi::Krylov;
+use gram_schmidt::Krylov;
+use krylov_advance::Control;
+use krylov_advance::KrylovPhiReport;
+use krylov_advance::Progress;
+use krylov_advance::RunAnswer;
 use phi_action_helpers::Coupling;
 use phi_action_helpers::Layout;
-use phi_krylov_arnoldi::Control;
-use phi_krylov_arnoldi::KrylovPhiReport;
-use phi_krylov_arnoldi::Progress;
-use phi_krylov_arnoldi::RunAnswer;
 use pow2::Prescale;
 use pow2::Scale;
 ghost use mathlib.Core.Path.{_≡_};
@@ -22,10 +22,10 @@ ghost use Rattle.pow2.specs.declared.Prescale.the-variants.{By};
 ghost use Rattle.phi_action_helpers.specs.declared.Coupling.{Coupling};
 ghost use Rattle.phi_action_helpers.specs.declared.Layout.{Layout};
 ghost use Rattle.phi_action_helpers.specs.Laid.{matrix-at, operator-at};
-ghost use Rattle.arnoldi.specs.Memory.{setting-at, Room};
-ghost use Rattle.phi_krylov_arnoldi.specs.Run.{substep, spent, started, run, back, clamp-m, expv, expv-by};
-ghost use Rattle.phi_krylov_arnoldi.specs.declared.KrylovPhiReport.{KrylovPhiReport};
-ghost use Rattle.phi_krylov_arnoldi.specs.Memory.{state-at, progress-at, end-at};
+ghost use Rattle.gram_schmidt.specs.Memory.{setting-at, Room};
+ghost use Rattle.krylov_advance.specs.Run.{substep, spent, started, run, back, clamp-m, expv, expv-by};
+ghost use Rattle.krylov_advance.specs.declared.KrylovPhiReport.{KrylovPhiReport};
+ghost use Rattle.krylov_advance.specs.Memory.{state-at, progress-at, end-at};
 
 // At most `limit` substeps.
 fn run_substeps(
@@ -97,7 +97,7 @@ fn substeps(
 {
     let y = k.y;
     let end = y + (l.n + l.d);
-    let beta = arnoldi::norm2(&work[y..end]);
+    let beta = gram_schmidt::norm2(&work[y..end]);
     let c = Control {
         time: 0.0,
         next: phi_krylov_arnoldi::first_length(k.m, k.anorm, k.tol, beta),
@@ -153,7 +153,7 @@ fn scaled_run(
     let y = k.y;
     let end = y + (l.n + l.d);
     vectors::scale(&mut work[y..end], f.down);
-    let beta = arnoldi::norm2(&work[y..end]);
+    let beta = gram_schmidt::norm2(&work[y..end]);
     let scaled = Krylov {
         m: k.m,
         h: k.h,

@@ -10,7 +10,7 @@ use Rattle.doubles.specs.F64.{_⊕_, _⊗_, _⊘_, nat, +0, 1f}
 use Rattle.expmv.specs.declared.Selected.{Selected}
 use Rattle.expmv.specs.declared.Selected.the-variants.{NoRow, Row}
 use Rattle.hess_exp.specs.HessExp.{Terms, term-step, hess-sweep, e1, Small, unplanned, column, swept, hess-exp-e1}
-use Rattle.hess_product.specs.HessProduct.{hess-product}
+use Rattle.hess_rows.specs.HessProduct.{hess-product}
 
 -- n values, where there is a plan
 abbrev pub Long : ℕ → Small → Type 0

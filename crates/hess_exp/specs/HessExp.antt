@@ -10,7 +10,7 @@ use Rattle.doubles.specs.Sum.{sum, open-Sum}
 use Rattle.expmv.specs.Select.{select-s-m, M-MAX, open-Select}
 use Rattle.expmv.specs.declared.Selected.{Selected}
 use Rattle.expmv.specs.declared.Selected.the-variants.{NoRow, Row}
-use Rattle.hess_product.specs.HessProduct.{place, hess-product, open-HessProduct}
+use Rattle.hess_rows.specs.HessProduct.{place, hess-product, open-HessProduct}
 
 -- the largest column sum of sizes; a NaN sum is dropped
 unfoldable pub column-sum-norm : List Float → ℕ → ℕ → Float

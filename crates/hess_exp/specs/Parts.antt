@@ -5,7 +5,7 @@ use lib.Ieee.{Float}
 use Rattle.lists.specs.Window.{window}
 use Rattle.doubles.specs.F64.{if_then_else_, at, abs}
 use Rattle.doubles.specs.Sum.{sum}
-use Rattle.hess_product.specs.HessProduct.{place}
+use Rattle.hess_rows.specs.HessProduct.{place}
 use Rattle.hess_exp.specs.declared.SmallExp.{SmallExp}
 use Rattle.hess_exp.specs.HessExp.{Terms, Small, unplanned, column}
 

@@ -7,7 +7,7 @@ ghost use Rattle.lists.specs.Window.{window};
 ghost use Rattle.doubles.specs.F64.{_⊕_};
 ghost use Rattle.hess_exp.specs.HessExp.{column-sum-norm, term-step, hess-sweep, hess-exp-e1};
 ghost use Rattle.hess_exp.specs.Parts.{column-sum, terms, small-of};
-ghost use Rattle.hess_product.specs.Parts.{Leading};
+ghost use Rattle.hess_rows.specs.Parts.{Leading};
 
 // Whether there was a plan; its argument; and where there was one, the column in the first places.
 pub struct SmallExp {

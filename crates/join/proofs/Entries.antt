@@ -17,10 +17,10 @@ use Rattle.lists.proofs.Loop.{getD-tabulate, getD-map}
 use Rattle.lists.proofs.Places.{places-found}
 use Rattle.doubles.specs.F64.{at}
 use Rattle.general_operator.specs.Csr.{Csr, start}
-use Rattle.join_checks.specs.Join.{place, holds, value, joined-columns, joined-value, joined-values, join}
-use Rattle.join_checks.specs.Inner.{Ordered}
-use Rattle.join_checks.proofs.Row.{held-at, rise}
-use Rattle.join_checks.proofs.Steps.{held}
+use Rattle.join_rows.specs.Join.{place, holds, value, joined-columns, joined-value, joined-values, join}
+use Rattle.join_rows.specs.Inner.{Ordered}
+use Rattle.join_rows.proofs.Row.{held-at, rise}
+use Rattle.join_rows.proofs.Steps.{held}
 use Rattle.join_checks.proofs.Result.{values-long}
 
 -- row i of q has an entry in column j, at place k of the stored columns

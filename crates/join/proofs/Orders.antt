@@ -5,9 +5,9 @@ use lib.Ieee.{nan}
 use Rattle.checks.specs.First.{Check}
 use Rattle.doubles.specs.F64.{bits, +0, 1f, 2f}
 use Rattle.general_operator.specs.Csr.{Csr, csr}
-use Rattle.join_checks.specs.declared.Lengths.{Lengths}
-use Rattle.join_checks.specs.Join.{join-checks, join-call, open-Join}
-use Rattle.join_checks.specs.declared.JoinAnswer.the-variants.{Refusal, Joined}
+use Rattle.join_rows.specs.declared.Lengths.{Lengths}
+use Rattle.join_rows.specs.Join.{join-checks, join-call, open-Join}
+use Rattle.join_rows.specs.declared.JoinAnswer.the-variants.{Refusal, Joined}
 
 order : (a b : Csr) (l : Lengths) → map (λ (c : Check). c .number) (join-checks a b l) ≡ 1 ∷ 2 ∷ 3 ∷ 4 ∷ 5 ∷ 6 ∷ 11 ∷ 1 ∷ 2 ∷ 3 ∷ 4 ∷ 5 ∷ 6 ∷ 11 ∷ 34 ∷ 35 ∷ 36 ∷ 3 ∷ 6 ∷ []
 unfolding open-Join

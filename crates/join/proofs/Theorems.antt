@@ -29,12 +29,12 @@ use Rattle.general_operator.specs.Checks.{matrix-checks}
 use Rattle.general_operator.proofs.Sound.{or-false}
 use Rattle.general_operator.proofs.Rows.{start-le}
 use Rattle.generator_action.specs.Known.{Finite}
-use Rattle.join_checks.specs.declared.JoinAnswer.the-variants.{Joined}
-use Rattle.join_checks.specs.declared.Lengths.{Lengths}
-use Rattle.join_checks.specs.Join.{place, holds, value, joined-columns, joined-value, join, unordered, not-rising, input-checks, value-checks, pair-checks, result-checks, join-checks, written, join-call, Call, ends}
-use Rattle.join_checks.specs.Inner.{Ordered, Fitting}
+use Rattle.join_rows.specs.declared.JoinAnswer.the-variants.{Joined}
+use Rattle.join_rows.specs.declared.Lengths.{Lengths}
+use Rattle.join_rows.specs.Join.{place, holds, value, joined-columns, joined-value, join, unordered, not-rising, input-checks, value-checks, pair-checks, result-checks, join-checks, written, join-call, Call, ends}
+use Rattle.join_rows.specs.Inner.{Ordered, Fitting}
 use Rattle.join.proofs.Passing.{valid-passes}
-use Rattle.join_checks.proofs.Steps.{held}
+use Rattle.join_rows.proofs.Steps.{held}
 use Rattle.join_checks.proofs.Result.{values-long, input-valid, ordered, same-n, fitting}
 use Rattle.join.proofs.Entries.{Entry, holds-entry, entry-holds, entry-place, start-is, row-ends, entry-held, entry-value, held-entry, result-rises}
 

@@ -1,5 +1,1 @@
-pub mod Values
-pub mod Row
-pub mod Steps
-pub mod Passes
 pub mod Result

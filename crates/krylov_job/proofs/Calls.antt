@@ -26,14 +26,14 @@ use Rattle.phi_action_helpers.specs.Augmented.{augmented}
 use Rattle.combination.specs.Combination.{further, eta-of, combination-operator, combination-start}
 use Rattle.combination.specs.Call.{Call, ends, cleared}
 use Rattle.combination.specs.Checks.{count-checks, time-checks, length-checks, finite-checks, vector-checks-by, vector-checks, magnitude-checks}
-use Rattle.admission.specs.Inner.{matrix-of, after-checks}
-use Rattle.admission.proofs.Admitted.{Vectors, vectors-known, first-within, further-within, coupled-in, enough-known, length-start}
+use Rattle.taylor_schedule.specs.Inner.{matrix-of, after-checks}
+use Rattle.taylor_schedule.proofs.Admitted.{Vectors, vectors-known, first-within, further-within, coupled-in, enough-known, length-start}
 use Rattle.combination.proofs.Further.{length-further}
 use Rattle.combination.proofs.Cleared.{clear-over}
-use Rattle.admission.proofs.Stored.{quotients-rows}
+use Rattle.taylor_schedule.proofs.Stored.{quotients-rows}
 use Rattle.combination.proofs.Ends.{refused-by, runs}
-use Rattle.arnoldi.specs.declared.Krylov.{Krylov}
-use Rattle.phi_krylov_arnoldi.specs.Run.{End, finished, refused, clamp-m}
+use Rattle.gram_schmidt.specs.declared.Krylov.{Krylov}
+use Rattle.krylov_advance.specs.Run.{End, finished, refused, clamp-m}
 use Rattle.krylov_job.specs.KrylovCall.{bound, dimension, option-checks, bound-checks, run-checks, krylov-need, krylov-checks-by, krylov-checks, after-run, combination-run-krylov, phi-combination-krylov}
 use Rattle.krylov_job.specs.Inner.{scaling-by, scaling-of, run-job-by, checks-after, Admitted, Allowed, run-of}
 use Rattle.krylov_job.specs.declared.KrylovAnswer.{KrylovAnswer}

@@ -12,7 +12,7 @@ use Rattle.pow2.specs.Pow2.{pow2-scale}
 use Rattle.pow2.specs.declared.Prescale.{Prescale}
 use Rattle.pow2.specs.declared.Prescale.the-variants.{By, None}
 use Rattle.phi_action_helpers.specs.Augmented.{Augmented}
-use Rattle.phi_krylov_arnoldi.specs.Run.{clamp-m, expv-by, expv}
+use Rattle.krylov_advance.specs.Run.{clamp-m, expv-by, expv}
 
 -- ---- M
 module _ (m len : ℕ) where

@@ -18,15 +18,15 @@ use Rattle.phi_action_helpers.specs.declared.Layout.{Layout}
 use Rattle.phi_action_helpers.specs.Augmented.{augmented}
 use Rattle.phi_action_helpers.specs.Laid.{Lined, matrix-at, operator-at}
 use Rattle.combination.specs.Call.{ends, cleared}
-use Rattle.admission.specs.Inner.{matrix-of}
-use Rattle.admission.proofs.Stored.{Held}
-use Rattle.admission.proofs.Stored as job
-use Rattle.arnoldi.specs.declared.Krylov.{Krylov}
-use Rattle.arnoldi.specs.Memory.{Room}
-use Rattle.phi_krylov_arnoldi.specs.Run.{End, expv}
-use Rattle.phi_krylov_arnoldi.specs.Memory.{end-at}
-use Rattle.phi_krylov_arnoldi.specs.declared.RunAnswer.{RunAnswer}
-use Rattle.phi_krylov_arnoldi.specs.declared.RunAnswer.the-variants.{Finished, Refused}
+use Rattle.taylor_schedule.specs.Inner.{matrix-of}
+use Rattle.taylor_schedule.proofs.Stored.{Held}
+use Rattle.taylor_schedule.proofs.Stored as job
+use Rattle.gram_schmidt.specs.declared.Krylov.{Krylov}
+use Rattle.gram_schmidt.specs.Memory.{Room}
+use Rattle.krylov_advance.specs.Run.{End, expv}
+use Rattle.krylov_advance.specs.Memory.{end-at}
+use Rattle.krylov_advance.specs.declared.RunAnswer.{RunAnswer}
+use Rattle.krylov_advance.specs.declared.RunAnswer.the-variants.{Finished, Refused}
 use Rattle.krylov_job.specs.KrylovCall.{krylov-need, after-run}
 use Rattle.krylov_job.specs.Memory.{layout}
 use Rattle.krylov_job.specs.Inner.{answer-of, Allowed, run-of}

@@ -16,11 +16,11 @@ use Rattle.pow2.specs.declared.Scaling.{Scaling}
 use Rattle.phi_action_helpers.specs.Augmented.{augmented}
 use Rattle.combination.specs.Combination.{further, magnitude}
 use Rattle.combination.specs.Checks.{time-checks, vector-checks-by}
-use Rattle.admission.specs.Inner.{Coupled}
+use Rattle.taylor_schedule.specs.Inner.{Coupled}
 use Rattle.weighted_columns.specs.Inner.{coupling-by}
-use Rattle.phi_krylov_arnoldi.specs.Run.{End, clamp-m, expv}
-use Rattle.phi_krylov_arnoldi.specs.declared.RunAnswer.{RunAnswer}
-use Rattle.phi_krylov_arnoldi.specs.declared.RunAnswer.the-variants.{Finished, Refused}
+use Rattle.krylov_advance.specs.Run.{End, clamp-m, expv}
+use Rattle.krylov_advance.specs.declared.RunAnswer.{RunAnswer}
+use Rattle.krylov_advance.specs.declared.RunAnswer.the-variants.{Finished, Refused}
 use Rattle.krylov_job.specs.KrylovCall.{bound, dimension, option-checks, run-checks, krylov-need}
 use Rattle.krylov_job.specs.Memory.{krylov}
 use Rattle.krylov_job.specs.declared.KrylovPhiOptions.{KrylovPhiOptions}

@@ -15,7 +15,7 @@ use Rattle.generator_action.specs.Generator.{Generator}
 use Rattle.combination.specs.Combination.{further, eta-of, combination-operator, combination-start}
 use Rattle.combination.specs.Call.{Call, ends, unless-refused, cleared, open-Call}
 use Rattle.combination.specs.Checks.{time-checks, length-checks, vector-checks-by, magnitude-checks, memory-checks, open-Checks}
-use Rattle.phi_krylov_arnoldi.specs.Run.{End, finished, refused, clamp-m, expv, open-Run}
+use Rattle.krylov_advance.specs.Run.{End, finished, refused, clamp-m, expv, open-Run}
 use Rattle.krylov_job.specs.declared.KrylovPhiOptions.{KrylovPhiOptions}
 use Rattle.krylov_job.specs.declared.KrylovAnswer.{KrylovAnswer}
 use Rattle.krylov_job.specs.declared.KrylovAnswer.the-variants.{Refusal, Result}

@@ -4,7 +4,7 @@ use mathlib.Core.Bool.{Bool}
 use Prim.Native.Nat.{ℕ, _+_, _*_}
 use lib.Ieee.{Float}
 use Rattle.phi_action_helpers.specs.declared.Layout.{Layout}
-use Rattle.arnoldi.specs.declared.Krylov.{Krylov}
+use Rattle.gram_schmidt.specs.declared.Krylov.{Krylov}
 
 abbrev pub layout : ℕ → ℕ → ℕ → Bool → Layout
 layout n d m mass =

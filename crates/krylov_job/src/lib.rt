@@ -1,10 +1,10 @@
 // A Krylov job as its checks leave it: options, dimension, layout of the working memory, and what is refused before the first substep.
-use arnoldi::Krylov;
 use checks::Checked;
 use generator_action::Shape;
+use gram_schmidt::Krylov;
+use krylov_advance::KrylovPhiReport;
 use phi_action_helpers::Coupling;
 use phi_action_helpers::Layout;
-use phi_krylov_arnoldi::KrylovPhiReport;
 use pow2::Scaling;
 use weighted_columns::Weights;
 ghost use mathlib.Core.Path.{_≡_};
@@ -20,7 +20,7 @@ ghost use Rattle.checks.specs.declared.Checked.the-variants.{Sound};
 ghost use Rattle.combination.specs.Combination.{magnitude};
 ghost use Rattle.combination.specs.Checks.{time-checks, length-checks, vector-checks-by, memory-checks};
 ghost use Rattle.weighted_columns.specs.Inner.{weights-by};
-ghost use Rattle.phi_krylov_arnoldi.specs.Run.{clamp-m};
+ghost use Rattle.krylov_advance.specs.Run.{clamp-m};
 ghost use Rattle.krylov_job.specs.KrylovCall.{bound, dimension, option-checks, bound-checks, krylov-need};
 ghost use Rattle.krylov_job.specs.Memory.{layout, krylov};
 ghost use Rattle.krylov_job.specs.Inner.{scaling-by, scaling-of, run-job-by, Admitted};
@@ -96,7 +96,7 @@ fn check_job(
     ensures { λ r. ⌜ ((os : List Check) → others ≡ first os → r ≡ first (vector-checks-by (time-checks tau) (length-checks output n (length (now (w .entry))) (count * n) ++ os) count (now (w .entry)) ++ option-checks o (dimension n (count - 1) (o .m)))) ⌝ }
 {
     let time = combination::check_time(tau);
-    let vectors = combination::validate_combination(n, time, count, w, output, others);
+    let vectors = vector_checks::validate_combination(n, time, count, w, output, others);
     let Checked::Sound = vectors else {
         return vectors;
     };

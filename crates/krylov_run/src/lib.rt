@@ -1,7 +1,7 @@
 // The run of a Krylov job that passed its checks: the start, the substeps, and what is handed out.
+use krylov_advance::RunAnswer;
 use krylov_job::KrylovAnswer;
 use krylov_job::RunJob;
-use phi_krylov_arnoldi::RunAnswer;
 ghost use mathlib.Core.Path.{_≡_};
 ghost use Prim.Native.Nat.{_+_, _≤_};
 ghost use lib.ListN.{length};
@@ -9,8 +9,8 @@ ghost use Rattle.lists.specs.Window.{window, splice};
 ghost use Rattle.checks.specs.First.{first};
 ghost use Rattle.combination.specs.Combination.{combination-start};
 ghost use Rattle.combination.specs.Call.{ends, cleared};
-ghost use Rattle.admission.specs.Inner.{matrix-of};
-ghost use Rattle.phi_krylov_arnoldi.specs.Memory.{end-at};
+ghost use Rattle.taylor_schedule.specs.Inner.{matrix-of};
+ghost use Rattle.krylov_advance.specs.Memory.{end-at};
 ghost use Rattle.krylov_job.specs.KrylovCall.{after-run};
 ghost use Rattle.krylov_job.specs.Memory.{layout};
 ghost use Rattle.krylov_job.specs.Inner.{answer-of, Allowed, run-of};
@@ -21,7 +21,7 @@ pub fn start_in(n: usize, w: &[f64], d: usize, inv: f64, work: &mut [f64], at: u
     ensures { λ _. ⌜ now (work .exit) ≡ splice at (combination-start n (now (w .entry)) d inv) (now (work .entry)) ⌝ }
 {
     let to = at + (n + d);
-    admission::combination_start(n, w, d, inv, &mut work[at..to]);
+    start_vectors::combination_start(n, w, d, inv, &mut work[at..to]);
 }
 
 fn answer_of(end: RunAnswer) -> KrylovAnswer

@@ -10,7 +10,7 @@ use Rattle.checks.specs.First.{first}
 use Rattle.checks.specs.declared.Checked.{Checked}
 use Rattle.checks.specs.declared.Checked.the-variants.{Sound, Refused}
 use Rattle.combination.specs.Checks.{count-checks, index-checks, time-checks, degree-checks, memory-checks, taylor-need, open-Checks}
-use Rattle.phi_krylov_arnoldi.specs.Run.{clamp-m}
+use Rattle.krylov_advance.specs.Run.{clamp-m}
 use Rattle.krylov_job.specs.KrylovCall.{option-checks, krylov-need, open-KrylovCall}
 use Rattle.krylov_job.specs.declared.KrylovPhiOptions.{KrylovPhiOptions}
 

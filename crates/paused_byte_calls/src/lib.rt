@@ -139,11 +139,11 @@ fn run(
         numbers_array,
         counts_array,
     );
-    le_bytes::pack_doubles(out_array, out);
-    le_bytes::pack_doubles(work_array, work);
-    le_bytes::pack_doubles(field_array, field);
-    le_bytes::pack_doubles(numbers_array, numbers);
-    le_bytes::pack_words(counts_array, counts);
+    pack_bytes::pack_doubles(out_array, out);
+    pack_bytes::pack_doubles(work_array, work);
+    pack_bytes::pack_doubles(field_array, field);
+    pack_bytes::pack_doubles(numbers_array, numbers);
+    pack_bytes::pack_words(counts_array, counts);
     r
 }
 

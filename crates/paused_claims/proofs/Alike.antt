@@ -10,7 +10,7 @@ use Rattle.doubles.specs.F64.{if_then_else_}
 use Rattle.checks.specs.First.{first}
 use Rattle.checks.specs.declared.Checked.{Checked}
 use Rattle.checks.specs.declared.Checked.the-variants.{Sound, Refused}
-use Rattle.phi_krylov_arnoldi.specs.Run.{State, End, finished, refused}
+use Rattle.krylov_advance.specs.Run.{State, End, finished, refused}
 use Rattle.paused_run.specs.Paused.{Input, moved, over, other-checks, step-checks, resumed, verdict, substep-of, after-substep, step-unless, step}
 use Rattle.paused_run.specs.declared.PausedRun.{PausedRun}
 use Rattle.paused_run.specs.declared.Tolerance.the-variants.{Same, New}

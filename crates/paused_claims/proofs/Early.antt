@@ -30,8 +30,8 @@ use Rattle.checks.proofs.Numbers.{before-append, not-by, only-by, if-by}
 use Rattle.general_operator.specs.Csr.{row-sum-norm}
 use Rattle.combination.specs.Combination.{further, vector, gain, magnitude, eta-of}
 use Rattle.combination.specs.Checks.{count-checks, time-checks, length-checks, finite-checks, bad-gain, magnitude-checks, memory-checks, vector-checks-by}
-use Rattle.arnoldi.specs.Basis.{Setting}
-use Rattle.phi_krylov_arnoldi.specs.Run.{State, End}
+use Rattle.gram_schmidt.specs.Basis.{Setting}
+use Rattle.krylov_advance.specs.Run.{State, End}
 use Rattle.krylov_job.specs.KrylovCall.{bound, dimension, option-checks, bound-checks, run-checks, krylov-need, krylov-checks-by, krylov-checks}
 use Rattle.krylov_job.specs.declared.KrylovPhiOptions.{KrylovPhiOptions}
 use Rattle.paused_run.specs.Paused.{Job, rows, degree, leaves, field-checks, Input, tol-in, options-in, over, other-checks, step-checks, step-unless, step}

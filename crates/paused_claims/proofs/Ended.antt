@@ -16,10 +16,10 @@ use Rattle.pow2.specs.declared.Prescale.the-variants.{By, None}
 use Rattle.checks.specs.First.{first}
 use Rattle.checks.specs.declared.Checked.{Checked}
 use Rattle.checks.specs.declared.Checked.the-variants.{Sound, Refused}
-use Rattle.phi_krylov_arnoldi.specs.Run.{State, End, finished}
+use Rattle.krylov_advance.specs.Run.{State, End, finished}
 use Rattle.combination.specs.Combination.{further}
-use Rattle.admission.proofs.Admitted.{first-within}
-use Rattle.arnoldi.specs.Basis.{norm2}
+use Rattle.taylor_schedule.proofs.Admitted.{first-within}
+use Rattle.gram_schmidt.specs.Basis.{norm2}
 use Rattle.krylov_job.specs.KrylovCall.{krylov-checks}
 use Rattle.krylov_job.specs.declared.KrylovPhiOptions.{KrylovPhiOptions}
 use Rattle.paused_run.specs.Paused.{Job, rows, degree, PausedCall, leaves, start, Input, step-unless, step}

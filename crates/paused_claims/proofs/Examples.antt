@@ -12,7 +12,7 @@ use Rattle.generator_action.specs.Generator.{forward}
 use Rattle.krylov_job.specs.declared.KrylovPhiOptions.{KrylovPhiOptions}
 use Rattle.checks.specs.First.{first}
 use Rattle.checks.specs.declared.Checked.the-variants.{Sound}
-use Rattle.phi_krylov_arnoldi.specs.declared.KrylovPhiReport.{KrylovPhiReport}
+use Rattle.krylov_advance.specs.declared.KrylovPhiReport.{KrylovPhiReport}
 use Rattle.paused_run.specs.Paused.{Job, PausedCall, leaves, start-checks, start, Input, step, open-Paused}
 use Rattle.paused_run.specs.declared.PausedRun.{PausedRun}
 use Rattle.paused_run.specs.declared.Tolerance.{Tolerance}

@@ -39,7 +39,7 @@ use Rattle.pow2.proofs.Rounded.{pow2-product, pow2-exact}
 use Rattle.vectors.specs.Vectors.{scale}
 use Rattle.dot.specs.Dot.{lane, lanes, tail, dot}
 use Rattle.vectors.proofs.Laws.{length-scale}
-use Rattle.arnoldi.specs.Basis.{norm2}
+use Rattle.gram_schmidt.specs.Basis.{norm2}
 use Rattle.demand_3.proofs.Krylov.{Finite}
 
 -- ---- the largest size is that of a value

@@ -9,8 +9,8 @@ use Rattle.checks.specs.declared.Checked.the-variants.{Sound}
 use Rattle.checks.proofs.First.{sound-cons, sound-append}
 use Rattle.combination.specs.Combination.{further}
 use Rattle.combination.specs.Checks.{time-checks, vector-checks}
-use Rattle.admission.proofs.Admitted.{Vectors, vectors-known, first-within, length-start}
-use Rattle.phi_krylov_arnoldi.specs.Run.{clamp-m}
+use Rattle.taylor_schedule.proofs.Admitted.{Vectors, vectors-known, first-within, length-start}
+use Rattle.krylov_advance.specs.Run.{clamp-m}
 use Rattle.krylov_job.specs.KrylovCall.{dimension, option-checks, krylov-checks-by, krylov-checks}
 use Rattle.krylov_job.specs.declared.KrylovPhiOptions.{KrylovPhiOptions}
 use Rattle.krylov_job.proofs.Calls.{options-known}

@@ -4,9 +4,9 @@ use mathlib.Core.List.{List, [], _∷_, _++_}
 use lib.Ieee.{Float}
 use Rattle.lists.specs.Walk.{Turn, on, out}
 use Rattle.doubles.specs.F64.{_⊕_}
-use Rattle.arnoldi.specs.Basis.{Setting, Basis, norm2}
+use Rattle.gram_schmidt.specs.Basis.{Setting, Basis, norm2}
 use Rattle.trial_steps.specs.Trials.{Trying, Tried, accepted, stuck}
-use Rattle.phi_krylov_arnoldi.specs.Run.{State, End, applied-of, columns-of, advance, unfinished, settle, substep, started}
+use Rattle.krylov_advance.specs.Run.{State, End, applied-of, columns-of, advance, unfinished, settle, substep, started}
 use Rattle.demand_3.specs.Trace.{Accepted, accepted-in, made, runs, trace, time-after, Run, status-of}
 use Rattle.demand_3.proofs.Counts.{reached, basis-of, trials-of, standing-state}
 use Rattle.paused_claims.specs.Steps.{proposed, proposed-after, proposed-of}

@@ -26,10 +26,10 @@ use Rattle.general_operator.specs.Csr.{row-sum-norm}
 use Rattle.combination.specs.Call.{cleared}
 use Rattle.combination.specs.Combination.{further, combination-operator}
 use Rattle.combination.specs.Checks.{time-checks, length-checks, count-checks, vector-checks-by}
-use Rattle.arnoldi.specs.Basis.{Setting, len, Basis, norm2}
+use Rattle.gram_schmidt.specs.Basis.{Setting, len, Basis, norm2}
 use Rattle.trial_steps.specs.Trials.{Trying, Tried, accepted, stuck}
-use Rattle.phi_krylov_arnoldi.specs.Run.{State, End, finished, refused, applied-of, columns-of, advance, unfinished, standing, settle, substep, started, first-length, empty-report, relative-report, clamp-m, setting}
-use Rattle.phi_krylov_arnoldi.specs.declared.KrylovPhiReport.{KrylovPhiReport}
+use Rattle.krylov_advance.specs.Run.{State, End, finished, refused, applied-of, columns-of, advance, unfinished, standing, settle, substep, started, first-length, empty-report, relative-report, clamp-m, setting}
+use Rattle.krylov_advance.specs.declared.KrylovPhiReport.{KrylovPhiReport}
 use Rattle.krylov_job.specs.KrylovCall.{bound, dimension, krylov-checks-by, krylov-checks}
 use Rattle.krylov_job.specs.declared.KrylovPhiOptions.{KrylovPhiOptions}
 use Rattle.paused_run.specs.Paused.{Job, rows, degree, PausedCall, setting-of, need-of, idle-run, first-run, begun, start, Input, tol-in, over, other-checks, step-checks, resumed, moved, verdict, field-after, substep-of, after-substep, step-unless, step}

@@ -19,8 +19,8 @@ use Rattle.checks.specs.declared.Checked.{Checked}
 use Rattle.checks.specs.declared.Checked.the-variants.{Sound, Refused}
 use Rattle.checks.proofs.First.{and-then, unless, first-cons, first-none, first-append, sound-cons, sound-append}
 use Rattle.combination.specs.Call.{cleared}
-use Rattle.arnoldi.specs.Basis.{norm2}
-use Rattle.phi_krylov_arnoldi.specs.Run.{clamp-m}
+use Rattle.gram_schmidt.specs.Basis.{norm2}
+use Rattle.krylov_advance.specs.Run.{clamp-m}
 use Rattle.krylov_job.specs.KrylovCall.{dimension}
 use Rattle.krylov_job.specs.declared.KrylovPhiOptions.{KrylovPhiOptions}
 use Rattle.paused_run.specs.Paused.{Job, PausedCall, leaves, need-of, fresh, idle-run, first-run, field-checks, start-checks, begun, start-unless, start}

@@ -13,7 +13,7 @@ use Rattle.doubles.specs.F64.{if_then_else_}
 use Rattle.checks.specs.First.{first}
 use Rattle.checks.specs.declared.Checked.{Checked}
 use Rattle.checks.specs.declared.Checked.the-variants.{Sound, Refused}
-use Rattle.phi_krylov_arnoldi.specs.Run.{State, End, finished, refused}
+use Rattle.krylov_advance.specs.Run.{State, End, finished, refused}
 use Rattle.krylov_job.specs.declared.KrylovPhiOptions.{KrylovPhiOptions}
 use Rattle.paused_run.specs.Paused.{Job, Input, tol-in, setting-of, resumed, moved, step-checks, verdict, substep-of, after-substep, step-unless, step}
 use Rattle.paused_run.specs.declared.PausedRun.{PausedRun}

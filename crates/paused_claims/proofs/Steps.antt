@@ -17,10 +17,10 @@ use Rattle.pow2.specs.declared.Scale.{Scale}
 use Rattle.checks.specs.declared.Checked.{Checked}
 use Rattle.checks.specs.declared.Checked.the-variants.{Sound}
 use Rattle.combination.specs.Call.{cleared}
-use Rattle.arnoldi.specs.Basis.{Setting, Basis, arnoldi, norm2}
+use Rattle.gram_schmidt.specs.Basis.{Setting, Basis, arnoldi, norm2}
 use Rattle.trial_steps.specs.Trials.{Trying, Tried, accepted, stuck, trials}
-use Rattle.phi_krylov_arnoldi.specs.Run.{State, End, finished, refused, applied-of, columns-of, advance, unfinished, standing, settle, substep, relative-report, clamp-m}
-use Rattle.phi_krylov_arnoldi.specs.declared.KrylovPhiReport.{KrylovPhiReport}
+use Rattle.krylov_advance.specs.Run.{State, End, finished, refused, applied-of, columns-of, advance, unfinished, standing, settle, substep, relative-report, clamp-m}
+use Rattle.krylov_advance.specs.declared.KrylovPhiReport.{KrylovPhiReport}
 use Rattle.krylov_job.specs.KrylovCall.{dimension, krylov-need}
 use Rattle.krylov_job.specs.declared.KrylovPhiOptions.{KrylovPhiOptions}
 use Rattle.paused_run.specs.Paused.{Job, rows, degree, PausedCall, Input, moved, stopped, over, verdict, after-substep, step-unless, step}

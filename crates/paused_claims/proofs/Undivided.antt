@@ -23,8 +23,8 @@ use Rattle.checks.specs.declared.Checked.{Checked}
 use Rattle.checks.specs.declared.Checked.the-variants.{Sound, Refused}
 use Rattle.general_operator.specs.Csr.{row-sum-norm}
 use Rattle.combination.specs.Call.{Call, ends, unless-refused, cleared}
-use Rattle.arnoldi.specs.Basis.{Setting, norm2}
-use Rattle.phi_krylov_arnoldi.specs.Run.{State, End, finished, refused, substep, spent, run, started, scaled-back, back, relative-report, clamp-m, idle, setting, expv-by, expv}
+use Rattle.gram_schmidt.specs.Basis.{Setting, norm2}
+use Rattle.krylov_advance.specs.Run.{State, End, finished, refused, substep, spent, run, started, scaled-back, back, relative-report, clamp-m, idle, setting, expv-by, expv}
 use Rattle.krylov_job.specs.KrylovCall.{bound, dimension, krylov-checks, after-run, combination-run-krylov, phi-combination-krylov}
 use Rattle.krylov_job.specs.declared.KrylovPhiOptions.{KrylovPhiOptions}
 use Rattle.krylov_job.specs.declared.KrylovAnswer.{KrylovAnswer}

@@ -12,8 +12,8 @@ use Rattle.checks.specs.declared.Checked.{Checked}
 use Rattle.checks.specs.declared.Checked.the-variants.{Sound, Refused}
 use Rattle.general_operator.specs.Csr.{row-sum-norm}
 use Rattle.combination.specs.Combination.{further, eta-of, combination-operator}
-use Rattle.arnoldi.specs.Basis.{Setting}
-use Rattle.phi_krylov_arnoldi.specs.Run.{setting}
+use Rattle.gram_schmidt.specs.Basis.{Setting}
+use Rattle.krylov_advance.specs.Run.{setting}
 use Rattle.krylov_job.specs.KrylovCall.{bound}
 use Rattle.krylov_job.specs.declared.KrylovPhiOptions.{KrylovPhiOptions}
 use Rattle.paused_run.specs.Paused.{Job, PausedCall, start, Input, step-checks, step}

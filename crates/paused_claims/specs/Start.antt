@@ -15,7 +15,7 @@ use Rattle.checks.specs.First.{Check, first}
 use Rattle.checks.specs.declared.Checked.the-variants.{Sound, Refused}
 use Rattle.general_operator.specs.Csr.{row-sum-norm}
 use Rattle.combination.specs.Call.{cleared}
-use Rattle.phi_krylov_arnoldi.specs.Run.{first-length}
+use Rattle.krylov_advance.specs.Run.{first-length}
 use Rattle.krylov_job.specs.KrylovCall.{bound, krylov-need, krylov-checks}
 use Rattle.krylov_job.specs.declared.KrylovPhiOptions.{KrylovPhiOptions}
 use Rattle.paused_run.specs.Paused.{Job, PausedCall, leaves}

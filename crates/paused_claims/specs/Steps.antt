@@ -14,9 +14,9 @@ use Rattle.doubles.specs.F64.{if_then_else_, _⊕_, _⊖_, _⊘_, _⋖_, +0, 1f
 use Rattle.vectors.specs.Vectors.{scale}
 use Rattle.retry.specs.Retry.{retry}
 use Rattle.combination.specs.Call.{cleared}
-use Rattle.arnoldi.specs.Basis.{Setting, arnoldi}
+use Rattle.gram_schmidt.specs.Basis.{Setting, arnoldi}
 use Rattle.trial_steps.specs.Trials.{stuck, trials}
-use Rattle.phi_krylov_arnoldi.specs.Run.{first-length}
+use Rattle.krylov_advance.specs.Run.{first-length}
 use Rattle.krylov_job.specs.declared.KrylovPhiOptions.{KrylovPhiOptions}
 use Rattle.paused_run.specs.Paused.{Job, PausedCall, Input}
 use Rattle.paused_run.specs.declared.PausedRun.{PausedRun}

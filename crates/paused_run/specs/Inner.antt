@@ -17,13 +17,13 @@ use Rattle.generator_action.specs.Mass.{given}
 use Rattle.generator_action.specs.declared.Shape.{Shape}
 use Rattle.phi_action_helpers.specs.Augmented.{augmented}
 use Rattle.combination.specs.Call.{cleared}
-use Rattle.admission.specs.Inner.{after-checks}
-use Rattle.arnoldi.specs.Basis.{Setting, norm2}
-use Rattle.phi_krylov_arnoldi.specs.Run.{State, End, finished, refused, setting, first-length, empty-report}
-use Rattle.phi_krylov_arnoldi.specs.declared.Control.{Control}
-use Rattle.phi_krylov_arnoldi.specs.declared.KrylovPhiReport.{KrylovPhiReport}
-use Rattle.phi_krylov_arnoldi.specs.declared.Progress.{Progress}
-use Rattle.phi_krylov_arnoldi.specs.declared.Progress.the-variants.{On, Finished, Refused}
+use Rattle.taylor_schedule.specs.Inner.{after-checks}
+use Rattle.gram_schmidt.specs.Basis.{Setting, norm2}
+use Rattle.krylov_advance.specs.Run.{State, End, finished, refused, setting, first-length, empty-report}
+use Rattle.krylov_advance.specs.declared.Control.{Control}
+use Rattle.krylov_advance.specs.declared.KrylovPhiReport.{KrylovPhiReport}
+use Rattle.krylov_advance.specs.declared.Progress.{Progress}
+use Rattle.krylov_advance.specs.declared.Progress.the-variants.{On, Finished, Refused}
 use Rattle.krylov_job.specs.declared.KrylovPhiOptions.{KrylovPhiOptions}
 use Rattle.krylov_job.specs.declared.RunJob.{RunJob}
 use Rattle.paused_run.specs.declared.PausedRun.{PausedRun}

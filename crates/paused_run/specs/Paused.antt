@@ -22,9 +22,9 @@ use Rattle.generator_action.specs.Generator.{Generator}
 use Rattle.combination.specs.Combination.{further, eta-of, combination-operator, combination-start}
 use Rattle.combination.specs.Call.{cleared}
 use Rattle.combination.specs.Checks.{length-checks}
-use Rattle.arnoldi.specs.Basis.{Setting, norm2}
-use Rattle.phi_krylov_arnoldi.specs.Run.{State, End, finished, refused, setting, substep, first-length, empty-report, relative-report}
-use Rattle.phi_krylov_arnoldi.specs.declared.KrylovPhiReport.{KrylovPhiReport}
+use Rattle.gram_schmidt.specs.Basis.{Setting, norm2}
+use Rattle.krylov_advance.specs.Run.{State, End, finished, refused, setting, substep, first-length, empty-report, relative-report}
+use Rattle.krylov_advance.specs.declared.KrylovPhiReport.{KrylovPhiReport}
 use Rattle.krylov_job.specs.KrylovCall.{bound, dimension, krylov-need, krylov-checks, krylov-checks-by, open-KrylovCall}
 use Rattle.krylov_job.specs.declared.KrylovPhiOptions.{KrylovPhiOptions}
 use Rattle.paused_run.specs.declared.PausedRun.{PausedRun}

@@ -1,10 +1,10 @@
 // A Krylov run that is paused after its start and after each substep: its state, and what ends it.
 use checks::Checked;
+use krylov_advance::Control;
+use krylov_advance::KrylovPhiReport;
+use krylov_advance::Progress;
 use krylov_job::KrylovPhiOptions;
 use krylov_job::RunJob;
-use phi_krylov_arnoldi::Control;
-use phi_krylov_arnoldi::KrylovPhiReport;
-use phi_krylov_arnoldi::Progress;
 use pow2::Scale;
 ghost use mathlib.Core.Path.{_≡_};
 ghost use mathlib.Core.Bool.{false, not, _||_};

@@ -25,10 +25,10 @@ use Rattle.generator_action.specs.declared.Shape.{Shape}
 use Rattle.combination.specs.Combination.{further, eta-of, combination-start}
 use Rattle.combination.specs.Call.{cleared}
 use Rattle.combination.specs.Checks.{length-checks}
-use Rattle.admission.proofs.Admitted.{first-within}
-use Rattle.admission.proofs.Stored.{quotients-rows}
-use Rattle.arnoldi.specs.Basis.{norm2}
-use Rattle.phi_krylov_arnoldi.specs.Run.{first-length}
+use Rattle.taylor_schedule.proofs.Admitted.{first-within}
+use Rattle.taylor_schedule.proofs.Stored.{quotients-rows}
+use Rattle.gram_schmidt.specs.Basis.{norm2}
+use Rattle.krylov_advance.specs.Run.{first-length}
 use Rattle.krylov_job.specs.KrylovCall.{dimension, krylov-checks, krylov-checks-by}
 use Rattle.krylov_job.specs.Inner.{scaling-by, scaling-of, run-job-by, Admitted}
 use Rattle.krylov_job.proofs.Calls.{Known, known, job-told}

@@ -43,7 +43,7 @@ fn first_run(
     ensures { λ _. ⌜ now (out .exit) ≡ window 0 (length (now (out .entry))) (scale (f .up) (scale (f .down) (now (field .entry)))) ⌝ }
 {
     vectors::scale(field, f.down);
-    let norm = arnoldi::norm2(field);
+    let norm = gram_schmidt::norm2(field);
     let next = phi_krylov_arnoldi::first_length(j.k.m, j.k.anorm, o.tol * norm, norm);
     paused_run::hand_out(out, field, f.up);
     paused_run::fresh(o, j, f, norm, next, false)
@@ -63,7 +63,7 @@ fn begin(
     ensures { λ r. ⌜ leaves r (now (out .exit)) (now (work .exit)) (now (field .exit)) ≡ begun-of o j (combination-start (j .g .n) (now (w .entry)) (j .d) (j .eta .inv)) (cleared (j .need) (now (work .entry))) (pow2-scale (combination-start (j .g .n) (now (w .entry)) (j .d) (j .eta .inv))) ⌝ }
 {
     let n = j.g.n;
-    admission::combination_start(n, w, j.d, j.eta.inv, field);
+    start_vectors::combination_start(n, w, j.d, j.eta.inv, field);
     vectors::clear_in(work, 0, j.need);
     let scaling = pow2::pow2_scale(field);
     match scaling {

@@ -1,18 +1,16 @@
-// The augmented operator [tau G, W; 0, J], and Taylor sweeps with it.
+// The augmented operator [tau G, W; 0, J], and a product with it.
 ghost use mathlib.Core.Path.{_≡_};
 ghost use mathlib.Core.Bool.{false};
 ghost use Prim.Native.Nat.{ℕ, _+_, _≤_, _<_};
 ghost use lib.ListN.{length, getD};
-ghost use Rattle.lists.specs.Loop.{iter, tabulate, zipWith};
+ghost use Rattle.lists.specs.Loop.{tabulate};
 ghost use Rattle.lists.specs.Window.{window, splice};
-ghost use Rattle.lists.specs.Frame.{Kept};
 ghost use Rattle.lists.specs.Bounds.{Apart};
-ghost use Rattle.doubles.specs.F64.{if_then_else_, _⊕_, _⊗_, +0, at};
-ghost use Rattle.vectors.specs.Vectors.{scale};
+ghost use Rattle.doubles.specs.F64.{_⊕_, _⊗_, at};
 ghost use Rattle.general_operator.specs.Csr.{apply-generator};
 ghost use Rattle.phi_action_helpers.specs.Augmented.{scalars, coupled, generator-term, chain-term, bottom, aug-matvec};
-ghost use Rattle.phi_action_helpers.specs.Sweeps.{shifted, scales, horner-step, aug-horner-outer, rescale, sweep, run-sweeps};
-ghost use Rattle.phi_action_helpers.specs.Laid.{matrix-at, operator-at, Ready, Lined, termed, added, horner-at, swept-at};
+ghost use Rattle.phi_action_helpers.specs.Sweeps.{shifted};
+ghost use Rattle.phi_action_helpers.specs.Laid.{matrix-at, operator-at, Ready, added};
 
 // The schedule: s sweeps of degree m, and the shift mu, 0 for none.
 pub struct SweepPlan {
@@ -55,7 +53,7 @@ pub struct SweepArgs {
 }
 
 // The factor of each column, from the chain c.
-fn scalars(gains: [f64; 3], count: usize, one: f64, c: &[f64]) -> [f64; 3]
+pub fn scalars(gains: [f64; 3], count: usize, one: f64, c: &[f64]) -> [f64; 3]
     requires { ⌜ (count ≤ 3) × (count ≤ length (now c)) ⌝ }
     ensures { λ r. ⌜ r ≡ scalars gains count one (now (c .entry)) ⌝ }
 {
@@ -67,7 +65,7 @@ fn scalars(gains: [f64; 3], count: usize, one: f64, c: &[f64]) -> [f64; 3]
 }
 
 // The generator's share of a row.
-fn generator_term(k: Scales, av: f64, u: f64) -> f64
+pub fn generator_term(k: Scales, av: f64, u: f64) -> f64
     ensures { λ r. ⌜ r ≡ generator-term k av u ⌝ }
 {
     if k.shifted {
@@ -158,7 +156,7 @@ fn chain_term(k: Scales, c: &[f64], i: usize) -> f64
 }
 
 // The d values of the chain from c, in place: ascending, so that each reads old places only.
-fn chain_in(work: &mut [f64], c: usize, d: usize, k: Scales)
+pub fn chain_in(work: &mut [f64], c: usize, d: usize, k: Scales)
     requires { ⌜ c + d ≤ length (now work) ⌝ }
     ensures { λ _. ⌜ now (work .exit) ≡ splice c (bottom k d (window c d (now (work .entry)))) (now (work .entry)) ⌝ }
 {
@@ -251,241 +249,4 @@ pub fn aug_product(
     let sc = scalars(gains, count, k.one, &work[chain..end]);
     columns_in(vectors, places, sc, count, work, w, n);
     chain_in(work, chain, d, k);
-}
-
-// The scalars of term j.
-fn scales_of(tau: f64, p: SweepPlan, j: u32) -> Scales
-    ensures { λ r. ⌜ r ≡ scales tau p j ⌝ }
-{
-    let js = (j as f64) * (p.s as f64);
-    Scales {
-        shifted: p.mu != 0.0,
-        tau: tau / js,
-        one: 1.0 / js,
-        mu: p.mu / js,
-    }
-}
-
-// work[y + i] = work[y + i] + work[w + i]
-fn add_in(work: &mut [f64], y: usize, w: usize, len: usize)
-    requires { ⌜ (y + len ≤ length (now work)) × (w + len ≤ length (now work)) ⌝ }
-    requires { ⌜ Apart y w len ⌝ }
-    ensures { λ _. ⌜ now (work .exit) ≡ splice y (zipWith _⊕_ (window y len (now (work .entry))) (window w len (now (work .entry)))) (now (work .entry)) ⌝ }
-{
-    for i in 0..len {
-        let a = work[y + i];
-        let b = work[w + i];
-        work[y + i] = a + b;
-    }
-}
-
-// Where W has one column, work[w + i] becomes row i of the next term, and is added to the field: what `top_in` and `add_in` do, in one loop.
-fn term_rows_in(
-    k: Scales,
-    vectors: &[f64],
-    p: usize,
-    s: f64,
-    work: &mut [f64],
-    w: usize,
-    av: usize,
-    n: usize,
-)
-    requires { ⌜ p + n ≤ length (now vectors) ⌝ }
-    requires { ⌜ (n ≤ w) × (w + n ≤ av) × (av + n ≤ length (now work)) ⌝ }
-    ensures { λ _. ⌜ now (work .exit) ≡ splice 0 (tabulate n (λ i. at (now (work .entry)) i ⊕ (generator-term k (at (now (work .entry)) (av + i)) (at (now (work .entry)) (w + i)) ⊕ s ⊗ at (now (vectors .entry)) (p + i)))) (splice w (tabulate n (λ i. generator-term k (at (now (work .entry)) (av + i)) (at (now (work .entry)) (w + i)) ⊕ s ⊗ at (now (vectors .entry)) (p + i))) (now (work .entry))) ⌝ }
-{
-    for i in 0..n {
-        let t = generator_term(k, work[av + i], work[w + i]) + s * vectors[p + i];
-        let u = work[i];
-        work[w + i] = t;
-        work[i] = u + t;
-    }
-}
-
-// The next term and the field, where W has one column.
-fn single_term_in(
-    starts: &[u32],
-    cols: &[u32],
-    vals: &[f64],
-    vectors: &[f64],
-    work: &mut [f64],
-    l: Layout,
-    b: Coupling,
-    k: Scales,
-)
-    requires { ⌜ Ready l b (now starts) (now cols) (now vals) (now vectors) (now work) ⌝ }
-    requires { ⌜ Lined l × (b .count ≡ 1) ⌝ }
-    ensures { λ _. ⌜ now (work .exit) ≡ added l (termed l (operator-at l b (now (starts .entry)) (now (cols .entry)) (now (vals .entry)) (now (vectors .entry)) (now (work .entry))) k (now (work .entry))) ⌝ }
-{
-    let n = l.n;
-    let d = l.d;
-    let w = l.w;
-    let av = l.av;
-    let chain = w + n;
-    let end = chain + d;
-    let p = b.places[0];
-    let gains = b.gains;
-    csr_matvec::apply_generator(
-        starts,
-        cols,
-        vals,
-        l.mass,
-        work,
-        l.q,
-        w,
-        av,
-        n,
-        false,
-        k.tau,
-    );
-    let sc = scalars(gains, 1, k.one, &work[chain..end]);
-    term_rows_in(k, vectors, p, sc[0], work, w, av, n);
-    chain_in(work, chain, d, k);
-    add_in(work, n, chain, d);
-}
-
-// The next term, and the field with it added.
-fn term_in(
-    starts: &[u32],
-    cols: &[u32],
-    vals: &[f64],
-    vectors: &[f64],
-    work: &mut [f64],
-    l: Layout,
-    b: Coupling,
-    k: Scales,
-)
-    requires { ⌜ Ready l b (now starts) (now cols) (now vals) (now vectors) (now work) ⌝ }
-    requires { ⌜ Lined l ⌝ }
-    ensures { λ _. ⌜ now (work .exit) ≡ added l (termed l (operator-at l b (now (starts .entry)) (now (cols .entry)) (now (vals .entry)) (now (vectors .entry)) (now (work .entry))) k (now (work .entry))) ⌝ }
-{
-    if b.count == 1 {
-        single_term_in(starts, cols, vals, vectors, work, l, b, k);
-    } else {
-        aug_matvec(starts, cols, vals, vectors, work, l, b, k);
-        add_in(work, 0, l.w, l.n + l.d);
-    }
-}
-
-// Term k + 1: it takes the place of the last one and is added to the field. The products with the generator are counted.
-fn horner_step(
-    starts: &[u32],
-    cols: &[u32],
-    vals: &[f64],
-    vectors: &[f64],
-    work: &mut [f64],
-    x: SweepArgs,
-    k: u32,
-    applied: u64,
-) -> u64
-    requires { ⌜ Ready (x .l) (x .b) (now starts) (now cols) (now vals) (now vectors) (now work) ⌝ }
-    requires { ⌜ Lined (x .l) × (k < x .p .m) × (applied ≤ k) ⌝ }
-    ensures { λ r. ⌜ horner-at (x .l) r (now (work .exit)) ≡ horner-step (operator-at (x .l) (x .b) (now (starts .entry)) (now (cols .entry)) (now (vals .entry)) (now (vectors .entry)) (now (work .entry))) (x .tau) (x .p) k (horner-at (x .l) applied (now (work .entry))) ⌝ }
-    ensures { λ _. ⌜ Kept 0 (x .l .q) +0 (now (work .entry)) (now (work .exit)) ⌝ }
-{
-    let l = x.l;
-    let b = x.b;
-    let p = x.p;
-    let s = scales_of(x.tau, p, k + 1);
-    term_in(starts, cols, vals, vectors, work, l, b, s);
-    applied + 1
-}
-
-// The m terms.
-fn terms(
-    starts: &[u32],
-    cols: &[u32],
-    vals: &[f64],
-    vectors: &[f64],
-    work: &mut [f64],
-    x: SweepArgs,
-) -> u64
-    requires { ⌜ Ready (x .l) (x .b) (now starts) (now cols) (now vals) (now vectors) (now work) ⌝ }
-    requires { ⌜ Lined (x .l) ⌝ }
-    ensures { λ r. ⌜ horner-at (x .l) r (now (work .exit)) ≡ iter (horner-step (operator-at (x .l) (x .b) (now (starts .entry)) (now (cols .entry)) (now (vals .entry)) (now (vectors .entry)) (now (work .entry))) (x .tau) (x .p)) (x .p .m) (horner-at (x .l) 0 (now (work .entry))) ⌝ }
-    ensures { λ _. ⌜ Kept 0 (x .l .q) +0 (now (work .entry)) (now (work .exit)) ⌝ }
-{
-    let m = x.p.m;
-    let mut applied = 0u64;
-    for k in 0..m {
-        applied = horner_step(starts, cols, vals, vectors, work, x, k, applied);
-    }
-    applied
-}
-
-// One sweep: the field is the first term, and m terms are added to it.
-fn aug_horner_outer(
-    starts: &[u32],
-    cols: &[u32],
-    vals: &[f64],
-    vectors: &[f64],
-    work: &mut [f64],
-    x: SweepArgs,
-) -> u64
-    requires { ⌜ Ready (x .l) (x .b) (now starts) (now cols) (now vals) (now vectors) (now work) ⌝ }
-    requires { ⌜ Lined (x .l) ⌝ }
-    ensures { λ r. ⌜ horner-at (x .l) r (now (work .exit)) ≡ aug-horner-outer (operator-at (x .l) (x .b) (now (starts .entry)) (now (cols .entry)) (now (vals .entry)) (now (vectors .entry)) (now (work .entry))) (x .tau) (x .p) (window 0 (x .l .n + x .l .d) (now (work .entry))) ⌝ }
-    ensures { λ _. ⌜ Kept 0 (x .l .q) +0 (now (work .entry)) (now (work .exit)) ⌝ }
-{
-    let w = x.l.w;
-    let len = x.l.n + x.l.d;
-    vectors::copy_in(work, w, 0, len);
-    terms(starts, cols, vals, vectors, work, x)
-}
-
-// With a shift, work[y + i] = work[y + i] * f.
-fn rescale_in(work: &mut [f64], y: usize, len: usize, p: SweepPlan, f: f64)
-    requires { ⌜ y + len ≤ length (now work) ⌝ }
-    ensures { λ _. ⌜ now (work .exit) ≡ splice y (if shifted p then scale f (window y len (now (work .entry))) else window y len (now (work .entry))) (now (work .entry)) ⌝ }
-{
-    if p.mu != 0.0 {
-        let end = y + len;
-        vectors::scale(&mut work[y..end], f);
-    }
-}
-
-// One sweep and its rescale by f. The products with the generator are added to those made before.
-fn sweep(
-    starts: &[u32],
-    cols: &[u32],
-    vals: &[f64],
-    vectors: &[f64],
-    work: &mut [f64],
-    x: SweepArgs,
-    f: f64,
-    applied: u64,
-) -> u64
-    requires { ⌜ Ready (x .l) (x .b) (now starts) (now cols) (now vals) (now vectors) (now work) ⌝ }
-    requires { ⌜ Lined (x .l) × (f ≡ rescale (x .p)) × (applied + x .p .m ≤ 18446744073709551615) ⌝ }
-    ensures { λ r. ⌜ swept-at (x .l) r (now (work .exit)) ≡ sweep (operator-at (x .l) (x .b) (now (starts .entry)) (now (cols .entry)) (now (vals .entry)) (now (vectors .entry)) (now (work .entry))) (x .tau) (x .p) (swept-at (x .l) applied (now (work .entry))) ⌝ }
-    ensures { λ _. ⌜ Kept 0 (x .l .q) +0 (now (work .entry)) (now (work .exit)) ⌝ }
-{
-    let made = aug_horner_outer(starts, cols, vals, vectors, work, x);
-    let len = x.l.n + x.l.d;
-    let p = x.p;
-    rescale_in(work, 0, len, p, f);
-    applied + made
-}
-
-// s sweeps.
-pub fn run_sweeps(
-    starts: &[u32],
-    cols: &[u32],
-    vals: &[f64],
-    vectors: &[f64],
-    work: &mut [f64],
-    x: SweepArgs,
-) -> u64
-    requires { ⌜ Ready (x .l) (x .b) (now starts) (now cols) (now vals) (now vectors) (now work) ⌝ }
-    requires { ⌜ Lined (x .l) × (x .p .m ≤ 30) ⌝ }
-    ensures { λ r. ⌜ swept-at (x .l) r (now (work .exit)) ≡ run-sweeps (operator-at (x .l) (x .b) (now (starts .entry)) (now (cols .entry)) (now (vals .entry)) (now (vectors .entry)) (now (work .entry))) (x .tau) (x .p) (window 0 (x .l .n + x .l .d) (now (work .entry))) ⌝ }
-    ensures { λ _. ⌜ Kept 0 (x .l .q) +0 (now (work .entry)) (now (work .exit)) ⌝ }
-{
-    let s = x.p.s;
-    let f = dense_la::dense_exp(x.p.mu / (s as f64));
-    let mut applied = 0u64;
-    for i in 0..s {
-        applied = sweep(starts, cols, vals, vectors, work, x, f, applied);
-    }
-    applied
 }

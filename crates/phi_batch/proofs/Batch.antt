@@ -25,7 +25,7 @@ use Rattle.phi_action_helpers.proofs.Counts.{run-counted}
 use Rattle.combination.specs.Combination.{init-aug-vector}
 use Rattle.taylor_job.specs.Calls.{swept-fields, batch-step, batched}
 use Rattle.taylor_job.proofs.Jobs.{soak-long}
-use Rattle.admission.proofs.Admitted.{length-init}
+use Rattle.taylor_schedule.proofs.Admitted.{length-init}
 
 -- ---- one run
 pub soak-counted : (b : Augmented) (tau : Float) (y : List Float) (p : SweepPlan) → swept-fields b tau y p .applied ≡ p .s * p .m

@@ -1,10 +1,10 @@
 // The batch: phi_0 to phi_p of one vector, over one plan.
-use admission::Job;
 use checks::Checked;
 use generator_action::MatrixAnswer;
 use generator_action::Shape;
 use phi_action_helpers::SweepArgs;
 use taylor_job::TaylorAnswer;
+use taylor_schedule::Job;
 ghost use mathlib.Core.Path.{_≡_};
 ghost use mathlib.Core.List.{List};
 ghost use Prim.Native.Nat.{_+_, _*_, _≤_};
@@ -19,7 +19,7 @@ ghost use Rattle.generator_action.specs.Generator.{forward};
 ghost use Rattle.generator_action.specs.Known.{Passed};
 ghost use Rattle.phi_action_helpers.specs.Laid.{operator-at, Ready, Lined};
 ghost use Rattle.combination.specs.Call.{ends};
-ghost use Rattle.admission.specs.Inner.{Coupled, matrix-of, after-checks};
+ghost use Rattle.taylor_schedule.specs.Inner.{Coupled, matrix-of, after-checks};
 ghost use Rattle.taylor_job.specs.Inner.{layout, operator-by, job-end, Allowed};
 ghost use Rattle.taylor_job.specs.Calls.{batched, phi-action-batched};
 
@@ -45,7 +45,7 @@ fn sweep_batch(
     let n = x.l.n;
     let mut applied = 0u64;
     for k in 0..count {
-        admission::init_aug_vector(n, v, k, inv, work);
+        start_vectors::init_aug_vector(n, v, k, inv, work);
         applied = applied + taylor_job::swept_out(starts, cols, vals, v, out, k * n, work, x);
     }
     applied

@@ -14,7 +14,7 @@ ghost use Rattle.generator_action.specs.Mass.{given};
 ghost use Rattle.generator_action.specs.Generator.{forward};
 ghost use Rattle.generator_action.specs.Known.{Passed};
 ghost use Rattle.combination.specs.Call.{ends};
-ghost use Rattle.admission.specs.Inner.{after-checks};
+ghost use Rattle.taylor_schedule.specs.Inner.{after-checks};
 ghost use Rattle.krylov_job.specs.KrylovCall.{phi-combination-krylov};
 
 // The combination over a generator that passed its checks.

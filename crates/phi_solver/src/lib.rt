@@ -1,8 +1,8 @@
 // A combination by either solver.
-use arnoldi::Krylov;
+use gram_schmidt::Krylov;
+use krylov_advance::KrylovPhiReport;
 use krylov_job::KrylovAnswer;
 use krylov_job::KrylovPhiOptions;
-use phi_krylov_arnoldi::KrylovPhiReport;
 use taylor_job::TaylorAnswer;
 use taylor_job::TaylorReport;
 ghost use mathlib.Core.Path.{_≡_};
@@ -61,7 +61,7 @@ pub fn combine(
     ensures { λ r. ⌜ ends r (now (out .exit)) (now (work .exit)) ≡ combine solver (forward (csr n (now (starts .entry)) (now (cols .entry)) (now (vals .entry))) (given «with_mass» (now (mass .entry)))) tau count (now (w .entry)) (now (out .entry)) (now (work .entry)) ⌝ }
 {
     match solver {
-        PhiSolver::Taylor(cap) => of_taylor(phi_action::phi_combination(
+        PhiSolver::Taylor(cap) => of_taylor(phi_combination::phi_combination(
             n,
             starts,
             cols,

@@ -2,7 +2,7 @@
 // and describes its form. Before a call the double and the counts are 90, and so is every byte of output and working memory.
 use le_bytes::double_at;
 use le_bytes::half_at;
-use le_bytes::pattern;
+use pack_bytes::pattern;
 ghost use mathlib.Core.Path.{_≡_};
 ghost use mathlib.Core.Bool.{true, _&&_, cond};
 ghost use Prim.Native.Nat.{_+_, _-_, _≤_};
@@ -519,7 +519,7 @@ fn ask_200(starts: &[u32], w: &[f64], m: usize, out: &mut [f64], work: &mut [f64
     let mut rejected = 90usize;
     let mut shortest = 90.0f64;
     let mut last = 90.0f64;
-    exports::hazhendu_phi_combination_krylov(
+    exports_krylov::hazhendu_phi_combination_krylov(
         200,
         starts,
         &starts[..0],

@@ -8,7 +8,7 @@ use lib.Ieee.{Float, nan}
 use Rattle.lists.specs.Find.{find}
 use Rattle.lists.specs.Loop.{tabulate}
 use Rattle.doubles.specs.F64.{+0, 1f}
-use Rattle.phi_krylov_arnoldi.specs.Run.{empty-report}
+use Rattle.krylov_advance.specs.Run.{empty-report}
 use Rattle.krylov_job.specs.declared.KrylovPhiOptions.{KrylovPhiOptions}
 use Rattle.paused_run.specs.Paused.{Job, Input, PausedCall, leaves, start, step}
 use Rattle.paused_run.specs.declared.PausedRun.{PausedRun}

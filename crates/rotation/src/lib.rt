@@ -1,6 +1,6 @@
 // Up to sixteen paused runs on one unit, in rotation, one substep at a time: the places and the queue.
+use krylov_advance::KrylovPhiReport;
 use paused_run::PausedRun;
-use phi_krylov_arnoldi::KrylovPhiReport;
 use pow2::Scale;
 ghost use mathlib.Core.Path.{_≡_};
 ghost use Prim.Native.Nat.{_-_, _≤_, _<_};

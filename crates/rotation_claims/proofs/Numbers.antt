@@ -15,7 +15,7 @@ use Rattle.checks.proofs.Numbers.{before-append, not-by}
 use Rattle.checks.specs.declared.Checked.{Checked}
 use Rattle.checks.specs.declared.Checked.the-variants.{Sound, Refused}
 use Rattle.combination.specs.Checks.{count-checks, time-checks, length-checks, finite-checks, magnitude-checks, memory-checks, vector-checks-by}
-use Rattle.phi_krylov_arnoldi.specs.Run.{State, End, finished, refused}
+use Rattle.krylov_advance.specs.Run.{State, End, finished, refused}
 use Rattle.krylov_job.specs.KrylovCall.{option-checks, bound-checks, run-checks, krylov-checks-by, krylov-checks}
 use Rattle.krylov_job.specs.declared.KrylovPhiOptions.{KrylovPhiOptions}
 use Rattle.paused_run.specs.Paused.{Job, rows, degree, field-checks, Input, tol-in, options-in, over, other-checks, step-checks, moved, verdict, substep-of, after-substep, step-unless, step}

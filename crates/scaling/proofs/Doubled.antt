@@ -41,7 +41,7 @@ use Rattle.phi_shift.specs.declared.PlanAnswer.the-variants.{NoPlan, Plan}
 use Rattle.combination.specs.Combination.{combination-operator}
 use Rattle.combination.specs.Call.{Call, unless-refused}
 use Rattle.combination.specs.Checks.{plan-checks, vector-checks}
-use Rattle.admission.proofs.Admitted.{Vectors, vectors-known, further-within, first-within, length-start}
+use Rattle.taylor_schedule.proofs.Admitted.{Vectors, vectors-known, further-within, first-within, length-start}
 use Rattle.taylor_job.specs.declared.TaylorReport.{TaylorReport}
 use Rattle.taylor_job.specs.declared.TaylorAnswer.{TaylorAnswer}
 use Rattle.taylor_job.specs.declared.TaylorAnswer.the-variants.{Refusal, Result}

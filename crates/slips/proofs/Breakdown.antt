@@ -7,7 +7,7 @@ use lib.Ieee.{Float}
 use Rattle.doubles.specs.F64.{bits, nat, 1f, +0}
 use Rattle.general_operator.specs.Csr.{csr}
 use Rattle.phi_action_helpers.specs.Augmented.{augmented}
-use Rattle.arnoldi.specs.Basis.{Setting, Basis, breakdown, full, norm2, arnoldi, open-Basis}
+use Rattle.gram_schmidt.specs.Basis.{Setting, Basis, breakdown, full, norm2, arnoldi, open-Basis}
 
 -- three rows that lose nearly the same: 1, 1 + 2 ^ -45 and 1 + 2 ^ -44, so that nearly nothing is left of the first product
 abbrev nearly-alike : Float → Setting

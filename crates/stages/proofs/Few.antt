@@ -22,8 +22,8 @@ use Rattle.taylor_job.specs.Calls.{phi-combination}
 use Rattle.taylor_job.specs.declared.TaylorReport.{TaylorReport}
 use Rattle.taylor_job.specs.declared.TaylorAnswer.{TaylorAnswer}
 use Rattle.taylor_job.specs.declared.TaylorAnswer.the-variants as taylor
-use Rattle.phi_krylov_arnoldi.specs.Run.{clamp-m}
-use Rattle.phi_krylov_arnoldi.specs.declared.KrylovPhiReport.{KrylovPhiReport}
+use Rattle.krylov_advance.specs.Run.{clamp-m}
+use Rattle.krylov_advance.specs.declared.KrylovPhiReport.{KrylovPhiReport}
 use Rattle.krylov_job.specs.KrylovCall.{dimension, option-checks, krylov-checks-by, krylov-checks, phi-combination-krylov}
 use Rattle.phi_solver.specs.Combine.{of-taylor, of-krylov, answering, combine}
 use Rattle.krylov_job.specs.declared.KrylovPhiOptions.{KrylovPhiOptions}
@@ -35,11 +35,11 @@ use Rattle.phi_solver.specs.declared.PhiAnswer.{PhiAnswer}
 use Rattle.phi_solver.specs.declared.PhiAnswer.the-variants as phi
 use Rattle.krylov_job.proofs.Calls.{options-known}
 use Rattle.demand_3.proofs.Demand3.{demand-3}
-use Rattle.stage_checks.specs.declared.Stage.{Stage}
-use Rattle.stage_checks.specs.Schedule.{stage-checks}
-use Rattle.stage_checks.specs.Inner.{Few}
-use Rattle.stages.specs.Inner.{stage-end}
-use Rattle.stage_checks.proofs.Checks.{stage-known}
+use Rattle.schedule_checks.specs.declared.Stage.{Stage}
+use Rattle.schedule_checks.specs.Schedule.{stage-checks}
+use Rattle.schedule_checks.specs.Inner.{Few}
+use Rattle.stage_calls.specs.Inner.{stage-end}
+use Rattle.schedule_checks.proofs.Checks.{stage-known}
 
 -- an accepted call has passed its checks
 krylov-passed : (x : Checked) (output memory : List Float) (end : Call KrylovAnswer) {r : KrylovPhiReport} → unless-refused krylov.Refusal x output memory end .answer ≡ krylov.Result r → x ≡ Sound

@@ -1,3 +1,2 @@
-pub mod OneStage
 pub mod Few
 pub mod Turns

@@ -17,16 +17,16 @@ use Rattle.combination.specs.Call.{Call, ends, unless-refused}
 use Rattle.combination.proofs.Ends.{refused-by, runs}
 use Rattle.phi_solver.specs.declared.PhiAnswer.{PhiAnswer}
 use Rattle.phi_solver.specs.declared.PhiAnswer.the-variants as phi
-use Rattle.stage_checks.specs.declared.Stage.{Stage}
-use Rattle.stage_checks.specs.declared.StagedAnswer.{StagedAnswer}
-use Rattle.stage_checks.specs.declared.StagedAnswer.the-variants.{Refusal}
-use Rattle.stage_checks.specs.declared.SoFar.{SoFar}
-use Rattle.stage_checks.specs.declared.StageTurn.{StageTurn}
-use Rattle.stage_checks.specs.declared.StageTurn.the-variants.{On, Ended}
-use Rattle.stage_checks.specs.Schedule.{Schedule, stage, stages-of, Progress, further-need, stage-checks, settle, schedule-checks}
-use Rattle.stages.specs.Stages.{stage-call, unless-stage-refused, stage-step, concluded, begun, before-stages, staged}
-use Rattle.stage_checks.specs.Inner.{field-of, turn-at}
-use Rattle.stages.specs.Inner.{stage-end}
+use Rattle.schedule_checks.specs.declared.Stage.{Stage}
+use Rattle.schedule_checks.specs.declared.StagedAnswer.{StagedAnswer}
+use Rattle.schedule_checks.specs.declared.StagedAnswer.the-variants.{Refusal}
+use Rattle.schedule_checks.specs.declared.SoFar.{SoFar}
+use Rattle.schedule_checks.specs.declared.StageTurn.{StageTurn}
+use Rattle.schedule_checks.specs.declared.StageTurn.the-variants.{On, Ended}
+use Rattle.schedule_checks.specs.Schedule.{Schedule, stage, stages-of, Progress, further-need, stage-checks, settle, schedule-checks}
+use Rattle.stage_calls.specs.Stages.{stage-call, unless-stage-refused, stage-step, concluded, begun, before-stages, staged}
+use Rattle.schedule_checks.specs.Inner.{field-of, turn-at}
+use Rattle.stage_calls.specs.Inner.{stage-end}
 
 -- ---- a refusal by a stage's own checks is told as one by its call
 by-checks : (i used : ℕ) (p : Progress) (c : Call PhiAnswer) (x : Checked)

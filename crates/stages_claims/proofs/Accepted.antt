@@ -11,7 +11,7 @@ use Rattle.checks.proofs.First.{sound-append}
 use Rattle.generator_action.specs.Generator.{Generator}
 use Rattle.combination.specs.Call.{Call, unless-refused}
 use Rattle.combination.specs.Checks.{count-checks, plan-checks, time-checks, vector-checks, vector-checks-by}
-use Rattle.admission.proofs.Admitted.{Vectors, vectors-known}
+use Rattle.taylor_schedule.proofs.Admitted.{Vectors, vectors-known}
 use Rattle.taylor_job.specs.Calls.{combination-checks, phi-combination}
 use Rattle.taylor_job.specs.declared.TaylorAnswer.{TaylorAnswer}
 use Rattle.taylor_job.specs.declared.TaylorAnswer.the-variants as taylor
@@ -21,7 +21,7 @@ use Rattle.krylov_job.specs.declared.KrylovAnswer.{KrylovAnswer}
 use Rattle.krylov_job.specs.declared.KrylovAnswer.the-variants as krylov
 use Rattle.phi_solver.specs.declared.PhiSolver.{PhiSolver}
 use Rattle.phi_solver.specs.declared.PhiSolver.the-variants as solver
-use Rattle.stage_checks.specs.Schedule.{time-checks-of}
+use Rattle.schedule_checks.specs.Schedule.{time-checks-of}
 use Rattle.stages_claims.specs.Ran.{Gave}
 
 taylor-passed : (x : Checked) (output memory : List Float) (end : Call TaylorAnswer) → Gave (of-taylor (unless-refused taylor.Refusal x output memory end .answer)) → x ≡ Sound

@@ -16,12 +16,12 @@ use Rattle.generator_action.specs.Generator.{Generator}
 use Rattle.combination.specs.Call.{Call, ends, unless-refused}
 use Rattle.phi_solver.specs.declared.PhiAnswer.{PhiAnswer}
 use Rattle.phi_solver.specs.declared.PhiAnswer.the-variants as phi
-use Rattle.stage_checks.specs.Schedule.{Schedule, stage, stages-of, schedule-checks, stage-checks, Progress}
-use Rattle.stage_checks.specs.declared.StagedReport.{StagedReport}
-use Rattle.stage_checks.specs.declared.StagedAnswer.{StagedAnswer}
-use Rattle.stage_checks.specs.declared.StagedAnswer.the-variants.{Refusal, Staged}
-use Rattle.stage_checks.proofs.Checks.{schedule-known}
-use Rattle.stages.specs.Stages.{stage-step, concluded, begun, before-stages, staged}
+use Rattle.schedule_checks.specs.Schedule.{Schedule, stage, stages-of, schedule-checks, stage-checks, Progress}
+use Rattle.schedule_checks.specs.declared.StagedReport.{StagedReport}
+use Rattle.schedule_checks.specs.declared.StagedAnswer.{StagedAnswer}
+use Rattle.schedule_checks.specs.declared.StagedAnswer.the-variants.{Refusal, Staged}
+use Rattle.schedule_checks.proofs.Checks.{schedule-known}
+use Rattle.stage_calls.specs.Stages.{stage-step, concluded, begun, before-stages, staged}
 use Rattle.stages_claims.specs.Ran.{Ran}
 use Rattle.stages_claims.specs.Claims.{Complete, ByList, ByCall, RefusedAt}
 use Rattle.stages_claims.proofs.Walks.{next, walk-next, stays, EndedAt, ended-at}

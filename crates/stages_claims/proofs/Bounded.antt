@@ -22,7 +22,7 @@ use Rattle.phi_solver.specs.declared.PhiSolver.the-variants as solver
 use Rattle.phi_solver.specs.declared.PhiAnswer.{PhiAnswer}
 use Rattle.demand_3.specs.Demand3.{Demand3}
 use Rattle.demand_3.proofs.Demand3.{demand-3}
-use Rattle.stage_checks.specs.Schedule.{Schedule}
+use Rattle.schedule_checks.specs.Schedule.{Schedule}
 use Rattle.stages_claims.specs.Ran.{solver-at, count-at, Gave, substeps-of, rejected-of, total, call-at, Ran}
 use Rattle.stages_claims.specs.Bounds.{BoundedBy, Bounds}
 use Rattle.stages_claims.proofs.Reached.{total-snoc}

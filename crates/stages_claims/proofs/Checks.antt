@@ -16,10 +16,10 @@ use Rattle.combination.specs.Checks.{count-checks, length-checks, time-checks, 
 use Rattle.expmv.specs.Select.{M-MAX}
 use Rattle.phi_solver.specs.declared.PhiSolver.{PhiSolver}
 use Rattle.phi_solver.specs.declared.PhiSolver.the-variants.{Taylor, Krylov}
-use Rattle.stage_checks.specs.declared.Stage.{Stage}
-use Rattle.stage_checks.specs.Schedule.{Schedule, stages-of, schedule-checks, further-need, wrong-slice, time-checks-of, stage-checks}
-use Rattle.stage_checks.specs.Inner.{Even}
-use Rattle.stage_checks.proofs.Checks.{schedule-known, count-sound, lengths-sound, stage-known}
+use Rattle.schedule_checks.specs.declared.Stage.{Stage}
+use Rattle.schedule_checks.specs.Schedule.{Schedule, stages-of, schedule-checks, further-need, wrong-slice, time-checks-of, stage-checks}
+use Rattle.schedule_checks.specs.Inner.{Even}
+use Rattle.schedule_checks.proofs.Checks.{schedule-known, count-sound, lengths-sound, stage-known}
 use Rattle.stages_claims.specs.Passing.{Timed, Passing}
 
 -- ---- 37 passes exactly where there are 1 to 64 stages and all seven lists have a number for each

@@ -13,10 +13,10 @@ use Rattle.checks.specs.First.{first}
 use Rattle.combination.specs.Call.{Call, ends}
 use Rattle.phi_solver.specs.declared.PhiAnswer.{PhiAnswer}
 use Rattle.phi_solver.specs.declared.PhiAnswer.the-variants as phi
-use Rattle.stage_checks.specs.Inner.{schedule-of}
-use Rattle.stage_checks.specs.Schedule.{Schedule, schedule-checks}
-use Rattle.stage_checks.specs.declared.StagedAnswer.the-variants.{Refusal, Staged}
-use Rattle.stages.specs.Stages.{staged, open-Stages}
+use Rattle.schedule_checks.specs.Inner.{schedule-of}
+use Rattle.schedule_checks.specs.Schedule.{Schedule, schedule-checks}
+use Rattle.schedule_checks.specs.declared.StagedAnswer.the-variants.{Refusal, Staged}
+use Rattle.stage_calls.specs.Stages.{staged, open-Stages}
 use Rattle.stages_claims.specs.Ran.{vectors-before, Gave, total, call-at, Ran}
 use Rattle.stages_claims.proofs.Answers.{complete-result}
 

@@ -22,7 +22,7 @@ use Rattle.combination.proofs.Cleared.{cleared-less, cleared-more}
 use Rattle.taylor_job.specs.Calls.{Fields, after-plan, combination-run, phi-combination}
 use Rattle.taylor_job.specs.declared.TaylorAnswer.{TaylorAnswer}
 use Rattle.taylor_job.specs.declared.TaylorAnswer.the-variants as taylor
-use Rattle.phi_krylov_arnoldi.specs.Run.{End, finished, refused}
+use Rattle.krylov_advance.specs.Run.{End, finished, refused}
 use Rattle.krylov_job.specs.KrylovCall.{after-run, combination-run-krylov, phi-combination-krylov}
 use Rattle.phi_solver.specs.Combine.{of-taylor, of-krylov, answering, combine}
 use Rattle.krylov_job.specs.declared.KrylovAnswer.{KrylovAnswer}
@@ -30,7 +30,7 @@ use Rattle.krylov_job.specs.declared.KrylovAnswer.the-variants as krylov
 use Rattle.phi_solver.specs.declared.PhiSolver.{PhiSolver}
 use Rattle.phi_solver.specs.declared.PhiSolver.the-variants as solver
 use Rattle.phi_solver.specs.declared.PhiAnswer.{PhiAnswer}
-use Rattle.stage_checks.specs.Schedule.{Schedule}
+use Rattle.schedule_checks.specs.Schedule.{Schedule}
 use Rattle.stages_claims.specs.Passing.{need-of, larger, largest-need}
 use Rattle.stages_claims.specs.Ran.{solver-at, count-at, Gave, Ran}
 

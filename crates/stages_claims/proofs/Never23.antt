@@ -21,7 +21,7 @@ use Rattle.combination.specs.Checks.{out-of-range, count-checks, time-checks, d
 use Rattle.taylor_job.specs.Calls.{Fields, after-plan, combination-checks, combination-run, phi-combination}
 use Rattle.taylor_job.specs.declared.TaylorAnswer.{TaylorAnswer}
 use Rattle.taylor_job.specs.declared.TaylorAnswer.the-variants as taylor
-use Rattle.phi_krylov_arnoldi.specs.Run.{End, State, finished, refused}
+use Rattle.krylov_advance.specs.Run.{End, State, finished, refused}
 use Rattle.krylov_job.specs.KrylovCall.{krylov-checks, after-run, combination-run-krylov, phi-combination-krylov}
 use Rattle.phi_solver.specs.Combine.{of-taylor, of-krylov, answering, combine}
 use Rattle.krylov_job.specs.declared.KrylovAnswer.{KrylovAnswer}
@@ -32,11 +32,11 @@ use Rattle.phi_solver.specs.declared.PhiAnswer.the-variants as phi
 use Rattle.demand_3.specs.Demand3.{start-of}
 use Rattle.demand_3.proofs.Krylov.{expv-late}
 use Rattle.demand_3.proofs.Never23.{InRange, never-23, combination-no-number, krylov-no-number}
-use Rattle.stage_checks.specs.declared.Stage.{Stage}
-use Rattle.stage_checks.specs.declared.StagedAnswer.{StagedAnswer}
-use Rattle.stage_checks.specs.declared.StagedAnswer.the-variants.{Refusal, Staged}
-use Rattle.stage_checks.specs.Schedule.{Schedule, stages-of, schedule-checks, stage-checks, Progress}
-use Rattle.stages.specs.Stages.{stage-step, concluded, begun, before-stages, staged}
+use Rattle.schedule_checks.specs.declared.Stage.{Stage}
+use Rattle.schedule_checks.specs.declared.StagedAnswer.{StagedAnswer}
+use Rattle.schedule_checks.specs.declared.StagedAnswer.the-variants.{Refusal, Staged}
+use Rattle.schedule_checks.specs.Schedule.{Schedule, stages-of, schedule-checks, stage-checks, Progress}
+use Rattle.stage_calls.specs.Stages.{stage-step, concluded, begun, before-stages, staged}
 use Rattle.stages_claims.proofs.Walks.{ended-at}
 use Rattle.stages_claims.proofs.Reached.{stands, checks-at, Outcome, early, late, result, outcome}
 

@@ -21,11 +21,11 @@ use Rattle.combination.specs.Call.{Call, ends}
 use Rattle.phi_solver.specs.Combine.{combine}
 use Rattle.phi_solver.specs.declared.PhiAnswer.{PhiAnswer}
 use Rattle.phi_solver.specs.declared.PhiAnswer.the-variants as phi
-use Rattle.stage_checks.specs.Schedule.{Schedule, solver-of, stage, stages-of, further-need, stage-checks, Progress, counted, settle}
-use Rattle.stage_checks.specs.declared.StagedReport.{StagedReport}
-use Rattle.stage_checks.specs.declared.StagedAnswer.{StagedAnswer}
-use Rattle.stage_checks.specs.declared.StagedAnswer.the-variants.{Refusal}
-use Rattle.stages.specs.Stages.{unless-stage-refused, stage-call, stage-step, begun}
+use Rattle.schedule_checks.specs.Schedule.{Schedule, solver-of, stage, stages-of, further-need, stage-checks, Progress, counted, settle}
+use Rattle.schedule_checks.specs.declared.StagedReport.{StagedReport}
+use Rattle.schedule_checks.specs.declared.StagedAnswer.{StagedAnswer}
+use Rattle.schedule_checks.specs.declared.StagedAnswer.the-variants.{Refusal}
+use Rattle.stage_calls.specs.Stages.{unless-stage-refused, stage-call, stage-step, begun}
 use Rattle.stages_claims.specs.Ran.{count-at, vectors-before, Gave, applications-of, substeps-of, rejected-of, total, sums, call-at, Next, Ran}
 use Rattle.stages_claims.proofs.Walks.{next, walk-next}
 use Rattle.stages_claims.proofs.Checks.{stage-sound, stage-passing, timed-known}

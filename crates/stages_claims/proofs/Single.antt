@@ -29,12 +29,12 @@ use Rattle.phi_solver.specs.declared.PhiSolver.{PhiSolver}
 use Rattle.phi_solver.specs.declared.PhiSolver.the-variants as solver
 use Rattle.phi_solver.specs.declared.PhiAnswer.{PhiAnswer}
 use Rattle.phi_solver.specs.declared.PhiAnswer.the-variants as phi
-use Rattle.stage_checks.specs.declared.Stage.{Stage}
-use Rattle.stage_checks.specs.declared.StagedAnswer.{StagedAnswer}
-use Rattle.stage_checks.specs.declared.StagedAnswer.the-variants.{Refusal, Staged}
-use Rattle.stage_checks.specs.Schedule.{Schedule, stage, stages-of, schedule-checks, further-need, wrong-slice, time-checks-of, stage-checks, Progress, counted}
-use Rattle.stage_checks.proofs.Checks.{count-known}
-use Rattle.stages.specs.Stages.{stage-step, concluded, begun, staged}
+use Rattle.schedule_checks.specs.declared.Stage.{Stage}
+use Rattle.schedule_checks.specs.declared.StagedAnswer.{StagedAnswer}
+use Rattle.schedule_checks.specs.declared.StagedAnswer.the-variants.{Refusal, Staged}
+use Rattle.schedule_checks.specs.Schedule.{Schedule, stage, stages-of, schedule-checks, further-need, wrong-slice, time-checks-of, stage-checks, Progress, counted}
+use Rattle.schedule_checks.proofs.Checks.{count-known}
+use Rattle.stage_calls.specs.Stages.{stage-step, concluded, begun, staged}
 use Rattle.stages.proofs.Turns.{staged-refused, staged-is}
 use Rattle.stages_claims.specs.Ran.{solver-at, count-at, vectors-before, Gave}
 use Rattle.stages_claims.specs.Single.{stage-told, one-stage}

@@ -13,7 +13,7 @@ use Rattle.demand_3.specs.Demand3.{clamped}
 use Rattle.phi_solver.specs.declared.PhiSolver.{PhiSolver}
 use Rattle.phi_solver.specs.declared.PhiSolver.the-variants as solver
 use Rattle.phi_solver.specs.declared.PhiAnswer.{PhiAnswer}
-use Rattle.stage_checks.specs.Schedule.{Schedule}
+use Rattle.schedule_checks.specs.Schedule.{Schedule}
 use Rattle.stages_claims.specs.Ran.{solver-at, count-at, applications-of, substeps-of, rejected-of}
 
 -- Taylor: no substeps, nothing rejected, and no more products than any admissible row up to the cap costs; Krylov: at most `limit` substeps, M + 1 products and ten

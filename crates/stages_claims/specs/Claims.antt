@@ -11,8 +11,8 @@ use Rattle.checks.specs.declared.Checked.the-variants.{Sound, Refused}
 use Rattle.generator_action.specs.Generator.{Generator}
 use Rattle.phi_solver.specs.declared.PhiAnswer.{PhiAnswer}
 use Rattle.phi_solver.specs.declared.PhiAnswer.the-variants as phi
-use Rattle.stage_checks.specs.Schedule.{Schedule, stage, stages-of, schedule-checks, stage-checks}
-use Rattle.stage_checks.specs.declared.StagedReport.{StagedReport}
+use Rattle.schedule_checks.specs.Schedule.{Schedule, stage, stages-of, schedule-checks, stage-checks}
+use Rattle.schedule_checks.specs.declared.StagedReport.{StagedReport}
 use Rattle.stages_claims.specs.Ran.{vectors-before, sums, call-at, Ran}
 
 module _ (g : Generator) (s : Schedule) (start further output memory : List Float) where

@@ -10,8 +10,8 @@ use Rattle.combination.specs.Checks.{out-of-range, taylor-need}
 use Rattle.krylov_job.specs.KrylovCall.{dimension, krylov-need}
 use Rattle.phi_solver.specs.declared.PhiSolver.{PhiSolver}
 use Rattle.phi_solver.specs.declared.PhiSolver.the-variants.{Taylor, Krylov}
-use Rattle.stage_checks.specs.declared.Stage.{Stage}
-use Rattle.stage_checks.specs.Schedule.{Schedule}
+use Rattle.schedule_checks.specs.declared.Stage.{Stage}
+use Rattle.schedule_checks.specs.Schedule.{Schedule}
 use Rattle.stages_claims.specs.Ran.{solver-at, count-at}
 
 -- tau is in range, and Taylor's cap is 1 to 30

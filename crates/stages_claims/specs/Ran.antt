@@ -14,8 +14,8 @@ use Rattle.phi_solver.specs.declared.PhiSolver.{PhiSolver}
 use Rattle.phi_solver.specs.declared.PhiSolver.the-variants as solver
 use Rattle.phi_solver.specs.declared.PhiAnswer.{PhiAnswer}
 use Rattle.phi_solver.specs.declared.PhiAnswer.the-variants.{Refusal, Taylor, Krylov}
-use Rattle.stage_checks.specs.Schedule.{Schedule}
-use Rattle.stage_checks.specs.declared.StagedReport.{StagedReport}
+use Rattle.schedule_checks.specs.Schedule.{Schedule}
+use Rattle.schedule_checks.specs.declared.StagedReport.{StagedReport}
 
 -- ---- stage i + 1, by its numbers
 abbrev pub solver-at : Schedule → ℕ → PhiSolver

@@ -25,11 +25,11 @@ use Rattle.phi_shift.proofs.Chosen.{plan-bounded}
 use Rattle.phi_shift.proofs.Ways as plan-ways
 use Rattle.combination.specs.Call.{Call, ends, cleared}
 use Rattle.combination.specs.Checks.{taylor-need}
-use Rattle.admission.specs.Inner.{Coupled, matrix-of}
-use Rattle.admission.specs.declared.Job.{Job}
+use Rattle.taylor_schedule.specs.Inner.{Coupled, matrix-of}
+use Rattle.taylor_schedule.specs.declared.Job.{Job}
 use Rattle.combination.proofs.Cleared.{clear-over}
-use Rattle.admission.proofs.Stored.{Held, long₁, matrix-is, front-is, cleared-is, operator-is}
-use Rattle.admission.proofs.Stored as stored-laws
+use Rattle.taylor_schedule.proofs.Stored.{Held, long₁, matrix-is, front-is, cleared-is, operator-is}
+use Rattle.taylor_schedule.proofs.Stored as stored-laws
 use Rattle.taylor_job.specs.Calls.{Fields, after-plan, report, swept-fields}
 use Rattle.taylor_job.specs.Inner.{layout, Allowed, plan-by, operator-by, job-end}
 use Rattle.taylor_job.specs.declared.TaylorAnswer.{TaylorAnswer}

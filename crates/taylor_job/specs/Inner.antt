@@ -17,7 +17,7 @@ use Rattle.phi_action_helpers.specs.declared.SweepPlan.{SweepPlan}
 use Rattle.phi_shift.specs.Plan.{argument, with-shift}
 use Rattle.combination.specs.Call.{Call, ends, cleared}
 use Rattle.combination.specs.Checks.{taylor-need}
-use Rattle.admission.specs.declared.Job.{Job}
+use Rattle.taylor_schedule.specs.declared.Job.{Job}
 use Rattle.taylor_job.specs.Calls.{Fields, report}
 use Rattle.taylor_job.specs.declared.TaylorAnswer.{TaylorAnswer}
 

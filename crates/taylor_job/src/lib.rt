@@ -1,9 +1,9 @@
 // The run of a Taylor job that passed its checks: the plan, the sweeps, and what is handed out; the calls as definitions.
-use admission::Job;
 use csr_shift::Shift;
 use phi_action_helpers::Layout;
 use phi_action_helpers::SweepArgs;
 use phi_action_helpers::SweepPlan;
+use taylor_schedule::Job;
 ghost use mathlib.Core.Path.{_≡_};
 ghost use mathlib.Core.Bool.{true};
 ghost use Prim.Native.Nat.{_+_, _*_, _≤_};
@@ -17,7 +17,7 @@ ghost use Rattle.generator_action.specs.Mass.{given, stored};
 ghost use Rattle.csr_shift.specs.Shift.{negated-csr-shift};
 ghost use Rattle.phi_action_helpers.specs.Laid.{matrix-at, operator-at, Ready, Lined};
 ghost use Rattle.combination.specs.Call.{ends, cleared};
-ghost use Rattle.admission.specs.Inner.{Coupled, matrix-of};
+ghost use Rattle.taylor_schedule.specs.Inner.{Coupled, matrix-of};
 ghost use Rattle.taylor_job.specs.Inner.{layout, plan-by, operator-by, job-end, Allowed};
 ghost use Rattle.taylor_job.specs.Calls.{report, swept-fields};
 
@@ -110,7 +110,7 @@ pub fn swept_out(
     ensures { λ _. ⌜ Kept 0 (x .l .q) +0 (now (work .entry)) (now (work .exit)) ⌝ }
 {
     let n = x.l.n;
-    let applied = phi_action_helpers::run_sweeps(starts, cols, vals, vectors, work, x);
+    let applied = taylor_sweeps::run_sweeps(starts, cols, vals, vectors, work, x);
     vectors::copy_from(out, place, work, 0, n);
     applied
 }

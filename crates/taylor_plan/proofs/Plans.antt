@@ -28,10 +28,10 @@ use Rattle.phi_shift.proofs.Ways as plan-ways
 use Rattle.combination.specs.Checks.{plan-checks, schedule-checks, memory-checks}
 use Rattle.combination.specs.Call.{Call, ends, cleared}
 use Rattle.combination.proofs.Ends.{refused-by, runs}
-use Rattle.admission.specs.Inner.{matrix-of, after-checks}
-use Rattle.admission.specs.declared.Schedule.{Schedule}
-use Rattle.admission.proofs.Admitted.{Planned, planned-known}
-use Rattle.admission.proofs.Stored.{Held, store-fits, matrix-is, cleared-is}
+use Rattle.taylor_schedule.specs.Inner.{matrix-of, after-checks}
+use Rattle.taylor_schedule.specs.declared.Schedule.{Schedule}
+use Rattle.taylor_schedule.proofs.Admitted.{Planned, planned-known}
+use Rattle.taylor_schedule.proofs.Stored.{Held, store-fits, matrix-is, cleared-is}
 use Rattle.taylor_job.specs.declared.TaylorAnswer.{TaylorAnswer}
 use Rattle.taylor_job.specs.declared.TaylorAnswer.the-variants.{Refusal}
 use Rattle.taylor_job.specs.Calls.{after-plan, report}

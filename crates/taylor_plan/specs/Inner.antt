@@ -7,8 +7,8 @@ use Rattle.checks.specs.First.{first}
 use Rattle.generator_action.specs.declared.Shape.{Shape}
 use Rattle.phi_action_helpers.specs.declared.Layout.{Layout}
 use Rattle.combination.specs.Checks.{plan-checks, schedule-checks, memory-checks}
-use Rattle.admission.specs.Inner.{schedule}
-use Rattle.admission.specs.declared.Schedule.{Schedule}
+use Rattle.taylor_schedule.specs.Inner.{schedule}
+use Rattle.taylor_schedule.specs.declared.Schedule.{Schedule}
 
 -- 14, 33 and 24 to 26, and the row that the schedule found
 abbrev pub admitted : Shape → Float → ℕ → ℕ → Schedule

@@ -1,11 +1,11 @@
 // The plan of a Taylor job alone: what its run would report, and no run.
-use admission::Schedule;
 use checks::Checked;
 use generator_action::MatrixAnswer;
 use generator_action::Shape;
 use phi_action_helpers::Layout;
 use phi_action_helpers::SweepPlan;
 use taylor_job::TaylorAnswer;
+use taylor_schedule::Schedule;
 ghost use mathlib.Core.Path.{_≡_};
 ghost use mathlib.Core.List.{List, []};
 ghost use Prim.Native.Nat.{_≤_};
@@ -20,7 +20,7 @@ ghost use Rattle.generator_action.specs.Known.{Passed};
 ghost use Rattle.csr_shift.specs.Shift.{negated-csr-shift};
 ghost use Rattle.phi_shift.specs.Plan.{with-shift};
 ghost use Rattle.combination.specs.Call.{ends};
-ghost use Rattle.admission.specs.Inner.{matrix-of, after-checks};
+ghost use Rattle.taylor_schedule.specs.Inner.{matrix-of, after-checks};
 ghost use Rattle.taylor_plan.specs.Inner.{quotients-alone, admitted};
 ghost use Rattle.taylor_plan.specs.TaylorPlan.{taylor-plan};
 
@@ -28,7 +28,7 @@ ghost use Rattle.taylor_plan.specs.TaylorPlan.{taylor-plan};
 fn admit_plan(g: Shape, tau: f64, cap: u32, memory: usize) -> Schedule
     ensures { λ r. ⌜ r ≡ admitted g tau cap memory ⌝ }
 {
-    let schedule = admission::check_schedule(cap, g.norm, tau);
+    let schedule = taylor_schedule::check_schedule(cap, g.norm, tau);
     let planned = schedule.checked;
     let host = combination::and_then(planned, combination::check_memory(memory, g.stored));
     Schedule {

@@ -16,7 +16,7 @@ use Rattle.transpose.specs.Transpose.{Buffers, buffers, lengths, transposed-che
 use Rattle.transpose.proofs.Passed.{Transposable, transposable, before-sound, transposed-shape, transposed-passed}
 use Rattle.transpose.proofs.Answer.{Written, written-starts, written-columns, written-values, fronts}
 use Rattle.combination.specs.Call.{Call}
-use Rattle.admission.specs.Inner.{after-checks}
+use Rattle.taylor_schedule.specs.Inner.{after-checks}
 use Rattle.transposed.specs.Transposed.{lends}
 use Rattle.transposed_shape.specs.Inner.{shape-answer}
 use Rattle.transposed_shape.specs.declared.ShapeAnswer.{ShapeAnswer}

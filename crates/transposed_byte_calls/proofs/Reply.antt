@@ -9,7 +9,7 @@ use Rattle.le_bytes.specs.Bytes.{numbers-over, written-over}
 use Rattle.transpose.specs.Transpose.{buffers}
 use Rattle.transposed.specs.Transposed.{Lending, lends}
 use Rattle.answers.specs.Told.{Numbers}
-use Rattle.exports_transposed.specs.Telling.{MatrixTold, matrix-told}
+use Rattle.transposed_told.specs.Telling.{MatrixTold, matrix-told}
 use Rattle.transposed_byte_calls.specs.Replies.{Lent, lent, Reply, replies, packs, replied, MatrixReply, matrix-replies, matrix-packs, matrix-replied}
 
 pub packing : (t : Numbers) (f g e : List Float) (s c : List ℕ) (out work : List ℕ) (l : Lent) {out₁ work₁ s₁ c₁ e₁ : List ℕ} (call : Lending Numbers) → lends (ends t f g) (buffers s c e) ≡ call → out₁ ≡ written-over f out → work₁ ≡ written-over g work → s₁ ≡ numbers-over s (l .starts) → c₁ ≡ numbers-over c (l .columns) → e₁ ≡ written-over e (l .values) → replies t out₁ work₁ (lent s₁ c₁ e₁) ≡ packs call out work l

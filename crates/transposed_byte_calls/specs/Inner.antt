@@ -7,7 +7,7 @@ use Rattle.generator_action.specs.Mass.{Mass}
 use Rattle.transpose.specs.Transpose.{Buffers, lengths, buffers-after, transposed, transposed-answer}
 use Rattle.transposed.specs.Transposed.{Lending, lends}
 use Rattle.answers.specs.Told.{Numbers, matrix-numbers}
-use Rattle.exports_transposed.specs.Telling.{MatrixTold, matrix-told}
+use Rattle.transposed_told.specs.Telling.{MatrixTold, matrix-told}
 use Rattle.byte_calls.specs.Inner.{called}
 use Rattle.byte_calls.specs.declared.PhiCall.{PhiCall}
 

@@ -8,7 +8,7 @@ use Rattle.le_bytes.specs.Bytes.{numbers-of, doubles-of, numbers-over, written-
 use Rattle.transpose.specs.Transpose.{Buffers, buffers}
 use Rattle.transposed.specs.Transposed.{Lending}
 use Rattle.answers.specs.Told.{Numbers}
-use Rattle.exports_transposed.specs.Telling.{MatrixTold}
+use Rattle.transposed_told.specs.Telling.{MatrixTold}
 
 -- the bytes of the lent buffers
 pub record Lent : Type 0 where

@@ -38,7 +38,7 @@ fn solve(
 {
     match call {
         PhiCall::Combination(degree) =>
-            byte_calls::of_taylor(transposed::phi_combination_transposed(
+            byte_calls::of_taylor(transposed_combination::phi_combination_transposed(
                 n,
                 starts,
                 cols,
@@ -55,7 +55,7 @@ fn solve(
                 out,
                 work,
             )),
-        PhiCall::Action(degree) => byte_calls::of_taylor(transposed::phi_action_transposed(
+        PhiCall::Action(degree) => byte_calls::of_taylor(transposed_action::phi_action_transposed(
             n,
             starts,
             cols,
@@ -72,25 +72,26 @@ fn solve(
             out,
             work,
         )),
-        PhiCall::Batch(degree) => byte_calls::of_taylor(transposed::phi_action_batched_transposed(
-            n,
-            starts,
-            cols,
-            vals,
-            with_mass,
-            mass,
-            t_starts,
-            t_cols,
-            t_vals,
-            tau,
-            degree,
-            k,
-            v,
-            out,
-            work,
-        )),
+        PhiCall::Batch(degree) =>
+            byte_calls::of_taylor(transposed_batch::phi_action_batched_transposed(
+                n,
+                starts,
+                cols,
+                vals,
+                with_mass,
+                mass,
+                t_starts,
+                t_cols,
+                t_vals,
+                tau,
+                degree,
+                k,
+                v,
+                out,
+                work,
+            )),
         PhiCall::Krylov(tol, m, limit) =>
-            byte_calls::of_krylov(transposed::phi_combination_krylov_transposed(
+            byte_calls::of_krylov(transposed_krylov::phi_combination_krylov_transposed(
                 n,
                 starts,
                 cols,
@@ -157,11 +158,11 @@ fn run(
         out_array,
         work_array,
     );
-    le_bytes::pack_numbers(starts_array, t_starts);
-    le_bytes::pack_numbers(cols_array, t_cols);
-    le_bytes::pack_doubles(vals_array, t_vals);
-    le_bytes::pack_doubles(out_array, out);
-    le_bytes::pack_doubles(work_array, work);
+    pack_bytes::pack_numbers(starts_array, t_starts);
+    pack_bytes::pack_numbers(cols_array, t_cols);
+    pack_bytes::pack_doubles(vals_array, t_vals);
+    pack_bytes::pack_doubles(out_array, out);
+    pack_bytes::pack_doubles(work_array, work);
     t
 }
 
@@ -300,9 +301,9 @@ fn run_check(
         cols_array,
         vals_array,
     );
-    le_bytes::pack_numbers(starts_array, t_starts);
-    le_bytes::pack_numbers(cols_array, t_cols);
-    le_bytes::pack_doubles(vals_array, t_vals);
+    pack_bytes::pack_numbers(starts_array, t_starts);
+    pack_bytes::pack_numbers(cols_array, t_cols);
+    pack_bytes::pack_doubles(vals_array, t_vals);
     answer
 }
 

@@ -12,7 +12,7 @@ use Rattle.lists.proofs.Window.{length-window}
 use Rattle.doubles.specs.F64.{minNum}
 use Rattle.hess_exp.specs.HessExp.{Small, unplanned, column}
 use Rattle.hess_exp.proofs.Long.{Long, column-long}
-use Rattle.arnoldi.specs.Basis.{Setting, dim, Basis, breakdown, full}
+use Rattle.gram_schmidt.specs.Basis.{Setting, dim, Basis, breakdown, full}
 use Rattle.trial_steps.specs.declared.Estimate.{Estimate}
 use Rattle.trial_steps.specs.Trials.{Trying, Tried, accepted, stuck, verdict, judge, try-step, exact-step, trials}
 

@@ -10,7 +10,7 @@ use Rattle.lists.specs.Walk.{Turn, on}
 use Rattle.lists.proofs.Walk.{Kept, walk-keeps}
 use Rattle.doubles.specs.F64.{minNum}
 use Rattle.hess_exp.specs.HessExp.{Small, unplanned, column, hess-exp-e1}
-use Rattle.arnoldi.specs.Basis.{Setting, dim, Basis, breakdown, full}
+use Rattle.gram_schmidt.specs.Basis.{Setting, dim, Basis, breakdown, full}
 use Rattle.trial_steps.specs.declared.Estimate.{Estimate}
 use Rattle.trial_steps.specs.Trials.{Trying, Tried, accepted, stuck, verdict, judge, try-step, exact-step, trials}
 

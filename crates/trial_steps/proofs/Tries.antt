@@ -19,10 +19,10 @@ use Rattle.retry.specs.Retry.{accepts, retry}
 use Rattle.hess_exp.specs.HessExp.{column, hess-exp-e1}
 use Rattle.hess_exp.specs.Parts.{small-of}
 use Rattle.hess_exp.specs.declared.SmallExp.{SmallExp}
-use Rattle.arnoldi.specs.declared.Krylov.{Krylov}
-use Rattle.arnoldi.specs.declared.BasisAnswer.{BasisAnswer}
-use Rattle.arnoldi.specs.declared.BasisAnswer.the-variants.{Breakdown, Full}
-use Rattle.arnoldi.specs.Memory.{setting-at, basis-at}
+use Rattle.gram_schmidt.specs.declared.Krylov.{Krylov}
+use Rattle.gram_schmidt.specs.declared.BasisAnswer.{BasisAnswer}
+use Rattle.gram_schmidt.specs.declared.BasisAnswer.the-variants.{Breakdown, Full}
+use Rattle.gram_schmidt.specs.Memory.{setting-at, basis-at}
 use Rattle.trial_steps.specs.Trials.{Trying, Tried, local-error, verdict, judge, try-step, exact-step, trials}
 use Rattle.trial_steps.specs.Memory.{outcome-at, Within}
 use Rattle.trial_steps.specs.declared.Estimate.{Estimate}

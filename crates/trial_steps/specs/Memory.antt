@@ -6,9 +6,9 @@ use lib.ListN.{length}
 use lib.Ieee.{Float}
 use Rattle.lists.specs.Walk.{Turn, on, out}
 use Rattle.lists.specs.Window.{window}
-use Rattle.arnoldi.specs.declared.Krylov.{Krylov}
-use Rattle.arnoldi.specs.declared.BasisAnswer.{BasisAnswer}
-use Rattle.arnoldi.specs.declared.BasisAnswer.the-variants.{Breakdown, Full}
+use Rattle.gram_schmidt.specs.declared.Krylov.{Krylov}
+use Rattle.gram_schmidt.specs.declared.BasisAnswer.{BasisAnswer}
+use Rattle.gram_schmidt.specs.declared.BasisAnswer.the-variants.{Breakdown, Full}
 use Rattle.trial_steps.specs.Trials.{MAX-REJECT, Trying, Tried, accepted, stuck}
 use Rattle.trial_steps.specs.declared.Trial.{Trial}
 use Rattle.trial_steps.specs.declared.Outcome.{Outcome}

@@ -9,7 +9,7 @@ use Rattle.lists.specs.Window.{window, open-Window}
 use Rattle.doubles.specs.F64.{if_then_else_, _⊖_, _⊗_, _⊘_, _⋖_, bits, at, abs, minNum}
 use Rattle.retry.specs.Retry.{accepts, retry, open-Retry}
 use Rattle.hess_exp.specs.HessExp.{Small, unplanned, column, hess-exp-e1, open-HessExp}
-use Rattle.arnoldi.specs.Basis.{Setting, dim, Basis, breakdown, full, open-Basis}
+use Rattle.gram_schmidt.specs.Basis.{Setting, dim, Basis, breakdown, full, open-Basis}
 use Rattle.trial_steps.specs.declared.Estimate.{Estimate}
 
 -- `MAX_REJECT`: how many lengths may be rejected on one basis

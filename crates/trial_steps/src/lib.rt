@@ -7,15 +7,15 @@ ghost use lib.Ieee.{Float};
 ghost use Rattle.lists.specs.Walk.{on, walk};
 ghost use Rattle.lists.specs.Window.{window};
 ghost use Rattle.hess_exp.specs.HessExp.{hess-exp-e1};
-ghost use Rattle.hess_product.specs.Parts.{Leading};
+ghost use Rattle.hess_rows.specs.Parts.{Leading};
 ghost use Rattle.general_operator.specs.Csr.{Csr};
 ghost use Rattle.phi_action_helpers.specs.declared.Coupling.{Coupling};
 ghost use Rattle.phi_action_helpers.specs.declared.Layout.{Layout};
-ghost use Rattle.arnoldi.specs.Memory.{setting-at, basis-at, Counted};
+ghost use Rattle.gram_schmidt.specs.Memory.{setting-at, basis-at, Counted};
 ghost use Rattle.trial_steps.specs.Trials.{MAX-REJECT, local-error, try-step, exact-step, trials};
 ghost use Rattle.trial_steps.specs.Memory.{trial-at, Modest, columns-in};
-use arnoldi::BasisAnswer;
-use arnoldi::Krylov;
+use gram_schmidt::BasisAnswer;
+use gram_schmidt::Krylov;
 
 // How many lengths may be rejected on one basis.
 const MAX_REJECT: usize = 10;

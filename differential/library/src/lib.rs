@@ -1,5 +1,4 @@
-//! The proved library (crates/exports, exports_transposed, exports_paused, exports_rotation, exports_stages, exports_ambient, exports_plan, and on
-//! bytes exports_bytes, exports_transposed_bytes, exports_paused_bytes): its exported functions, and a job put to them.
+//! The proved library (the crates that `scripts/exports` names): its exported functions, and a job put to them.
 
 pub mod ambient;
 #[cfg(feature = "bytes")]

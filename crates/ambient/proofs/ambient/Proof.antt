@@ -15,8 +15,8 @@ use Rattle.generator_action.proofs.Answered.{passed-up, refusal-told, norm-told
 use Rattle.ambient_checks.specs.Log.{Log, Places, field-checks, log-checks}
 use Rattle.ambient_checks.specs.Inner.{log-of, places}
 use Rattle.ambient_checks.proofs.Checks.{Logged, log-known}
-use Rattle.ambient.specs.Ambient.{ambient-checks}
-use Rattle.ambient.proofs.Whole.{checks-told, matrix-refused, ambient-refused, ambient-is, logs-known}
+use Rattle.ambient_turns.specs.Ambient.{ambient-checks}
+use Rattle.ambient_turns.proofs.Whole.{checks-told, matrix-refused, ambient-refused, ambient-is, logs-known}
 use Rattle.ambient.proofs.ambient.Statement.{statement}
 use Rattle.ambient.proofs.ambient.Tie as tie
 

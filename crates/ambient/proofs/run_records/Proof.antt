@@ -16,13 +16,13 @@ use Rattle.general_operator.specs.Csr.{Csr, csr}
 use Rattle.generator_action.specs.Mass.{Mass, given}
 use Rattle.generator_action.specs.Generator.{Generator, forward}
 use Rattle.combination.specs.Call.{Call}
-use Rattle.admission.proofs.Stored.{forward-is}
+use Rattle.taylor_schedule.proofs.Stored.{forward-is}
 use Rattle.taylor_job.specs.declared.TaylorAnswer.{TaylorAnswer}
 use Rattle.ambient_record.specs.Record.{record-call}
 use Rattle.ambient_checks.specs.Inner.{log-of, field-of}
-use Rattle.ambient.specs.Ambient.{record-step, begun}
-use Rattle.ambient.specs.Inner.{turn-at, results-of, shown-in}
-use Rattle.ambient.proofs.Turns.{not-logged, shown-logged, step-is, turn-on, ended-early, ended-last, same-results}
+use Rattle.ambient_turns.specs.Ambient.{record-step, begun}
+use Rattle.ambient_turns.specs.Inner.{turn-at, results-of, shown-in}
+use Rattle.ambient_turns.proofs.Turns.{not-logged, shown-logged, step-is, turn-on, ended-early, ended-last, same-results}
 use Rattle.ambient.proofs.run_records.Statement.{statement}
 use Rattle.ambient.proofs.run_records.Tie as tie
 

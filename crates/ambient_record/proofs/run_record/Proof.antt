@@ -9,7 +9,7 @@ use Rattle.lists.specs.Window.{window, splice}
 use Rattle.lists.proofs.Window.{window-window}
 use Rattle.phi_action_helpers.specs.Sweeps.{Swept}
 use Rattle.combination.specs.Checks.{taylor-need}
-use Rattle.admission.specs.Inner.{matrix-of}
+use Rattle.taylor_schedule.specs.Inner.{matrix-of}
 use Rattle.taylor_job.specs.Calls.{swept-fields}
 use Rattle.taylor_job.specs.Inner.{operator-by}
 use Rattle.taylor_job.proofs.Jobs.{ready, lined, bounded, done}

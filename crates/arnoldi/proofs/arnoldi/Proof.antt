@@ -1,7 +1,7 @@
 -- `arnoldi::arnoldi` meets its contract. Assumes nothing.
 use borrow.Author.Needs.{needs}
-use Rattle.arnoldi.proofs.Turns.{room-kept, spared-on}
-use Rattle.arnoldi.proofs.Answers.{begun, made}
+use Rattle.gram_schmidt.proofs.Turns.{room-kept, spared-on}
+use Rattle.gram_schmidt.proofs.Answers.{begun, made}
 use Rattle.arnoldi.proofs.arnoldi.Statement.{statement}
 use Rattle.arnoldi.proofs.arnoldi.Tie as tie
 

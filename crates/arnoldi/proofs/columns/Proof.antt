@@ -7,10 +7,10 @@ use Rattle.lists.specs.Walk.{on}
 use Rattle.lists.proofs.Walk.{Left, left-start, left-turn}
 use Rattle.phi_action_helpers.specs.Laid.{matrix-at}
 use Rattle.phi_action_helpers.proofs.Sweeps.{values-kept}
-use Rattle.arnoldi.specs.Basis.{arnoldi-step}
-use Rattle.arnoldi.specs.Memory.{setting-at, Spared, columns-at, grown-at, Within}
-use Rattle.arnoldi.proofs.Turns.{spared-all, spared-on, room-kept}
-use Rattle.arnoldi.proofs.Answers.{within-more, seen-on, left-broken, left-whole}
+use Rattle.gram_schmidt.specs.Basis.{arnoldi-step}
+use Rattle.gram_schmidt.specs.Memory.{setting-at, Spared, columns-at, grown-at, Within}
+use Rattle.gram_schmidt.proofs.Turns.{spared-all, spared-on, room-kept}
+use Rattle.gram_schmidt.proofs.Answers.{within-more, seen-on, left-broken, left-whole}
 use Rattle.arnoldi.proofs.columns.Statement.{statement}
 use Rattle.arnoldi.proofs.columns.Tie as tie
 

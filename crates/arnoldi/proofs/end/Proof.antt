@@ -4,7 +4,7 @@ use native.Mathlib.Omega.{arith}
 use Prim.Native.Nat.{_+_, _*_}
 use Rattle.doubles.specs.F64.{1f}
 use lib.ListN.{length-set}
-use Rattle.arnoldi.proofs.Turns.{room-kept, cornered, ended}
+use Rattle.gram_schmidt.proofs.Turns.{room-kept, cornered, ended}
 use Rattle.arnoldi.proofs.end.Statement.{statement}
 use Rattle.arnoldi.proofs.end.Tie as tie
 

@@ -2,9 +2,9 @@
 use borrow.Author.Needs.{needs}
 use native.Mathlib.Omega.{arith}
 use mathlib.Core.Path.{subst}
-use Rattle.arnoldi.specs.Memory.{Within}
-use Rattle.arnoldi.proofs.Answers.{closed-on, closed-broken}
-use Rattle.arnoldi.proofs.Turns.{spared-all}
+use Rattle.gram_schmidt.specs.Memory.{Within}
+use Rattle.gram_schmidt.proofs.Answers.{closed-on, closed-broken}
+use Rattle.gram_schmidt.proofs.Turns.{spared-all}
 use Rattle.arnoldi.proofs.finish.Statement.{statement}
 use Rattle.arnoldi.proofs.finish.Tie as tie
 

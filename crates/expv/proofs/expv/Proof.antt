@@ -6,8 +6,8 @@ use Prim.Native.Nat.{_+_}
 use Rattle.lists.proofs.Frame.{kept-all}
 use Rattle.lists.proofs.Window.{part-window}
 use Rattle.pow2.specs.Pow2.{pow2-scale}
-use Rattle.phi_krylov_arnoldi.specs.Run.{expv, expv-by, idle}
-use Rattle.phi_krylov_arnoldi.specs.Memory.{end-at}
+use Rattle.krylov_advance.specs.Run.{expv, expv-by, idle}
+use Rattle.krylov_advance.specs.Memory.{end-at}
 use Rattle.expv.proofs.expv.Statement.{statement}
 use Rattle.expv.proofs.expv.Tie as tie
 

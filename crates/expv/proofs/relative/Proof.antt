@@ -1,8 +1,8 @@
 -- `expv::relative` meets its contract. Assumes nothing.
 use borrow.Author.Needs.{needs}
 use mathlib.Core.Path.{refl}
-use Rattle.phi_krylov_arnoldi.specs.Run.{scaled-back, back}
-use Rattle.phi_krylov_arnoldi.specs.Memory.{end-at}
+use Rattle.krylov_advance.specs.Run.{scaled-back, back}
+use Rattle.krylov_advance.specs.Memory.{end-at}
 use Rattle.expv.proofs.relative.Statement.{statement}
 use Rattle.expv.proofs.relative.Tie as tie
 

@@ -16,15 +16,15 @@ use Rattle.doubles.specs.F64.{+0}
 use Rattle.phi_action_helpers.specs.declared.Layout.{Layout}
 use Rattle.phi_action_helpers.specs.Laid.{matrix-at}
 use Rattle.phi_action_helpers.proofs.Sweeps.{values-kept}
-use Rattle.arnoldi.specs.declared.Krylov.{Krylov}
-use Rattle.arnoldi.specs.Memory.{setting-at}
-use Rattle.arnoldi.proofs.Turns.{room-kept}
-use Rattle.phi_krylov_arnoldi.specs.Run.{State, End, substep}
-use Rattle.phi_krylov_arnoldi.specs.Memory.{progress-at, Moderate}
-use Rattle.phi_krylov_arnoldi.specs.declared.Progress.{Progress}
-use Rattle.phi_krylov_arnoldi.specs.declared.Progress.the-variants.{On, Finished, Refused}
-use Rattle.phi_krylov_arnoldi.proofs.Progress as progress
-use Rattle.phi_krylov_arnoldi.proofs.Turns.{seen-on, moderate-turn}
+use Rattle.gram_schmidt.specs.declared.Krylov.{Krylov}
+use Rattle.gram_schmidt.specs.Memory.{setting-at}
+use Rattle.gram_schmidt.proofs.Turns.{room-kept}
+use Rattle.krylov_advance.specs.Run.{State, End, substep}
+use Rattle.krylov_advance.specs.Memory.{progress-at, Moderate}
+use Rattle.krylov_advance.specs.declared.Progress.{Progress}
+use Rattle.krylov_advance.specs.declared.Progress.the-variants.{On, Finished, Refused}
+use Rattle.krylov_advance.proofs.Progress as progress
+use Rattle.krylov_advance.proofs.Turns.{seen-on, moderate-turn}
 use Rattle.expv.proofs.run_substeps.Statement.{statement}
 use Rattle.expv.proofs.run_substeps.Tie as tie
 

@@ -7,9 +7,9 @@ use lib.ListN.{length}
 use Rattle.lists.proofs.Frame.{kept-on}
 use Rattle.lists.proofs.Window.{part-window, part-back, length-splice}
 use Rattle.vectors.specs.Vectors.{scale}
-use Rattle.arnoldi.specs.Basis.{norm2}
-use Rattle.arnoldi.proofs.Turns.{room-kept}
-use Rattle.phi_krylov_arnoldi.proofs.Whole.{room-absolute, scaled-field, scaled-kept, scaled-is}
+use Rattle.gram_schmidt.specs.Basis.{norm2}
+use Rattle.gram_schmidt.proofs.Turns.{room-kept}
+use Rattle.krylov_advance.proofs.Whole.{room-absolute, scaled-field, scaled-kept, scaled-is}
 use Rattle.expv.proofs.scaled_run.Statement.{statement}
 use Rattle.expv.proofs.scaled_run.Tie as tie
 

@@ -1,8 +1,8 @@
 -- `expv::spent` meets its contract. Assumes nothing.
 use borrow.Author.Needs.{needs}
 use mathlib.Core.Path.{refl}
-use Rattle.phi_krylov_arnoldi.specs.Run.{spent}
-use Rattle.phi_krylov_arnoldi.specs.Memory.{progress-at, end-at}
+use Rattle.krylov_advance.specs.Run.{spent}
+use Rattle.krylov_advance.specs.Memory.{progress-at, end-at}
 use Rattle.expv.proofs.spent.Statement.{statement}
 use Rattle.expv.proofs.spent.Tie as tie
 

@@ -4,9 +4,9 @@ use native.Mathlib.Omega.{arith}
 use mathlib.Core.Path.{refl, ap, _∙_}
 use Rattle.lists.proofs.Window.{part-window}
 use Rattle.phi_action_helpers.specs.Laid.{matrix-at}
-use Rattle.arnoldi.specs.Basis.{norm2}
-use Rattle.phi_krylov_arnoldi.specs.Run.{spent}
-use Rattle.phi_krylov_arnoldi.proofs.Whole.{begins}
+use Rattle.gram_schmidt.specs.Basis.{norm2}
+use Rattle.krylov_advance.specs.Run.{spent}
+use Rattle.krylov_advance.proofs.Whole.{begins}
 use Rattle.expv.proofs.substeps.Statement.{statement}
 use Rattle.expv.proofs.substeps.Tie as tie
 

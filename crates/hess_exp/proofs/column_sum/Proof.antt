@@ -6,7 +6,7 @@ use Rattle.lists.proofs.Bounds.{cell-within}
 use Rattle.doubles.specs.F64.{abs, at}
 use Rattle.doubles.specs.Sum.{sum}
 use Rattle.doubles.proofs.Sum.{sum-none, sum-turn}
-use Rattle.hess_product.specs.HessProduct.{place}
+use Rattle.hess_rows.specs.HessProduct.{place}
 use Rattle.hess_exp.proofs.column_sum.Statement.{statement}
 use Rattle.hess_exp.proofs.column_sum.Tie as tie
 

@@ -7,7 +7,7 @@ use lib.Ieee.{Float}
 use Rattle.lists.specs.Loop.{zipWith}
 use Rattle.doubles.specs.F64.{_⊕_, _⊗_, _⊘_, nat}
 use Rattle.hess_exp.specs.HessExp.{term-step}
-use Rattle.hess_product.specs.HessProduct.{hess-product}
+use Rattle.hess_rows.specs.HessProduct.{hess-product}
 use Rattle.hess_exp.specs.Parts.{terms}
 use Rattle.hess_exp.proofs.hess_term.Statement.{statement}
 use Rattle.hess_exp.proofs.hess_term.Tie as tie

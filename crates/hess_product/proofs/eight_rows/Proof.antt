@@ -4,8 +4,8 @@ use Prim.Native.Nat.{_+_, _-_, _*_, _≤_}
 use mathlib.Core.Path.{_≡_, refl, _∙_}
 use lib.ListN.{length}
 use Rattle.doubles.specs.F64.{at}
-use Rattle.hess_product.specs.Parts.{four-parts}
-use Rattle.hess_product.proofs.Rows.{fewer, four-within, four-turn}
+use Rattle.hess_rows.specs.Parts.{four-parts}
+use Rattle.hess_rows.proofs.Rows.{fewer, four-within, four-turn}
 use Rattle.hess_product.proofs.eight_rows.Statement.{statement}
 use Rattle.hess_product.proofs.eight_rows.Tie as tie
 

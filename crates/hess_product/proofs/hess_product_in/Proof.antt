@@ -1,7 +1,7 @@
 -- `hess_product::hess_product_in` meets its contract. Assumes nothing.
 use native.Mathlib.Omega.{arith}
 use Prim.Native.Nat.{_-_}
-use Rattle.hess_product.proofs.InPlace.{Placed, placed-start, row-turn, rows-turn, placed-end}
+use Rattle.hess_rows.proofs.InPlace.{Placed, placed-start, row-turn, rows-turn, placed-end}
 use Rattle.hess_product.proofs.hess_product_in.Statement.{statement}
 use Rattle.hess_product.proofs.hess_product_in.Tie as tie
 

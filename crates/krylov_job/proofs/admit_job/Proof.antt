@@ -4,7 +4,7 @@ use native.Mathlib.Omega.{arith}
 use mathlib.Core.Path.{sym, ap, _∙_}
 use Prim.Native.Nat.{ℕ, _-_}
 use Rattle.combination.specs.Combination.{further}
-use Rattle.admission.proofs.Admitted.{first-within, further-within}
+use Rattle.taylor_schedule.proofs.Admitted.{first-within, further-within}
 use Rattle.combination.proofs.Further.{part-further, length-further}
 use Rattle.krylov_job.specs.KrylovCall.{dimension}
 use Rattle.krylov_job.specs.Inner.{scaling-of, run-job-by}

@@ -7,7 +7,7 @@ use lib.Ieee.{Float}
 use Rattle.lists.specs.Window.{splice}
 use Rattle.lists.proofs.Window.{part-back, length-window, splice-whole}
 use Rattle.combination.specs.Combination.{combination-start}
-use Rattle.admission.proofs.Admitted.{length-start}
+use Rattle.taylor_schedule.proofs.Admitted.{length-start}
 use Rattle.krylov_run.proofs.start_in.Statement.{statement}
 use Rattle.krylov_run.proofs.start_in.Tie as tie
 

@@ -5,7 +5,7 @@ use mathlib.Core.Path.{sym, ap, _∙_}
 use lib.ListN.{length}
 use Rattle.vectors.proofs.Laws.{length-scale}
 use Rattle.combination.specs.Combination.{combination-start}
-use Rattle.admission.proofs.Admitted.{length-start}
+use Rattle.taylor_schedule.proofs.Admitted.{length-start}
 use Rattle.paused_start.proofs.Starts.{long, begun-idle, begun-first}
 use Rattle.paused_start.proofs.begin.Statement.{statement}
 use Rattle.paused_start.proofs.begin.Tie as tie

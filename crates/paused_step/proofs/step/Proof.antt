@@ -4,7 +4,7 @@ use mathlib.Core.Path.{refl, sym, _∙_}
 use Rattle.general_operator.specs.Csr.{csr}
 use Rattle.generator_action.specs.Mass.{given}
 use Rattle.generator_action.proofs.Answered.{passed-up, refusal-told, norm-told, passed}
-use Rattle.paused_step.proofs.Steps.{refused-over, refused-generator}
+use Rattle.paused_advance.proofs.Steps.{refused-over, refused-generator}
 use Rattle.paused_step.proofs.step.Statement.{statement}
 use Rattle.paused_step.proofs.step.Tie as tie
 

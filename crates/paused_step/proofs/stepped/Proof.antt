@@ -4,7 +4,7 @@ use native.Mathlib.Omega.{arith}
 use mathlib.Core.List.{[]}
 use Rattle.checks.proofs.First.{passed-up, ends-sound}
 use Rattle.combination.proofs.Further.{part-further}
-use Rattle.paused_step.proofs.Steps.{refused-job, within, refused-field, own-options, advances, stepped-is}
+use Rattle.paused_advance.proofs.Steps.{refused-job, within, refused-field, own-options, advances, stepped-is}
 use Rattle.paused_step.proofs.stepped.Statement.{statement}
 use Rattle.paused_step.proofs.stepped.Tie as tie
 

@@ -4,7 +4,7 @@ use mathlib.Core.Path.{refl, ap, _∙_}
 use lib.ListN.{length}
 use Rattle.lists.proofs.Window.{length-splice}
 use Rattle.checks.proofs.First.{passed-up}
-use Rattle.phi_action.proofs.Calls.{known-action, allowed-action, runs-action, field-fits, refused-action, acted-is}
+use Rattle.phi_combination.proofs.Calls.{known-action, allowed-action, runs-action, field-fits, refused-action, acted-is}
 use Rattle.phi_action.proofs.acted.Statement.{statement}
 use Rattle.phi_action.proofs.acted.Tie as tie
 

@@ -5,7 +5,7 @@ use Rattle.general_operator.specs.Csr.{csr}
 use Rattle.generator_action.specs.Mass.{given, generator-checks}
 use Rattle.generator_action.specs.Generator.{forward}
 use Rattle.generator_action.proofs.Answered.{passed-up, refusal-told, norm-told, passed}
-use Rattle.phi_action.proofs.Calls.{action-refused}
+use Rattle.phi_combination.proofs.Calls.{action-refused}
 use Rattle.phi_action.proofs.phi_action.Statement.{statement}
 use Rattle.phi_action.proofs.phi_action.Tie as tie
 

@@ -6,8 +6,8 @@ use Prim.Native.Nat.{_+_}
 use mathlib.Core.Path.{refl}
 use Rattle.lists.proofs.Bounds.{product-within}
 use Rattle.checks.proofs.First.{passed-up}
-use Rattle.admission.proofs.Admitted.{index-known}
-use Rattle.phi_action.proofs.Calls.{known-action, runs-batch, refused-index, refused-batch, batch-is}
+use Rattle.taylor_schedule.proofs.Admitted.{index-known}
+use Rattle.phi_combination.proofs.Calls.{known-action, runs-batch, refused-index, refused-batch, batch-is}
 use Rattle.phi_batch.proofs.acted_batched.Statement.{statement}
 use Rattle.phi_batch.proofs.acted_batched.Tie as tie
 

@@ -1,6 +1,6 @@
 -- `phi_krylov_arnoldi::first_length` meets its contract. Assumes nothing.
 use borrow.Author.Needs.{needs}
-use Rattle.phi_krylov_arnoldi.specs.Run.{first-length}
+use Rattle.krylov_advance.specs.Run.{first-length}
 use Rattle.phi_krylov_arnoldi.proofs.first_length.Statement.{statement}
 use Rattle.phi_krylov_arnoldi.proofs.first_length.Tie as tie
 

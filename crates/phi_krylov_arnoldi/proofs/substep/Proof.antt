@@ -9,7 +9,7 @@ use Rattle.lists.proofs.Frame.{kept-on}
 use Rattle.lists.proofs.Window.{part-window, length-window}
 use Rattle.phi_action_helpers.specs.Laid.{matrix-at}
 use Rattle.trial_steps.specs.Memory.{Within, columns-in}
-use Rattle.phi_krylov_arnoldi.proofs.Settled.{columns-few, columns-within, products-few, after-rejections, after-no-plan, after-step}
+use Rattle.krylov_advance.proofs.Settled.{columns-few, columns-within, products-few, after-rejections, after-no-plan, after-step}
 use Rattle.phi_krylov_arnoldi.proofs.substep.Statement.{statement}
 use Rattle.phi_krylov_arnoldi.proofs.substep.Tie as tie
 

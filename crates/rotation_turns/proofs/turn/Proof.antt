@@ -1,6 +1,6 @@
 -- `rotation_turns::turn` meets its contract. Assumes nothing.
 use borrow.Author.Needs.{needs}
-use Rattle.rotation_turns.proofs.Calls.{turn-none, turn-some}
+use Rattle.rotation_joins.proofs.Calls.{turn-none, turn-some}
 use Rattle.rotation_turns.proofs.turn.Statement.{statement}
 use Rattle.rotation_turns.proofs.turn.Tie as tie
 

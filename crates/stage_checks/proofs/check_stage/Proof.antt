@@ -3,8 +3,8 @@ use borrow.Author.Needs.{needs}
 use native.Mathlib.Omega.{arith}
 use Prim.Native.Nat.{_-_, _*_, _≤_}
 use Rattle.checks.proofs.First.{refused-up, sound-on, stops-told, passes-told, ends-sound}
-use Rattle.stage_checks.specs.Schedule.{stage-checks}
-use Rattle.stage_checks.proofs.Checks.{count-some, few-counted}
+use Rattle.schedule_checks.specs.Schedule.{stage-checks}
+use Rattle.schedule_checks.proofs.Checks.{count-some, few-counted}
 use Rattle.stage_checks.proofs.check_stage.Statement.{statement}
 use Rattle.stage_checks.proofs.check_stage.Tie as tie
 

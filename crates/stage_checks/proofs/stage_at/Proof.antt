@@ -1,7 +1,7 @@
 -- `stage_checks::stage_at` meets its contract. Assumes nothing.
 use borrow.Author.Needs.{needs}
 use mathlib.Core.Path.{refl}
-use Rattle.stage_checks.specs.Schedule.{stage}
+use Rattle.schedule_checks.specs.Schedule.{stage}
 use Rattle.stage_checks.proofs.stage_at.Statement.{statement}
 use Rattle.stage_checks.proofs.stage_at.Tie as tie
 

@@ -1,8 +1,8 @@
 -- `stages::conclude` meets its contract. Assumes nothing.
 use borrow.Author.Needs.{needs}
 use mathlib.Core.Path.{refl}
-use Rattle.stages.specs.Stages.{concluded}
-use Rattle.stage_checks.specs.Inner.{turn-at}
+use Rattle.stage_calls.specs.Stages.{concluded}
+use Rattle.schedule_checks.specs.Inner.{turn-at}
 use Rattle.stages.proofs.conclude.Statement.{statement}
 use Rattle.stages.proofs.conclude.Tie as tie
 

@@ -13,14 +13,14 @@ use Rattle.general_operator.specs.Csr.{Csr, csr}
 use Rattle.generator_action.specs.Mass.{Mass, given}
 use Rattle.generator_action.specs.Generator.{Generator, forward}
 use Rattle.combination.specs.Call.{Call}
-use Rattle.admission.proofs.Stored.{forward-is, quotients-rows}
+use Rattle.taylor_schedule.proofs.Stored.{forward-is, quotients-rows}
 use Rattle.phi_solver.specs.declared.PhiAnswer.{PhiAnswer}
-use Rattle.stage_checks.specs.declared.Stage.{Stage}
-use Rattle.stage_checks.specs.Schedule.{Schedule}
-use Rattle.stages.specs.Stages.{stage-step, begun}
-use Rattle.stage_checks.specs.Inner.{schedule-of, field-of, Few, Moderate, turn-at, Even}
-use Rattle.stages.specs.Inner.{stage-end}
-use Rattle.stage_checks.proofs.Checks.{schedule-known}
+use Rattle.schedule_checks.specs.declared.Stage.{Stage}
+use Rattle.schedule_checks.specs.Schedule.{Schedule}
+use Rattle.stage_calls.specs.Stages.{stage-step, begun}
+use Rattle.schedule_checks.specs.Inner.{schedule-of, field-of, Few, Moderate, turn-at, Even}
+use Rattle.stage_calls.specs.Inner.{stage-end}
+use Rattle.schedule_checks.proofs.Checks.{schedule-known}
 use Rattle.stages.proofs.Few.{few-end}
 use Rattle.stages.proofs.Turns.{later-field, step-is, turn-on, turn-ended}
 use Rattle.stages.proofs.run_stages.Statement.{statement}

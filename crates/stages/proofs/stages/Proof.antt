@@ -7,9 +7,9 @@ use Rattle.general_operator.specs.Csr.{Csr, csr}
 use Rattle.generator_action.specs.Mass.{Mass, given, generator-checks}
 use Rattle.generator_action.specs.Generator.{forward}
 use Rattle.generator_action.proofs.Answered.{passed-up, refusal-told, norm-told, passed}
-use Rattle.stage_checks.specs.Schedule.{Schedule}
-use Rattle.stages.specs.Stages.{concluded}
-use Rattle.stage_checks.specs.Inner.{schedule-of}
+use Rattle.schedule_checks.specs.Schedule.{Schedule}
+use Rattle.stage_calls.specs.Stages.{concluded}
+use Rattle.schedule_checks.specs.Inner.{schedule-of}
 use Rattle.stages.proofs.Turns.{staged-refused, staged-is}
 use Rattle.stages.proofs.stages.Statement.{statement}
 use Rattle.stages.proofs.stages.Tie as tie

@@ -1,6 +1,6 @@
 -- `taylor_job::prepare` meets its contract. Assumes nothing.
 use borrow.Author.Needs.{needs}
-use Rattle.admission.proofs.Stored.{store-fits, matrix-valid, stored-in}
+use Rattle.taylor_schedule.proofs.Stored.{store-fits, matrix-valid, stored-in}
 use Rattle.taylor_job.proofs.Jobs.{held, plan-is}
 use Rattle.taylor_job.proofs.prepare.Statement.{statement}
 use Rattle.taylor_job.proofs.prepare.Tie as tie

@@ -1,7 +1,7 @@
 -- `taylor_plan::admit_plan` meets its contract. Assumes nothing.
 use borrow.Author.Needs.{needs}
 use mathlib.Core.Path.{refl, ap}
-use Rattle.admission.specs.declared.Schedule.{Schedule}
+use Rattle.taylor_schedule.specs.declared.Schedule.{Schedule}
 use Rattle.taylor_plan.proofs.admit_plan.Statement.{statement}
 use Rattle.taylor_plan.proofs.admit_plan.Tie as tie
 

@@ -1,6 +1,6 @@
 -- `taylor_plan::from_row` meets its contract. Assumes nothing.
 use borrow.Author.Needs.{needs}
-use Rattle.admission.proofs.Stored.{matrix-valid, stored-in}
+use Rattle.taylor_schedule.proofs.Stored.{matrix-valid, stored-in}
 use Rattle.taylor_plan.proofs.Plans.{held, quotients-fit, written, shifted-is}
 use Rattle.taylor_plan.proofs.from_row.Statement.{statement}
 use Rattle.taylor_plan.proofs.from_row.Tie as tie

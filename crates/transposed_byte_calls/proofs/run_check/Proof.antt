@@ -6,7 +6,7 @@ use Rattle.general_operator.specs.Csr.{csr}
 use Rattle.generator_action.specs.Mass.{given}
 use Rattle.transpose.specs.Transpose.{buffers}
 use Rattle.answers.specs.Told.{matrix-numbers}
-use Rattle.exports_transposed.proofs.Telling.{matrix-told-of}
+use Rattle.transposed_told.proofs.Telling.{matrix-told-of}
 use Rattle.transposed_byte_calls.specs.Replies.{lent}
 use Rattle.transposed_byte_calls.specs.Inner.{checked-transposed}
 use Rattle.transposed_byte_calls.proofs.Reply.{packing-matrix}

@@ -2,7 +2,7 @@
 use borrow.Author.Needs.{needs}
 use Rattle.transposed.specs.Transposed.{phi-combination-transposed, phi-action-transposed, phi-action-batched-transposed, phi-combination-krylov-transposed}
 use Rattle.answers.specs.Told.{taylor-numbers, krylov-numbers}
-use Rattle.exports_transposed.proofs.Telling.{told-of}
+use Rattle.transposed_told.proofs.Telling.{told-of}
 use Rattle.byte_calls.specs.Inner.{told, called}
 use Rattle.transposed_byte_calls.specs.Inner.{called-transposed}
 use Rattle.transposed_byte_calls.proofs.solve.Statement.{statement}

@@ -7,8 +7,8 @@ use native.Mathlib.Nat.{mul-le-mul-right}
 use mathlib.Core.List.{List}
 use lib.ListN.{length}
 use lib.Ieee.{Float}
-use Rattle.hess_product.specs.Parts.{Leading}
-use Rattle.arnoldi.specs.Memory.{Counted}
+use Rattle.hess_rows.specs.Parts.{Leading}
+use Rattle.gram_schmidt.specs.Memory.{Counted}
 use Rattle.trial_steps.specs.Memory.{Modest, columns-in}
 use Rattle.trial_steps.proofs.Tries.{on-breakdown, on-full}
 use Rattle.trial_steps.proofs.trial_steps.Statement.{statement}

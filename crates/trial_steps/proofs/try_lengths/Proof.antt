@@ -15,7 +15,7 @@ use Rattle.doubles.specs.F64.{+0}
 use Rattle.general_operator.specs.Csr.{Csr}
 use Rattle.phi_action_helpers.specs.declared.Layout.{Layout}
 use Rattle.phi_action_helpers.specs.declared.Coupling.{Coupling}
-use Rattle.arnoldi.specs.Memory.{setting-at}
+use Rattle.gram_schmidt.specs.Memory.{setting-at}
 use Rattle.trial_steps.specs.Trials.{try-step}
 use Rattle.trial_steps.specs.Memory.{outcome-at, trial-at, Within, Modest}
 use Rattle.trial_steps.specs.declared.Outcome.{Outcome}

@@ -1,4 +1,0 @@
-pub mod Rows
-pub mod Starts
-pub mod Admitted
-pub mod Stored

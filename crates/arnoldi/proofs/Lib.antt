@@ -1,7 +1,0 @@
--- Laws of the definitions, and worked examples.
-pub mod GramSchmidt
-pub mod Turns
-pub mod Answers
-pub mod Products
-pub mod Long
-pub mod Examples

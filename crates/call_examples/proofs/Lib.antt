@@ -1,0 +1,2 @@
+pub mod Taylor
+pub mod Krylov

@@ -1,0 +1,1 @@
+// Whole calls by either solver, computed in proofs/. No code.

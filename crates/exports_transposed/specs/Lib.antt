@@ -1,2 +1,0 @@
--- What the exported functions on the transposed matrix hand back.
-pub mod Telling

@@ -1,3 +1,0 @@
--- The product with a small Hessenberg matrix.
-pub mod HessProduct
-pub mod Parts

@@ -1,0 +1,4 @@
+pub mod Values
+pub mod Row
+pub mod Steps
+pub mod Passes

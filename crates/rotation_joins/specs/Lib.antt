@@ -1,0 +1,2 @@
+-- A new run on a unit.
+pub mod Inner

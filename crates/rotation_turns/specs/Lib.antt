@@ -1,2 +1,0 @@
--- A join and a turn of a unit.
-pub mod Inner

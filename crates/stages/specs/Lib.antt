@@ -1,3 +1,0 @@
--- A soak in stages: single calls in a row.
-pub mod Stages
-pub mod Inner

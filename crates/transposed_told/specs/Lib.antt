@@ -1,0 +1,2 @@
+-- A call on the transposed matrix as the numbers that an exported function hands back.
+pub mod Telling
