@@ -13,7 +13,7 @@ use crate::report;
 use crate::sink::Sink;
 use crate::soak::not_finite;
 use crate::summary::{rounded, Extreme, Summary};
-use crate::warnings::Heating;
+use crate::warnings::{self, Heating};
 use crate::{tell, tell_terminal};
 use hazhendu::sizes::MAX_RECORDS;
 use hazhendu::{ambient, phi_combination, shortest, taylor_plan, vectors, AmbientError, Error, Log, Logged, Refusal, TaylorOptions};
@@ -141,6 +141,19 @@ impl<'a> Job<'a> {
         let geometry = points::of(&request.drawing, model.matrix().n, &request.files.matrix)?;
         let heating = Heating::of(&model.matrix());
         Ok(Job { request, model, field, load, records, geometry, heating })
+    }
+
+    /// The largest size that conduction can give after all records.
+    fn most(&self) -> f64 {
+        let (Log { durations, levels }, load) = (self.records.log(), warnings::largest(&self.load.numbers));
+        let added: f64 = durations.iter().zip(levels).map(|(duration, level)| warnings::added(*duration, &[&[load * level]])).sum();
+        warnings::largest(&self.field.numbers) + added
+    }
+
+    /// Of a log that has all its results.
+    fn beyond(&self, ran: &Ran) -> Option<String> {
+        let field = ran.field.as_ref().filter(|field| matches!(ran.end, End::Done) && field.iter().all(|x| x.is_finite()))?;
+        warnings::beyond(field, self.most(), self.request.unit())
     }
 
     fn warnings(&self) -> Vec<String> {
@@ -297,6 +310,7 @@ impl<'a> Job<'a> {
             End::Refused(refusal, record) => Err(Failure::RefusedRecord { refusal, place: self.place(refusal, record, ran), record }),
             End::NotANumber(record) => Err(Failure::NotANumber(self.not_a_number(record))),
             End::Done => {
+                self.beyond(ran).iter().for_each(|warning| tell(warning));
                 tell(&self.told(&ran.temperatures));
                 let Some(field) = &ran.field else { return Ok(()) };
                 let summary = Summary::of(field, self.model.mass());
@@ -311,7 +325,7 @@ impl<'a> Job<'a> {
         if self.request.reports.is_empty() {
             return Ok(());
         }
-        let mut warnings = self.warnings();
+        let mut warnings: Vec<String> = self.warnings().into_iter().chain(self.beyond(ran)).collect();
         let end = match ended {
             Err(Failure::RefusedRecord { refusal, place, record }) => {
                 report::log::End::Refused { refusal: *refusal, place: place.as_deref(), record: *record }

@@ -14,7 +14,7 @@ use crate::sink::{self, Sink};
 use crate::soak::not_finite;
 use crate::summary::Summary;
 use crate::table::{self, Row, Table};
-use crate::warnings::Heating;
+use crate::warnings::{self, Heating};
 use crate::{tell, tell_terminal};
 use hazhendu::sizes::MAX_RUNS;
 use hazhendu::{shortest, vectors, Cost, Error, Joined, KrylovOptions, Report, Soaked, Solver, Turned, Unit};
@@ -220,7 +220,9 @@ impl Round<'_> {
                 tell(&format!("{name}: {}", cost_line(&Cost::Krylov(cost))));
                 let summary = Summary::of(&field, self.jobs[i].weights());
                 let told = not_finite(&summary, field.len(), self.heating[i].as_ref(), &self.barrels[i].matrix(), true);
-                told.iter().for_each(|told| tell(&format!("{name}: {told}")));
+                let most = warnings::reachable(alone.tau, &self.jobs[i].vectors());
+                let beyond = warnings::beyond(&field, most, "K").filter(|_| told.is_none());
+                beyond.iter().chain(&told).for_each(|told| tell(&format!("{name}: {told}")));
                 let status = if told.is_some() { 80 } else { 0 };
                 self.outcomes[i] = Some(Outcome { status, report: cost, file: Some(alone.output.clone()) });
             }

@@ -106,7 +106,7 @@ impl Run<'_> {
         let summary = Summary::of(field, self.job.weights());
         let unit = unit(self.request);
         let not_finite = not_finite(&summary, field.len(), self.heating.as_ref(), &self.request.files.matrix.to_string(), true);
-        let beyond = warnings::beyond(field, self.request.tau, &self.job.vectors(), unit)
+        let beyond = warnings::beyond(field, warnings::reachable(self.request.tau, &self.job.vectors()), unit)
             .filter(|_| not_finite.is_none() && !self.request.files.transposed);
         beyond.iter().for_each(|warning| tell(warning));
         self.warnings.extend(beyond.into_iter().chain(not_finite.clone()));

@@ -15,7 +15,7 @@ use crate::series::{self, Series};
 use crate::sink::Sink;
 use crate::soak::not_finite;
 use crate::summary::Summary;
-use crate::warnings::Heating;
+use crate::warnings::{self, Heating};
 use crate::{tell, tell_terminal};
 use hazhendu::sizes::{MAX_STAGES, MAX_VECTORS};
 use hazhendu::{combine, shortest, stages, vectors, Cost, Error, Refusal, StageError, StagedReport};
@@ -151,7 +151,9 @@ impl Ended<'_> {
             plot.fill(|to| to.write_all(self.drawn(&picture).as_bytes()))?;
         }
         let told = not_finite(&summary, field.len(), job.heating.as_ref(), &job.request.files.matrix.to_string(), true);
-        self.report(job.warnings().into_iter().chain(told.clone()).collect(), *report, None)?;
+        let beyond = warnings::beyond(field, job.most(), unit).filter(|_| told.is_none());
+        beyond.iter().for_each(|warning| tell(warning));
+        self.report(job.warnings().into_iter().chain(beyond).chain(told.clone()).collect(), *report, None)?;
         tell(&format!(
             "stages: {} stages, {} applications, {} substeps, {} rejected",
             job.stages.len(),
@@ -235,6 +237,12 @@ impl<'a> Job<'a> {
 
     fn rows(&self) -> usize {
         self.model.matrix().n
+    }
+
+    /// The largest size that conduction can give after all stages.
+    fn most(&self) -> f64 {
+        let added: f64 = self.stages.iter().map(|stage| warnings::added(stage.tau, &stage.further())).sum();
+        warnings::largest(&self.start.numbers) + added
     }
 
     fn warnings(&self) -> Vec<String> {

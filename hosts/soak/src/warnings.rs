@@ -74,23 +74,29 @@ impl Line {
 }
 
 /// The largest size that conduction can give: that of the start, and of what each further vector adds up to in the time.
-fn reachable(tau: f64, vectors: &[&[f64]]) -> f64 {
+pub fn reachable(tau: f64, vectors: &[&[f64]]) -> f64 {
+    vectors.split_first().map_or(0.0, |(start, further)| largest(start) + added(tau, further))
+}
+
+pub fn largest(values: &[f64]) -> f64 {
+    values.iter().fold(0.0, |largest: f64, x| largest.max(x.abs()))
+}
+
+/// The most that w_1 and on can add in a time.
+pub fn added(tau: f64, further: &[&[f64]]) -> f64 {
     let mut factor = 1.0;
     let mut most = 0.0;
-    for (k, vector) in vectors.iter().enumerate() {
-        if k > 0 {
-            factor *= tau / k as f64;
-        }
-        let largest = vector.iter().fold(0.0, |largest: f64, x| largest.max(x.abs()));
+    for (k, vector) in further.iter().enumerate() {
+        factor *= tau / (k + 1) as f64;
+        let largest = largest(vector);
         // 0 times an infinite factor is nothing added.
         most += if largest == 0.0 { 0.0 } else { factor * largest };
     }
     most
 }
 
-/// A warning where a field that is finite is larger than heat conduction can make it.
-pub fn beyond(field: &[f64], tau: f64, vectors: &[&[f64]], unit: &str) -> Option<String> {
-    let most = reachable(tau, vectors);
+/// A warning where a field that is finite is larger than the most that heat conduction can make it.
+pub fn beyond(field: &[f64], most: f64, unit: &str) -> Option<String> {
     let (row, largest) =
         field.iter().enumerate().fold((0, 0.0), |best: (usize, f64), (i, x)| if x.abs() > best.1 { (i, x.abs()) } else { best });
     (largest > most * (1.0 + 1e-6)).then(|| {
@@ -158,7 +164,9 @@ mod tests {
     fn what_conduction_cannot_give_is_told() {
         assert_eq!(reachable(10.0, &[&[1.0, -2.0], &[0.0, 0.5], &[0.1, 0.0]]), 2.0 + 5.0 + 5.0);
         assert_eq!(reachable(f64::MAX, &[&[1.0], &[0.0], &[0.0], &[0.0]]), 1.0);
-        assert_eq!(beyond(&[2.0, -2.0], 10.0, &[&[2.0, 1.0]], "K"), None);
-        assert!(beyond(&[2.0, -2.1], 10.0, &[&[2.0, 1.0]], "K").unwrap().contains("-2.1 K in row 2"));
+        assert_eq!(reachable(1.0, &[]), 0.0);
+        assert_eq!(beyond(&[2.0, -2.0], 2.0, "K"), None);
+        assert!(beyond(&[2.0, -2.1], 2.0, "K").unwrap().contains("-2.1 K in row 2"));
+        assert_eq!(beyond(&[2.0], f64::NAN, "K"), None);
     }
 }
