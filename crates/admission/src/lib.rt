@@ -1,7 +1,7 @@
 // The checks of a combination and of an action, one by one, behind those of the generator.
 ghost use Rattle.std.specs.Prelude.{◌≡◌, ◌*◌, ◌≤◌, length};
 ghost use Rattle.pow2.specs.Pow2.{sup};
-ghost use Rattle.taylor_schedule.specs.Inner.{combination-job, one-column, action-job};
+ghost use Rattle.taylor_schedule.specs.Inner.{combination_job, one_column, action_job};
 ghost use Rattle.weighted_columns.specs.Inner.{weights};
 
 use generator_action::Shape;
@@ -18,7 +18,7 @@ pub fn admit_combination(
     memory: usize,
 ) -> Job
     requires { (d * g.n ≤ length further.now) × (g.n ≤ 1000000) × (d ≤ 3) × (g.stored ≤ 16777216) }
-    ensures { result ≡ combination-job g tau cap d further.now memory }
+    ensures { result ≡ combination_job g tau cap d further.now memory }
 {
     let weights = weighted_columns::weigh(g.n, further, tau, d);
     let checked = weights.checked;
@@ -28,7 +28,7 @@ pub fn admit_combination(
 
 // An action has one column, v.
 fn one_column(eta: f64) -> Coupling
-    ensures { result ≡ one-column eta }
+    ensures { result ≡ one_column eta }
 {
     Coupling {
         places: [0, 0, 0],
@@ -49,7 +49,7 @@ pub fn admit_action(
     memory: usize,
 ) -> Job
     requires { (g.n ≤ 1000000) × (g.stored ≤ 16777216) }
-    ensures { result ≡ action-job g tau cap k v.now output wanted memory }
+    ensures { result ≡ action_job g tau cap k v.now output wanted memory }
 {
     let lengths = vector_checks::check_lengths(output, wanted, v.len(), g.n);
     let finite = vector_checks::check_finite(v);

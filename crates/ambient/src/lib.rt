@@ -5,12 +5,12 @@ ghost use Rattle.lists.specs.Window.{window, splice};
 ghost use Rattle.checks.specs.First.{first};
 ghost use Rattle.checks.specs.declared.Checked.TheVariants.{Sound};
 ghost use Rattle.general_operator.specs.Csr.{csr};
-ghost use Rattle.generator_action.specs.Mass.{given, quotient-need, generator-checks};
+ghost use Rattle.generator_action.specs.Mass.{given, quotient_need, generator_checks};
 ghost use Rattle.generator_action.specs.Generator.{forward};
 ghost use Rattle.generator_action.specs.Known.{Passed};
-ghost use Rattle.ambient_checks.specs.Inner.{log-of};
-ghost use Rattle.ambient_turns.specs.Ambient.{settle, record-step, ended, concluded, begun, ambient};
-ghost use Rattle.ambient_turns.specs.Inner.{results-of, shown-in, Logs, results, logging};
+ghost use Rattle.ambient_checks.specs.Inner.{log_of};
+ghost use Rattle.ambient_turns.specs.Ambient.{settle, record_step, ended, concluded, begun, ambient};
+ghost use Rattle.ambient_turns.specs.Inner.{results_of, shown_in, Logs, results, logging};
 
 use ambient_turns::AmbientAnswer;
 use checks::Checked;
@@ -33,10 +33,10 @@ fn run_records(
     temperatures: &mut [f64],
 ) -> AmbientAnswer
     requires passed { Passed (csr g.n starts.now cols.now vals.now) (given g.with_mass mass.now) g }
-    requires value { (Sound ≡ first (generator-checks (csr g.n starts.now cols.now vals.now) (given g.with_mass mass.now))) × (g.stored ≡ quotient-need (csr g.n starts.now cols.now vals.now) (given g.with_mass mass.now)) }
+    requires value { (Sound ≡ first (generator_checks (csr g.n starts.now cols.now vals.now) (given g.with_mass mass.now))) × (g.stored ≡ quotient_need (csr g.n starts.now cols.now vals.now) (given g.with_mass mass.now)) }
     requires logs { Logs g.n (length durations.now) (length levels.now) (length field.now) (length load.now) (length out.old) (length temperatures.old) node }
-    ensures temperatures_after { ended result out.new work.new (shown-in result (length durations.now) temperatures.new) ≡ concluded (walk (record-step (forward (csr g.n starts.now cols.now vals.now) (given g.with_mass mass.now)) (log-of durations.now levels.now) load.now node) (length durations.now) 0 (on (begun field.now out.old work.old))) }
-    ensures durations_in_bounds { (results-of result (length durations.now) ≤ length durations.now) × (temperatures.new ≡ splice 0 (shown-in result (length durations.now) temperatures.new) temperatures.old) }
+    ensures temperatures_after { ended result out.new work.new (shown_in result (length durations.now) temperatures.new) ≡ concluded (walk (record_step (forward (csr g.n starts.now cols.now vals.now) (given g.with_mass mass.now)) (log_of durations.now levels.now) load.now node) (length durations.now) 0 (on (begun field.now out.old work.old))) }
+    ensures durations_in_bounds { (results_of result (length durations.now) ≤ length durations.now) × (temperatures.new ≡ splice 0 (shown_in result (length durations.now) temperatures.new) temperatures.old) }
 {
     let k = durations.len();
     let mut answer = AmbientAnswer::Logged;
@@ -84,7 +84,7 @@ pub fn ambient(
     largest: &mut [f64],
     smallest: &mut [f64],
 ) -> AmbientAnswer
-    ensures { logging result out.new work.new temperatures.new largest.new smallest.new ≡ ambient (forward (csr n starts.now cols.now vals.now) (given with_mass mass.now)) (log-of durations.now levels.now) field.now load.now window node out.old work.old (results temperatures.old largest.old smallest.old) }
+    ensures { logging result out.new work.new temperatures.new largest.new smallest.new ≡ ambient (forward (csr n starts.now cols.now vals.now) (given with_mass mass.now)) (log_of durations.now levels.now) field.now load.now window node out.old work.old (results temperatures.old largest.old smallest.old) }
 {
     let matrix = generator_checks::check_generator(n, starts, cols, vals, with_mass, mass);
     let MatrixAnswer::Norm(norm, _) = matrix else {

@@ -3,14 +3,14 @@ use Rattle.std.specs.Prelude.{Bool, true, false, List, ◌++◌, ℕ, ◌-◌, F
 use Rattle.vectors.specs.Vectors.{scale}
 use Rattle.checks.specs.First.{Check}
 use Rattle.generator_action.specs.declared.Shape.{Shape}
-use Rattle.expmv.specs.Select.{M-MAX}
-use Rattle.combination.specs.Checks.{plan-checks, finite-checks}
-use Rattle.taylor_schedule.specs.Inner.{combination-job}
+use Rattle.expmv.specs.Select.{M_MAX}
+use Rattle.combination.specs.Checks.{plan_checks, finite_checks}
+use Rattle.taylor_schedule.specs.Inner.{combination_job}
 use Rattle.taylor_schedule.specs.declared.Job.{Job}
 use Rattle.ambient_checks.specs.Log.{Log, Places}
 
-abbrev pub log-of : List Float → List Float → Log
-log-of durations levels = record { durations = durations; levels = levels }
+abbrev pub log_of : List Float → List Float → Log
+log_of durations levels = record { durations = durations; levels = levels }
 
 abbrev pub places : ℕ → ℕ → ℕ → Places
 places temperatures largest smallest = record { temperatures = temperatures; largest = largest; smallest = smallest }
@@ -21,9 +21,9 @@ field_of true field output = field
 field_of false field output = output
 
 -- 14, 33 behind it, and 17 of a record: of its field, then of the load times its level
-abbrev pub early-checks : Float → Float → List Float → List Float → List Check
-early-checks duration level field load = plan-checks duration M-MAX ++ finite-checks (field ++ scale level load)
+abbrev pub early_checks : Float → Float → List Float → List Float → List Check
+early_checks duration level field load = plan_checks duration M_MAX ++ finite_checks (field ++ scale level load)
 
 -- 21, 22 and 24 to 26 of a record: n doubles of the memory are not its combination's
-abbrev pub record-job : Shape → Float → Float → List Float → ℕ → Job
-record-job g duration level load memory = combination-job g duration M-MAX 1 (scale level load) (memory - g.n)
+abbrev pub record_job : Shape → Float → Float → List Float → ℕ → Job
+record_job g duration level load memory = combination_job g duration M_MAX 1 (scale level load) (memory - g.n)

@@ -3,20 +3,20 @@ use Rattle.std.specs.Prelude.{Bool, not, ◌||◌, List, [], ◌∷◌, ◌++◌
 use Rattle.std.specs.Float.{nan}
 use Rattle.doubles.specs.F64.{nat}
 use Rattle.checks.specs.First.{Check, refuse}
-use Rattle.combination.specs.Checks.{length-checks, finite-checks, open-Checks}
+use Rattle.combination.specs.Checks.{length_checks, finite_checks, open_checks}
 
 -- a duration and an ambient level for each record
 pub record Log : Type 0 where
   pub durations : List Float
   pub levels : List Float
 
-abbrev pub records-of : Log → ℕ
-records-of log = length log.durations
+abbrev pub records_of : Log → ℕ
+records_of log = length log.durations
 
 -- 15 for the output, 16 for field, then load, 17 for field, then load
-unfoldable pub field-checks : ℕ → List Float → List Float → ℕ → List Check
-field-checks n field load output =
-    length-checks output n (length field) n ++ (refuse 16 (not (eqb (length load) n)) (nat (length load)) ∷ (finite-checks field ++ finite-checks load))
+unfoldable pub field_checks : ℕ → List Float → List Float → ℕ → List Check
+field_checks n field load output =
+    length_checks output n (length field) n ++ (refuse 16 (not (eqb (length load) n)) (nat (length load)) ∷ (finite_checks field ++ finite_checks load))
 
 -- how long the three slices for the results are
 pub record Places : Type 0 where
@@ -28,14 +28,14 @@ abbrev pub short : ℕ → Places → Bool
 short records r = ltb r.temperatures records || (ltb r.largest records || ltb r.smallest records)
 
 -- W not 1 to 1,024 or the node not below n; not 1 to 100,000 records or levels not as many as durations; a slice for the results too short
-unfoldable pub log-checks : ℕ → Log → ℕ → ℕ → Places → List Check
-log-checks n log W node r =
+unfoldable pub log_checks : ℕ → Log → ℕ → ℕ → Places → List Check
+log_checks n log W node r =
     refuse 38 (eqb W 0 || (ltb 1024 W || leb n node)) nan
-    ∷ refuse 39 (eqb (records-of log) 0 || (ltb 100000 (records-of log) || not (eqb (length log.levels) (records-of log)))) nan
-    ∷ refuse 40 (short (records-of log) r) nan
+    ∷ refuse 39 (eqb (records_of log) 0 || (ltb 100000 (records_of log) || not (eqb (length log.levels) (records_of log)))) nan
+    ∷ refuse 40 (short (records_of log) r) nan
     ∷ []
 
 -- to compute
-unfoldable pub open-Log : Unit {0}
-unfolding field-checks log-checks open-Checks
-open-Log = tt
+unfoldable pub open_log : Unit {0}
+unfolding field_checks log_checks open_checks
+open_log = tt

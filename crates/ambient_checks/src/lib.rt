@@ -1,14 +1,14 @@
 // The checks of a soak under a changing ambient level: of field, load and log.
 ghost use Rattle.std.specs.Prelude.{◌≡◌, not, ◌||◌, ◌-◌, ◌<◌, eqb, ltb, leb};
 ghost use Rattle.checks.specs.First.{first};
-ghost use Rattle.ambient_checks.specs.Log.{short, field-checks, log-checks};
-ghost use Rattle.ambient_checks.specs.Inner.{log-of, places};
+ghost use Rattle.ambient_checks.specs.Log.{short, field_checks, log_checks};
+ghost use Rattle.ambient_checks.specs.Inner.{log_of, places};
 
 use checks::Checked;
 
 // 15 for the output, 16 for field, then load, 17 for field, then load.
 pub fn check_fields(n: usize, field: &[f64], load: &[f64], output: usize) -> Checked
-    ensures { result ≡ first (field-checks n field.now load.now output) }
+    ensures { result ≡ first (field_checks n field.now load.now output) }
 {
     let lengths = vector_checks::check_lengths(output, n, field.len(), n);
     let Checked::Sound = lengths else {
@@ -71,7 +71,7 @@ pub fn check_log(
     largest: usize,
     smallest: usize,
 ) -> Checked
-    ensures { result ≡ first (log-checks n (log-of durations.now levels.now) width node (places temperatures largest smallest)) }
+    ensures { result ≡ first (log_checks n (log_of durations.now levels.now) width node (places temperatures largest smallest)) }
 {
     let records = durations.len();
     if wrong_window(n, width, node) {

@@ -14,100 +14,100 @@ use Rattle.doubles.specs.F64.{if◌then◌else◌, at}
 use Rattle.checks.specs.First.{Check, first, before}
 use Rattle.checks.specs.declared.Checked.{Checked}
 use Rattle.checks.specs.declared.Checked.TheVariants.{Sound, Refused}
-use Rattle.checks.proofs.First.{sound-append, passes, ends-sound, not-eq}
-use Rattle.checks.proofs.Numbers.{before-append, not-by, only-by, if-by}
-use Rattle.general_operator.specs.Csr.{Csr, row-sum-norm}
-use Rattle.general_operator.specs.Checks.{matrix-checks, shape-checks, row-checks, entry-checks}
-use Rattle.generator_action.specs.Mass.{Mass, given, normalise, quotients, quotient-need, mass-checks, sum-checks, norm-checks, bound-checks, generator-checks}
+use Rattle.checks.proofs.First.{sound_append, passes, ends_sound, not_eq}
+use Rattle.checks.proofs.Numbers.{before_append, not_by, only_by, if_by}
+use Rattle.general_operator.specs.Csr.{Csr, row_sum_norm}
+use Rattle.general_operator.specs.Checks.{matrix_checks, shape_checks, row_checks, entry_checks}
+use Rattle.generator_action.specs.Mass.{Mass, given, normalise, quotients, quotient_need, mass_checks, sum_checks, norm_checks, bound_checks, generator_checks}
 use Rattle.generator_action.specs.Generator.{Generator, forward}
-use Rattle.combination.specs.Combination.{further, eta-of}
+use Rattle.combination.specs.Combination.{further, eta_of}
 use Rattle.combination.specs.Call.{ends}
-use Rattle.combination.specs.Checks.{count-checks, time-checks, degree-checks, plan-checks, length-checks, finite-checks, magnitude-checks, schedule-checks, memory-checks, vector-checks-by, vector-checks, sweep-checks, taylor-need}
-use Rattle.taylor_job.specs.Calls.{combination-checks}
-use Rattle.demand_3.proofs.Never23.{InRange, combination-no-number}
-use Rattle.ambient_checks.specs.Log.{Log, records-of, Places, field-checks, log-checks}
-use Rattle.ambient_checks.proofs.Checks.{Logged, log-known}
+use Rattle.combination.specs.Checks.{count_checks, time_checks, degree_checks, plan_checks, length_checks, finite_checks, magnitude_checks, schedule_checks, memory_checks, vector_checks_by, vector_checks, sweep_checks, taylor_need}
+use Rattle.taylor_job.specs.Calls.{combination_checks}
+use Rattle.demand_3.proofs.Never23.{InRange, combination_no_number}
+use Rattle.ambient_checks.specs.Log.{Log, records_of, Places, field_checks, log_checks}
+use Rattle.ambient_checks.proofs.Checks.{Logged, log_known}
 use Rattle.ambient_turns.specs.declared.AmbientAnswer.TheVariants as answer
 use Rattle.ambient_record.specs.Record.{wider}
-use Rattle.ambient_turns.specs.Ambient.{ambient-checks, Results, places_of, Logging, written, unless-log-refused, ambient}
-use Rattle.ambient_claims.specs.Ran.{record-need, Ran, RefusedAt}
-use Rattle.ambient_claims.proofs.Answers.{whole, refused-at, at-refused-leaves, refusal_is}
-use Rattle.ambient_claims.proofs.Memory.{room-ran}
+use Rattle.ambient_turns.specs.Ambient.{ambient_checks, Results, places_of, Logging, written, unless_log_refused, ambient}
+use Rattle.ambient_claims.specs.Ran.{record_need, Ran, RefusedAt}
+use Rattle.ambient_claims.proofs.Answers.{whole, refused_at, at_refused_leaves, refusal_is}
+use Rattle.ambient_claims.proofs.Memory.{room_ran}
 
--- ---- 38 to 40 pass where W, the node, the records and the slices are as document 02 wants them, and (`ambient_checks/proofs/Checks: log-known`) nowhere else
-pub log-sound : (n : ℕ) (log : Log) (W node : ℕ) (r : Places) → Logged n log W node r → Sound ≡ first (log-checks n log W node r)
-unfolding log-checks
-log-sound n log W node r k =
+-- ---- 38 to 40 pass where W, the node, the records and the slices are as document 02 wants them, and (`ambient_checks/proofs/Checks: log_known`) nowhere else
+pub log_sound : (n : ℕ) (log : Log) (W node : ℕ) (r : Places) → Logged n log W node r → Sound ≡ first (log_checks n log W node r)
+unfolding log_checks
+log_sound n log W node r k =
     passes 38 _ _ (rw (ne_eqb W 0 (λ e. absurd (omega (arith, k.wide, e))), le-ltb 1024 W k.narrow, lt-leb n node k.known) refl)
-    (passes 39 _ _ (rw (ne_eqb (records-of log) 0 (λ e. absurd (omega (arith, k.some, e))), le-ltb 100000 (records-of log) k.most, not-eq k.paired) refl)
-    (passes 40 _ [] (rw (le-ltb r.temperatures (records-of log) k.temperatures, le-ltb r.largest (records-of log) k.largest, le-ltb r.smallest (records-of log) k.smallest) refl) ends-sound))
+    (passes 39 _ _ (rw (ne_eqb (records_of log) 0 (λ e. absurd (omega (arith, k.some, e))), le-ltb 100000 (records_of log) k.most, not_eq k.paired) refl)
+    (passes 40 _ [] (rw (le-ltb r.temperatures (records_of log) k.temperatures, le-ltb r.largest (records_of log) k.largest, le-ltb r.smallest (records_of log) k.smallest) refl) ends_sound))
 
 -- ---- a record's generator is in range where its matrix's is (N14)
-pub wider-in-range : (g : Generator) → InRange g → InRange (wider g)
-wider-in-range g h = record { ranged = h.ranged; unnumbered = h.unnumbered }
+pub wider_in_range : (g : Generator) → InRange g → InRange (wider g)
+wider_in_range g h = record { ranged = h.ranged; unnumbered = h.unnumbered }
 
 module _ (g : Generator) (log : Log) (start load : List Float) (W node : ℕ) (output memory : List Float) (r : Results) where
   abbrev left : Logging
   left = whole g log start load W node output memory r
 
   abbrev early : List Check
-  early = ambient-checks g log start load W node (length output) (places_of r)
+  early = ambient_checks g log start load W node (length output) (places_of r)
 
-  refused-early : {k : ℕ} {x : Float} → first early ≡ Refused k x → left.call.answer ≡ answer.Refusal k x 0
-  unfolding ambient unless-log-refused
-  refused-early e = rw e refl
+  refused_early : {k : ℕ} {x : Float} → first early ≡ Refused k x → left.call.answer ≡ answer.Refusal k x 0
+  unfolding ambient unless_log_refused
+  refused_early e = rw e refl
 
   -- a refusal is by those checks or by a record's
-  module _ (k : ℕ) (x : Float) (j : ℕ) (e : left.call.answer ≡ answer.Refusal k x j) (A : Type 0) (by-early : first early ≡ Refused k x → A) (by-record : (i : ℕ) (o m xs : List Float) → Sound ≡ first early → j ≡ i + 1 → RefusedAt g log start load node output memory i k x o m xs → A) where
-    by-either : A
-    by-either = go (first early) refl
+  module _ (k : ℕ) (x : Float) (j : ℕ) (e : left.call.answer ≡ answer.Refusal k x j) (A : Type 0) (by_early : first early ≡ Refused k x → A) (by_record : (i : ℕ) (o m xs : List Float) → Sound ≡ first early → j ≡ i + 1 → RefusedAt g log start load node output memory i k x o m xs → A) where
+    by_either : A
+    by_either = go (first early) refl
       where
         go : (c : Checked) → first early ≡ c → A
-        go (Refused k' x') h = let q = refusal_is (sym (refused-early h) ∙ e) in by-early (h ∙ (λ i. Refused (q.0 i) (q.1 i)))
+        go (Refused k' x') h = let q = refusal_is (sym (refused_early h) ∙ e) in by_early (h ∙ (λ i. Refused (q.0 i) (q.1 i)))
         go Sound h =
-            let R = refused-at g log start load W node output memory r (sym h) k x j left.call.output left.call.memory (λ i. ends (e i) left.call.output left.call.memory) in
-            by-record R.0 _ _ R.1.0 (sym h) R.1.1.0 R.1.1.1.0
+            let R = refused_at g log start load W node output memory r (sym h) k x j left.call.output left.call.memory (λ i. ends (e i) left.call.output left.call.memory) in
+            by_record R.0 _ _ R.1.0 (sym h) R.1.1.0 R.1.1.1.0
 
   -- ---- 23
-  early-no-23 : before 23 g.checks ≡ g.checks → before 23 early ≡ early
-  unfolding before ambient-checks field-checks log-checks length-checks finite-checks
-  early-no-23 h = before-append 23 g.checks _ h
+  early_no_23 : before 23 g.checks ≡ g.checks → before 23 early ≡ early
+  unfolding before ambient_checks field_checks log_checks length_checks finite_checks
+  early_no_23 h = before_append 23 g.checks _ h
 
-  pub never-23 : InRange g → (x : Float) (j : ℕ) → left.call.answer ≡ answer.Refusal 23 x j → ⊥
-  never-23 h x j e =
-      by-either 23 x j e ⊥
-      (λ f. not-by 23 early (early-no-23 h.unnumbered) (sym f))
-      (λ i o m xs s n c. not-by 23 _ (combination-no-number g h _ 30 2 _ _ _) (sym c.refused))
+  pub never_23 : InRange g → (x : Float) (j : ℕ) → left.call.answer ≡ answer.Refusal 23 x j → ⊥
+  never_23 h x j e =
+      by_either 23 x j e ⊥
+      (λ f. not_by 23 early (early_no_23 h.unnumbered) (sym f))
+      (λ i o m xs s n c. not_by 23 _ (combination_no_number g h _ 30 2 _ _ _) (sym c.refused))
 
   -- ---- 26: at record 1 alone, where all other checks of it pass
   module _ (plain : before 26 g.checks ≡ g.checks) where
-    early-no-26 : before 26 early ≡ early
-    unfolding before ambient-checks field-checks log-checks length-checks finite-checks
-    early-no-26 = before-append 26 g.checks _ plain
+    early_no_26 : before 26 early ≡ early
+    unfolding before ambient_checks field_checks log_checks length_checks finite_checks
+    early_no_26 = before_append 26 g.checks _ plain
 
     -- the checks of a record, of which 26 is the last
     abbrev listed : Float → List Float → ℕ → ℕ → List Check
-    listed tau w o m = combination-checks g tau 30 2 w o (m - g.matrix.n)
+    listed tau w o m = combination_checks g tau 30 2 w o (m - g.matrix.n)
 
-    only-26 : (tau : Float) (w : List Float) (o m : ℕ) {x : Float} → first (listed tau w o m) ≡ Refused 26 x → (Sound ≡ first (before 26 (listed tau w o m))) × ((ltb (m - g.matrix.n) (taylor-need g.matrix.n 1 g.stored) ≡ true) × (x ≡ nan))
-    unfolding combination-checks sweep-checks vector-checks vector-checks-by count-checks plan-checks time-checks degree-checks length-checks finite-checks magnitude-checks schedule-checks memory-checks before
-    only-26 tau w o m e =
+    only_26 : (tau : Float) (w : List Float) (o m : ℕ) {x : Float} → first (listed tau w o m) ≡ Refused 26 x → (Sound ≡ first (before 26 (listed tau w o m))) × ((ltb (m - g.matrix.n) (taylor_need g.matrix.n 1 g.stored) ≡ true) × (x ≡ nan))
+    unfolding combination_checks sweep_checks vector_checks vector_checks_by count_checks plan_checks time_checks degree_checks length_checks finite_checks magnitude_checks schedule_checks memory_checks before
+    only_26 tau w o m e =
         let n = g.matrix.n in
-        only-by 26 (ltb (m - n) (taylor-need n 1 g.stored)) nan g.checks (vector-checks n (plan-checks tau 30) 2 w o ++ (magnitude-checks n (further n w) tau 1 (eta-of n (further n w) tau 1).eta ++ schedule-checks 30 (row-sum-norm g.matrix) tau)) [] plain refl refl (sym e)
+        only_by 26 (ltb (m - n) (taylor_need n 1 g.stored)) nan g.checks (vector_checks n (plan_checks tau 30) 2 w o ++ (magnitude_checks n (further n w) tau 1 (eta_of n (further n w) tau 1).eta ++ schedule_checks 30 (row_sum_norm g.matrix) tau)) [] plain refl refl (sym e)
 
-    if-26 : (tau : Float) (w : List Float) (o m : ℕ) → Sound ≡ first (before 26 (listed tau w o m)) → ltb (m - g.matrix.n) (taylor-need g.matrix.n 1 g.stored) ≡ true → first (listed tau w o m) ≡ Refused 26 nan
-    unfolding combination-checks sweep-checks vector-checks vector-checks-by count-checks plan-checks time-checks degree-checks length-checks finite-checks magnitude-checks schedule-checks memory-checks before
-    if-26 tau w o m s b =
+    if_26 : (tau : Float) (w : List Float) (o m : ℕ) → Sound ≡ first (before 26 (listed tau w o m)) → ltb (m - g.matrix.n) (taylor_need g.matrix.n 1 g.stored) ≡ true → first (listed tau w o m) ≡ Refused 26 nan
+    unfolding combination_checks sweep_checks vector_checks vector_checks_by count_checks plan_checks time_checks degree_checks length_checks finite_checks magnitude_checks schedule_checks memory_checks before
+    if_26 tau w o m s b =
         let n = g.matrix.n in
-        sym (if-by 26 (ltb (m - n) (taylor-need n 1 g.stored)) nan g.checks (vector-checks n (plan-checks tau 30) 2 w o ++ (magnitude-checks n (further n w) tau 1 (eta-of n (further n w) tau 1).eta ++ schedule-checks 30 (row-sum-norm g.matrix) tau)) [] plain refl refl s b refl)
+        sym (if_by 26 (ltb (m - n) (taylor_need n 1 g.stored)) nan g.checks (vector_checks n (plan_checks tau 30) 2 w o ++ (magnitude_checks n (further n w) tau 1 (eta_of n (further n w) tau 1).eta ++ schedule_checks 30 (row_sum_norm g.matrix) tau)) [] plain refl refl s b refl)
 
-    short-known : (m : ℕ) → ltb (m - g.matrix.n) (taylor-need g.matrix.n 1 g.stored) ≡ true → m < record-need g
-    unfolding taylor-need
-    short-known m b = let l = ltb-true (m - g.matrix.n) (taylor-need g.matrix.n 1 g.stored) b in omega (arith, l)
+    short_known : (m : ℕ) → ltb (m - g.matrix.n) (taylor_need g.matrix.n 1 g.stored) ≡ true → m < record_need g
+    unfolding taylor_need
+    short_known m b = let l = ltb-true (m - g.matrix.n) (taylor_need g.matrix.n 1 g.stored) b in omega (arith, l)
 
-    short-told : (m : ℕ) → m < record-need g → ltb (m - g.matrix.n) (taylor-need g.matrix.n 1 g.stored) ≡ true
-    unfolding taylor-need
-    short-told m l = lt-ltb (m - g.matrix.n) (taylor-need g.matrix.n 1 g.stored) (omega (arith, l))
+    short_told : (m : ℕ) → m < record_need g → ltb (m - g.matrix.n) (taylor_need g.matrix.n 1 g.stored) ≡ true
+    unfolding taylor_need
+    short_told m l = lt-ltb (m - g.matrix.n) (taylor_need g.matrix.n 1 g.stored) (omega (arith, l))
 
     -- of record 1
     abbrev at_first : List Check
@@ -118,35 +118,35 @@ module _ (g : Generator) (log : Log) (start load : List Float) (W node : ℕ) (o
       pub others : Sound ≡ first (before 26 at_first)
       pub short : length memory < 4 * g.matrix.n + 2 + g.stored
       pub one : j ≡ 1
-      pub no-double : x ≡ nan
+      pub no_double : x ≡ nan
 
-    pub short-only : (x : Float) (j : ℕ) → left.call.answer ≡ answer.Refusal 26 x j → Short x j
+    pub short_only : (x : Float) (j : ℕ) → left.call.answer ≡ answer.Refusal 26 x j → Short x j
     unfolding Ran
-    short-only x j e = by-either 26 x j e (Short x j) (λ f. absurd (not-by 26 early early-no-26 (sym f))) by-record
+    short_only x j e = by_either 26 x j e (Short x j) (λ f. absurd (not_by 26 early early_no_26 (sym f))) by_record
       where
-        by-record : (i : ℕ) (o m xs : List Float) → Sound ≡ first early → j ≡ i + 1 → RefusedAt g log start load node output memory i 26 x o m xs → Short x j
-        by-record zero o m xs s n c =
+        by_record : (i : ℕ) (o m xs : List Float) → Sound ≡ first early → j ≡ i + 1 → RefusedAt g log start load node output memory i 26 x o m xs → Short x j
+        by_record zero o m xs s n c =
             let f : first at_first ≡ Refused 26 x = (λ i. first (listed (at log.durations 0) (sym c.ran.0 i ++ scale (at log.levels 0) load) (length (sym c.ran.1 i)) (length (sym c.ran.2 i)))) ∙ c.refused in
-            let q = only-26 _ _ _ _ f in
-            record { logged = s; others = q.0; short = short-known (length memory) q.1.0; one = omega (arith, n); no-double = q.1.1 }
-        by-record (suc i) o m xs s n c =
-            let q = only-26 _ _ _ _ c.refused in
-            absurd (omega (arith, short-known (length c.lent) q.1.0, room-ran g log start load node output memory i c.field c.out c.lent xs c.ran))
+            let q = only_26 _ _ _ _ f in
+            record { logged = s; others = q.0; short = short_known (length memory) q.1.0; one = omega (arith, n); no_double = q.1.1 }
+        by_record (suc i) o m xs s n c =
+            let q = only_26 _ _ _ _ c.refused in
+            absurd (omega (arith, short_known (length c.lent) q.1.0, room_ran g log start load node output memory i c.field c.out c.lent xs c.ran))
 
-    pub short-refused : (x : Float) (j : ℕ) → Short x j → left.call.answer ≡ answer.Refusal 26 x j
-    unfolding Ran written ambient-checks
-    short-refused x j h =
-        let some = (log-known g.matrix.n log W node (places_of r) (sound-append (field-checks g.matrix.n start load (length output)) _ (sound-append g.checks _ h.logged).1).1).some in
-        let c : RefusedAt g log start load node output memory 0 26 nan output memory [] = record { reached = omega (arith, some); field = start; out = output; lent = memory; ran = (refl, refl, refl, refl); refused = if-26 _ _ _ _ h.others (short-told (length memory) h.short); output-is = refl; memory-is = refl } in
-        ap (λ (l : Logging). l.call.answer) (at-refused-leaves g log start load W node output memory r h.logged 0 26 nan output memory [] c) ∙ (λ i. answer.Refusal 26 (sym h.no-double i) (sym h.one i))
+    pub short_refused : (x : Float) (j : ℕ) → Short x j → left.call.answer ≡ answer.Refusal 26 x j
+    unfolding Ran written ambient_checks
+    short_refused x j h =
+        let some = (log_known g.matrix.n log W node (places_of r) (sound_append (field_checks g.matrix.n start load (length output)) _ (sound_append g.checks _ h.logged).1).1).some in
+        let c : RefusedAt g log start load node output memory 0 26 nan output memory [] = record { reached = omega (arith, some); field = start; out = output; lent = memory; ran = (refl, refl, refl, refl); refused = if_26 _ _ _ _ h.others (short_told (length memory) h.short); output_is = refl; memory_is = refl } in
+        ap (λ (l : Logging). l.call.answer) (at_refused_leaves g log start load W node output memory r h.logged 0 26 nan output memory [] c) ∙ (λ i. answer.Refusal 26 (sym h.no_double i) (sym h.one i))
 
 -- ---- of a matrix and a mass: no check is numbered 26, and a mass adds its entries to what is needed
-pub forward-no-26 : (a : Csr) (mass : Mass) → before 26 (generator-checks a mass) ≡ generator-checks a mass
-unfolding before generator-checks matrix-checks shape-checks row-checks entry-checks bound-checks mass-checks sum-checks norm-checks
-forward-no-26 a none = refl
-forward-no-26 a (some mass) = refl
+pub forward_no_26 : (a : Csr) (mass : Mass) → before 26 (generator_checks a mass) ≡ generator_checks a mass
+unfolding before generator_checks matrix_checks shape_checks row_checks entry_checks bound_checks mass_checks sum_checks norm_checks
+forward_no_26 a none = refl
+forward_no_26 a (some mass) = refl
 
-pub need-forward : (a : Csr) (b : Bool) (mass : List Float) → record-need (forward a (given b mass)) ≡ 4 * a.n + 2 + (if b then length a.entries else 0)
-unfolding quotients normalise quotient-need
-need-forward a true mass = refl
-need-forward a false mass = refl
+pub need_forward : (a : Csr) (b : Bool) (mass : List Float) → record_need (forward a (given b mass)) ≡ 4 * a.n + 2 + (if b then length a.entries else 0)
+unfolding quotients normalise quotient_need
+need_forward a true mass = refl
+need_forward a false mass = refl

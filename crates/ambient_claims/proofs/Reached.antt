@@ -13,20 +13,20 @@ use Rattle.checks.specs.declared.Checked.{Checked}
 use Rattle.checks.specs.declared.Checked.TheVariants.{Sound, Refused}
 use Rattle.generator_action.specs.Generator.{Generator}
 use Rattle.combination.specs.Call.{Call, ends, cleared}
-use Rattle.taylor_job.specs.Calls.{combination-checks}
+use Rattle.taylor_job.specs.Calls.{combination_checks}
 use Rattle.taylor_job.specs.declared.TaylorAnswer.{TaylorAnswer}
 use Rattle.taylor_job.specs.declared.TaylorAnswer.TheVariants as taylor
 use Rattle.ambient_checks.specs.Log.{Log}
 use Rattle.ambient_turns.specs.declared.AmbientAnswer.TheVariants.{Refusal, NotANumber}
-use Rattle.ambient_turns.specs.Ambient.{Progress, Ended, ended, shown, settle, record-step, begun}
-use Rattle.ambient_record.specs.Record.{record-call}
-use Rattle.stages_claims.proofs.Walks.{next, walk-next}
-use Rattle.ambient_claims.specs.Ran.{Gave, record-need, vectors-at, call_at, Run, Next, Ran}
-use Rattle.ambient_claims.proofs.Single.{Passed, refused-record, passed-record, ran-sound}
+use Rattle.ambient_turns.specs.Ambient.{Progress, Ended, ended, shown, settle, record_step, begun}
+use Rattle.ambient_record.specs.Record.{record_call}
+use Rattle.stages_claims.proofs.Walks.{next, walk_next}
+use Rattle.ambient_claims.specs.Ran.{Gave, record_need, vectors_at, call_at, Run, Next, Ran}
+use Rattle.ambient_claims.proofs.Single.{Passed, refused_record, passed_record, ran_sound}
 
 module _ (g : Generator) (log : Log) (start load : List Float) (node : ℕ) (output memory : List Float) where
   abbrev pub stands : ℕ → Turn Progress Ended
-  stands i = walk (record-step g log load node) i 0 (on (begun start output memory))
+  stands i = walk (record_step g log load node) i 0 (on (begun start output memory))
 
   abbrev pub call : ℕ → Progress → Call TaylorAnswer
   call i p = call_at g log start load node output memory i p.field p.output p.memory
@@ -35,31 +35,31 @@ module _ (g : Generator) (log : Log) (start load : List Float) (node : ℕ) (out
   temperature i p = at (call i p).output node
 
   abbrev pub checked : ℕ → Progress → Checked
-  checked i p = first (combination-checks g (at log.durations i) 30 2 (vectors-at g log start load node output memory i p.field) (length p.output) (length p.memory - g.matrix.n))
+  checked i p = first (combination_checks g (at log.durations i) 30 2 (vectors_at g log start load node output memory i p.field) (length p.output) (length p.memory - g.matrix.n))
 
   abbrev pub after : ℕ → Progress → Progress
-  after i p = record { field = (call i p).output; output = (call i p).output; memory = cleared (record-need g) p.memory; temperatures = p.temperatures ++ (temperature i p ∷ []) }
+  after i p = record { field = (call i p).output; output = (call i p).output; memory = cleared (record_need g) p.memory; temperatures = p.temperatures ++ (temperature i p ∷ []) }
 
   -- ---- what record i + 1 comes to
   pub data Outcome (i : ℕ) (p : Progress) : Type 0 where
-    refused : (k : ℕ) (x : Float) → checked i p ≡ Refused k x → record-step g log load node i p ≡ out (ended (Refusal k x (i + 1)) p.output p.memory p.temperatures) → Outcome i p
+    refused : (k : ℕ) (x : Float) → checked i p ≡ Refused k x → record_step g log load node i p ≡ out (ended (Refusal k x (i + 1)) p.output p.memory p.temperatures) → Outcome i p
     nan : Run g log start load node output memory i p.field p.output p.memory → is_nan (temperature i p) ≡ true
-        → record-step g log load node i p ≡ out (ended (NotANumber (i + 1)) (call i p).output (cleared (record-need g) p.memory) p.temperatures)
+        → record_step g log load node i p ≡ out (ended (NotANumber (i + 1)) (call i p).output (cleared (record_need g) p.memory) p.temperatures)
         → Outcome i p
-    result : Run g log start load node output memory i p.field p.output p.memory → is_nan (temperature i p) ≡ false → record-step g log load node i p ≡ on (after i p) → Outcome i p
+    result : Run g log start load node output memory i p.field p.output p.memory → is_nan (temperature i p) ≡ false → record_step g log load node i p ≡ on (after i p) → Outcome i p
 
-  settled-by : (i : ℕ) (p : Progress) {c : Call TaylorAnswer} → record-call g (at log.durations i) (at log.levels i) p.field load p.output p.memory ≡ c → record-step g log load node i p ≡ settle node i p.temperatures c c.answer
-  unfolding record-step
-  settled-by i p e = ap (λ (c : Call TaylorAnswer). settle node i p.temperatures c c.answer) e
+  settled_by : (i : ℕ) (p : Progress) {c : Call TaylorAnswer} → record_call g (at log.durations i) (at log.levels i) p.field load p.output p.memory ≡ c → record_step g log load node i p ≡ settle node i p.temperatures c c.answer
+  unfolding record_step
+  settled_by i p e = ap (λ (c : Call TaylorAnswer). settle node i p.temperatures c c.answer) e
 
-  gave-settled : (i : ℕ) (xs o m : List Float) (a : TaylorAnswer) → Gave a → settle node i xs (ends a o m) a ≡ shown (is_nan (at o node)) i (at o node) (ends a o m) xs
+  gave_settled : (i : ℕ) (xs o m : List Float) (a : TaylorAnswer) → Gave a → settle node i xs (ends a o m) a ≡ shown (is_nan (at o node)) i (at o node) (ends a o m) xs
   unfolding settle
-  gave-settled i xs o m (taylor.Refusal k x) h = absurd h
-  gave-settled i xs o m (taylor.Result r) h = refl
+  gave_settled i xs o m (taylor.Refusal k x) h = absurd h
+  gave_settled i xs o m (taylor.Result r) h = refl
 
   pub outcome : (i : ℕ) (p : Progress) → Outcome i p
   unfolding settle shown
-  outcome i p = by-checks (checked i p) refl
+  outcome i p = by_checks (checked i p) refl
     where
       D : Float
       D = at log.durations i
@@ -70,52 +70,52 @@ module _ (g : Generator) (log : Log) (start load : List Float) (node : ℕ) (out
       by_number : (P : Passed g D L p.field load p.output p.memory) (t : Bool) → is_nan (temperature i p) ≡ t → Outcome i p
       by_number P true e =
           nan (P.gave, P.room) e
-          (settled-by i p P.is ∙ gave-settled i p.temperatures (call i p).output (cleared (record-need g) p.memory) (call i p).answer P.gave
-          ∙ ap (λ (b : Bool). shown b i (temperature i p) (ends (call i p).answer (call i p).output (cleared (record-need g) p.memory)) p.temperatures) e)
+          (settled_by i p P.is ∙ gave_settled i p.temperatures (call i p).output (cleared (record_need g) p.memory) (call i p).answer P.gave
+          ∙ ap (λ (b : Bool). shown b i (temperature i p) (ends (call i p).answer (call i p).output (cleared (record_need g) p.memory)) p.temperatures) e)
       by_number P false e =
           result (P.gave, P.room) e
-          (settled-by i p P.is ∙ gave-settled i p.temperatures (call i p).output (cleared (record-need g) p.memory) (call i p).answer P.gave
-          ∙ ap (λ (b : Bool). shown b i (temperature i p) (ends (call i p).answer (call i p).output (cleared (record-need g) p.memory)) p.temperatures) e)
+          (settled_by i p P.is ∙ gave_settled i p.temperatures (call i p).output (cleared (record_need g) p.memory) (call i p).answer P.gave
+          ∙ ap (λ (b : Bool). shown b i (temperature i p) (ends (call i p).answer (call i p).output (cleared (record_need g) p.memory)) p.temperatures) e)
 
-      by-checks : (c : Checked) → checked i p ≡ c → Outcome i p
-      by-checks (Refused k x) e = refused k x e (settled-by i p (refused-record g D L p.field load p.output p.memory e))
-      by-checks Sound e = by_number (passed-record g D L p.field load p.output p.memory (sym e)) (is_nan (temperature i p)) refl
+      by_checks : (c : Checked) → checked i p ≡ c → Outcome i p
+      by_checks (Refused k x) e = refused k x e (settled_by i p (refused_record g D L p.field load p.output p.memory e))
+      by_checks Sound e = by_number (passed_record g D L p.field load p.output p.memory (sym e)) (is_nan (temperature i p)) refl
 
   -- ---- the outcome by what the single call says
-  refused-not : {k : ℕ} {x : Float} → Sound ≡ Refused k x → zero ≡ 1
-  refused-not e = cc
+  refused_not : {k : ℕ} {x : Float} → Sound ≡ Refused k x → zero ≡ 1
+  refused_not e = cc
 
-  true-not : true ≡ false → zero ≡ 1
-  true-not e = cc
+  true_not : true ≡ false → zero ≡ 1
+  true_not e = cc
 
   module _ (i : ℕ) (p : Progress) where
-    pub refused-step : {k : ℕ} {x : Float} → checked i p ≡ Refused k x → record-step g log load node i p ≡ out (ended (Refusal k x (i + 1)) p.output p.memory p.temperatures)
+    pub refused_step : {k : ℕ} {x : Float} → checked i p ≡ Refused k x → record_step g log load node i p ≡ out (ended (Refusal k x (i + 1)) p.output p.memory p.temperatures)
     unfolding settle
-    refused-step e = settled-by i p (refused-record g (at log.durations i) (at log.levels i) p.field load p.output p.memory e)
+    refused_step e = settled_by i p (refused_record g (at log.durations i) (at log.levels i) p.field load p.output p.memory e)
 
     module _ (r : Run g log start load node output memory i p.field p.output p.memory) where
       sound : Sound ≡ checked i p
-      sound = ran-sound g (at log.durations i) (at log.levels i) p.field load p.output p.memory r.0 r.1
+      sound = ran_sound g (at log.durations i) (at log.levels i) p.field load p.output p.memory r.0 r.1
 
-      pub nan-step : is_nan (temperature i p) ≡ true → record-step g log load node i p ≡ out (ended (NotANumber (i + 1)) (call i p).output (cleared (record-need g) p.memory) p.temperatures)
-      nan-step e = go (outcome i p)
+      pub nan_step : is_nan (temperature i p) ≡ true → record_step g log load node i p ≡ out (ended (NotANumber (i + 1)) (call i p).output (cleared (record_need g) p.memory) p.temperatures)
+      nan_step e = go (outcome i p)
         where
-          go : Outcome i p → record-step g log load node i p ≡ out (ended (NotANumber (i + 1)) (call i p).output (cleared (record-need g) p.memory) p.temperatures)
-          go (refused k x a b) = absurd (omega (arith, refused-not (sound ∙ a)))
+          go : Outcome i p → record_step g log load node i p ≡ out (ended (NotANumber (i + 1)) (call i p).output (cleared (record_need g) p.memory) p.temperatures)
+          go (refused k x a b) = absurd (omega (arith, refused_not (sound ∙ a)))
           go (nan a b c) = c
-          go (result a b c) = absurd (omega (arith, true-not (sym e ∙ b)))
+          go (result a b c) = absurd (omega (arith, true_not (sym e ∙ b)))
 
-      pub result-step : is_nan (temperature i p) ≡ false → record-step g log load node i p ≡ on (after i p)
-      result-step e = go (outcome i p)
+      pub result_step : is_nan (temperature i p) ≡ false → record_step g log load node i p ≡ on (after i p)
+      result_step e = go (outcome i p)
         where
-          go : Outcome i p → record-step g log load node i p ≡ on (after i p)
-          go (refused k x a b) = absurd (omega (arith, refused-not (sound ∙ a)))
-          go (nan a b c) = absurd (omega (arith, true-not (sym b ∙ e)))
+          go : Outcome i p → record_step g log load node i p ≡ on (after i p)
+          go (refused k x a b) = absurd (omega (arith, refused_not (sound ∙ a)))
+          go (nan a b c) = absurd (omega (arith, true_not (sym b ∙ e)))
           go (result a b c) = c
 
   -- a record has a result exactly where its call gave one, n doubles more were there, and the temperature is no NaN
-  pub result-only : (i : ℕ) (p q : Progress) → record-step g log load node i p ≡ on q → Run g log start load node output memory i p.field p.output p.memory × ((is_nan (temperature i p) ≡ false) × (q ≡ after i p))
-  result-only i p q e = go (outcome i p)
+  pub result_only : (i : ℕ) (p q : Progress) → record_step g log load node i p ≡ on q → Run g log start load node output memory i p.field p.output p.memory × ((is_nan (temperature i p) ≡ false) × (q ≡ after i p))
+  result_only i p q e = go (outcome i p)
     where
       differ : {x : Ended} {y : Progress} → ◌≡◌ {A = Turn Progress Ended} (out x) (on y) → zero ≡ 1
       differ e = cc
@@ -147,16 +147,16 @@ module _ (g : Generator) (log : Log) (start load : List Float) (node : ℕ) (out
       differ e = cc
 
       go : (t : Turn Progress Ended) → stands i ≡ t → ((q : Progress) → stands i ≡ on q → RanTo i q) → Next g log start load node output memory i (Ran g log start load node output memory i) p.field p.output p.memory p.temperatures
-      go (out x) d h = absurd (omega (arith, differ (sym (walk-next (record-step g log load node) (on (begun start output memory)) i ∙ ap (next (record-step g log load node) i) d) ∙ e)))
-      go (on q) d h = by-outcome (outcome i q)
+      go (out x) d h = absurd (omega (arith, differ (sym (walk_next (record_step g log load node) (on (begun start output memory)) i ∙ ap (next (record_step g log load node) i) d) ∙ e)))
+      go (on q) d h = by_outcome (outcome i q)
         where
-          stepped : record-step g log load node i q ≡ on p
-          stepped = sym (walk-next (record-step g log load node) (on (begun start output memory)) i ∙ ap (next (record-step g log load node) i) d) ∙ e
+          stepped : record_step g log load node i q ≡ on p
+          stepped = sym (walk_next (record_step g log load node) (on (begun start output memory)) i ∙ ap (next (record_step g log load node) i) d) ∙ e
 
-          by-outcome : Outcome i q → Next g log start load node output memory i (Ran g log start load node output memory i) p.field p.output p.memory p.temperatures
-          by-outcome (refused k x a b) = absurd (omega (arith, differ (sym b ∙ stepped)))
-          by-outcome (nan a b c) = absurd (omega (arith, differ (sym c ∙ stepped)))
-          by-outcome (result a b c) =
+          by_outcome : Outcome i q → Next g log start load node output memory i (Ran g log start load node output memory i) p.field p.output p.memory p.temperatures
+          by_outcome (refused k x a b) = absurd (omega (arith, differ (sym b ∙ stepped)))
+          by_outcome (nan a b c) = absurd (omega (arith, differ (sym c ∙ stepped)))
+          by_outcome (result a b c) =
               let s = same (sym c ∙ stepped) in
               record {
                 field = q.field;
@@ -167,9 +167,9 @@ module _ (g : Generator) (log : Log) (start load : List Float) (node : ℕ) (out
                 ran = a;
                 number = b;
                 field_is = ap (λ (x : Progress). x.field) s;
-                output-is = ap (λ (x : Progress). x.output) s;
-                memory-is = ap (λ (x : Progress). x.memory) s;
-                temperatures-are = ap (λ (x : Progress). x.temperatures) s;
+                output_is = ap (λ (x : Progress). x.output) s;
+                memory_is = ap (λ (x : Progress). x.memory) s;
+                temperatures_are = ap (λ (x : Progress). x.temperatures) s;
               }
 
   -- and the other way round
@@ -180,7 +180,7 @@ module _ (g : Generator) (log : Log) (start load : List Float) (node : ℕ) (out
   unfolding Ran walk
   back zero f o m xs r = λ j. on (standing (sym r.0 j) (sym r.1 j) (sym r.2 j) (sym r.3 j))
   back (suc i) f o m xs r =
-      walk-next (record-step g log load node) (on (begun start output memory)) i
-      ∙ ap (next (record-step g log load node) i) (back i r.field r.out r.lent r.shown r.earlier)
-      ∙ result-step i (standing r.field r.out r.lent r.shown) r.ran r.number
-      ∙ (λ j. on (standing (sym r.field_is j) (sym r.output-is j) (sym r.memory-is j) (sym r.temperatures-are j)))
+      walk_next (record_step g log load node) (on (begun start output memory)) i
+      ∙ ap (next (record_step g log load node) i) (back i r.field r.out r.lent r.shown r.earlier)
+      ∙ result_step i (standing r.field r.out r.lent r.shown) r.ran r.number
+      ∙ (λ j. on (standing (sym r.field_is j) (sym r.output_is j) (sym r.memory_is j) (sym r.temperatures_are j)))

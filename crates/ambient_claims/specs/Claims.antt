@@ -21,14 +21,14 @@ pub record Windowed (W : ℕ) (r : Results) (i : ℕ) : Type 0 where
   pub smallest : Hit W r.temperatures i (at r.smallest i)
   pub above : (j : ℕ) → InWindow W i j → T (at r.temperatures j ⩽ at r.largest i)
   pub below : (j : ℕ) → InWindow W i j → T (at r.smallest i ⩽ at r.temperatures j)
-  pub largest-unsigned : eq (at r.largest i) +0 ≡ true → at r.largest i ≡ +0
-  pub smallest-unsigned : eq (at r.smallest i) +0 ≡ true → at r.smallest i ≡ +0
+  pub largest_unsigned : eq (at r.largest i) +0 ≡ true → at r.largest i ≡ +0
+  pub smallest_unsigned : eq (at r.smallest i) +0 ≡ true → at r.smallest i ≡ +0
 
 -- the slices b are the slices a but for their first n places
 pub record But (n : ℕ) (a b : Results) : Type 0 where
-  pub temperatures-long : length b.temperatures ≡ length a.temperatures
-  pub largest-long : length b.largest ≡ length a.largest
-  pub smallest-long : length b.smallest ≡ length a.smallest
+  pub temperatures_long : length b.temperatures ≡ length a.temperatures
+  pub largest_long : length b.largest ≡ length a.largest
+  pub smallest_long : length b.smallest ≡ length a.smallest
   pub temperatures : (k : ℕ) → n ≤ k → at b.temperatures k ≡ at a.temperatures k
   pub largest : (k : ℕ) → n ≤ k → at b.largest k ≡ at a.largest k
   pub smallest : (k : ℕ) → n ≤ k → at b.smallest k ≡ at a.smallest k

@@ -7,10 +7,10 @@ use Rattle.checks.specs.First.{first}
 use Rattle.checks.specs.declared.Checked.TheVariants.{Refused}
 use Rattle.generator_action.specs.Generator.{Generator}
 use Rattle.combination.specs.Call.{Call, cleared}
-use Rattle.taylor_job.specs.Calls.{combination-checks, phi-combination}
+use Rattle.taylor_job.specs.Calls.{combination_checks, phi_combination}
 use Rattle.taylor_job.specs.declared.TaylorAnswer.{TaylorAnswer}
 use Rattle.taylor_job.specs.declared.TaylorAnswer.TheVariants.{Refusal, Result}
-use Rattle.ambient_checks.specs.Log.{Log, records-of}
+use Rattle.ambient_checks.specs.Log.{Log, records_of}
 
 -- a call that gave a result
 abbrev pub Gave : TaylorAnswer → Type 0
@@ -18,25 +18,25 @@ Gave (Refusal k x) = ⊥
 Gave (Result r) = Unit {0}
 
 -- what a record needs of the working memory: n doubles more than its combination
-abbrev pub record-need : Generator → ℕ
-record-need g = 4 * g.matrix.n + 2 + g.stored
+abbrev pub record_need : Generator → ℕ
+record_need g = 4 * g.matrix.n + 2 + g.stored
 
 module _ (g : Generator) (log : Log) (start load : List Float) (node : ℕ) (output memory : List Float) where
   -- w_0 and w_1 of record i + 1 from the field f
-  abbrev pub vectors-at : ℕ → List Float → List Float
-  vectors-at i f = f ++ scale (at log.levels i) load
+  abbrev pub vectors_at : ℕ → List Float → List Float
+  vectors_at i f = f ++ scale (at log.levels i) load
 
   -- its single call: the Taylor combination of two vectors up to the degree 30
   abbrev pub call_at : ℕ → List Float → List Float → List Float → Call TaylorAnswer
-  call_at i f o m = phi-combination g (at log.durations i) 30 2 (vectors-at i f) o m
+  call_at i f o m = phi_combination g (at log.durations i) 30 2 (vectors_at i f) o m
 
   -- the temperature of the node after it
-  abbrev pub temperature-at : ℕ → List Float → List Float → List Float → Float
-  temperature-at i f o m = at (call_at i f o m).output node
+  abbrev pub temperature_at : ℕ → List Float → List Float → List Float → Float
+  temperature_at i f o m = at (call_at i f o m).output node
 
   -- a record that has run: its call gave a result, and n doubles more were there
   abbrev pub Run : ℕ → List Float → List Float → List Float → Type 0
-  Run i f o m = Gave (call_at i f o m).answer × (record-need g ≤ length m)
+  Run i f o m = Gave (call_at i f o m).answer × (record_need g ≤ length m)
 
   -- one more record after those of `before`: it ran, and its temperature is no NaN
   pub record Next (i : ℕ) (before : List Float → List Float → List Float → List Float → Type 0) (f o m : List Float) (xs : List Float) : Type 0 where
@@ -46,11 +46,11 @@ module _ (g : Generator) (log : Log) (start load : List Float) (node : ℕ) (out
     pub shown : List Float
     pub earlier : before field out lent shown
     pub ran : Run i field out lent
-    pub number : is_nan (temperature-at i field out lent) ≡ false
+    pub number : is_nan (temperature_at i field out lent) ≡ false
     pub field_is : f ≡ (call_at i field out lent).output
-    pub output-is : o ≡ (call_at i field out lent).output
-    pub memory-is : m ≡ cleared (record-need g) lent
-    pub temperatures-are : xs ≡ shown ++ (temperature-at i field out lent ∷ [])
+    pub output_is : o ≡ (call_at i field out lent).output
+    pub memory_is : m ≡ cleared (record_need g) lent
+    pub temperatures_are : xs ≡ shown ++ (temperature_at i field out lent ∷ [])
 
   -- the first i records have results, the temperatures xs: w_0 of the next record, the output and the working memory are f, o and m
   unfoldable pub Ran : ℕ → List Float → List Float → List Float → List Float → Type 0
@@ -62,29 +62,29 @@ module _ (g : Generator) (log : Log) (start load : List Float) (node : ℕ) (out
     pub field : List Float
     pub out : List Float
     pub lent : List Float
-    pub ran : Ran (records-of log) field out lent xs
-    pub output-is : o' ≡ out
-    pub memory-is : m' ≡ lent
+    pub ran : Ran (records_of log) field out lent xs
+    pub output_is : o' ≡ out
+    pub memory_is : m' ≡ lent
 
   -- after record i + 1, the first without a result, the temperature is NaN: its field in the output, and the memory cleared
   pub record NanAt (i : ℕ) (o' m' xs : List Float) : Type 0 where
-    pub reached : i < records-of log
+    pub reached : i < records_of log
     pub field : List Float
     pub out : List Float
     pub lent : List Float
     pub ran : Ran i field out lent xs
     pub run : Run i field out lent
-    pub nan : is_nan (temperature-at i field out lent) ≡ true
-    pub output-is : o' ≡ (call_at i field out lent).output
-    pub memory-is : m' ≡ cleared (record-need g) lent
+    pub nan : is_nan (temperature_at i field out lent) ≡ true
+    pub output_is : o' ≡ (call_at i field out lent).output
+    pub memory_is : m' ≡ cleared (record_need g) lent
 
   -- record i + 1 is refused as its single call is by a working memory of n doubles less; output and memory stay as the record before left them
   pub record RefusedAt (i k : ℕ) (x : Float) (o' m' xs : List Float) : Type 0 where
-    pub reached : i < records-of log
+    pub reached : i < records_of log
     pub field : List Float
     pub out : List Float
     pub lent : List Float
     pub ran : Ran i field out lent xs
-    pub refused : first (combination-checks g (at log.durations i) 30 2 (vectors-at i field) (length out) (length lent - g.matrix.n)) ≡ Refused k x
-    pub output-is : o' ≡ out
-    pub memory-is : m' ≡ lent
+    pub refused : first (combination_checks g (at log.durations i) 30 2 (vectors_at i field) (length out) (length lent - g.matrix.n)) ≡ Refused k x
+    pub output_is : o' ≡ out
+    pub memory_is : m' ≡ lent

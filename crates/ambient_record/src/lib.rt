@@ -7,12 +7,12 @@ ghost use Rattle.general_operator.specs.Csr.{csr};
 ghost use Rattle.generator_action.specs.Mass.{given};
 ghost use Rattle.generator_action.specs.Known.{Passed};
 ghost use Rattle.combination.specs.Call.{ends};
-ghost use Rattle.taylor_schedule.specs.Inner.{Coupled, matrix-of, after-checks};
-ghost use Rattle.taylor_job.specs.Calls.{swept-fields};
-ghost use Rattle.taylor_job.specs.Inner.{operator-by, Allowed};
+ghost use Rattle.taylor_schedule.specs.Inner.{Coupled, matrix_of, after_checks};
+ghost use Rattle.taylor_job.specs.Calls.{swept_fields};
+ghost use Rattle.taylor_job.specs.Inner.{operator_by, Allowed};
 ghost use Rattle.ambient_checks.specs.Inner.{field_of};
-ghost use Rattle.ambient_record.specs.Record.{record-call};
-ghost use Rattle.ambient_record.specs.Inner.{record-end};
+ghost use Rattle.ambient_record.specs.Record.{record_call};
+ghost use Rattle.ambient_record.specs.Inner.{record_end};
 
 use checks::Checked;
 use generator_action::Shape;
@@ -32,7 +32,7 @@ fn run_record(
 ) -> TaylorAnswer
     requires allowed { Allowed starts.now cols.now vals.now mass.now work.old j }
     requires coupled { Coupled j.b j.g.n j.d (length out.old) × (length out.old ≡ j.g.n) × (j.need + j.g.n ≤ length work.old) }
-    ensures { ends result out.new work.new ≡ record-end j (matrix-of j.g starts.now cols.now vals.now mass.now) (swept-fields (operator-by j (matrix-of j.g starts.now cols.now vals.now mass.now) out.old) j.tau (window 0 (j.g.n + j.d) work.old)) work.old }
+    ensures { ends result out.new work.new ≡ record_end j (matrix_of j.g starts.now cols.now vals.now mass.now) (swept_fields (operator_by j (matrix_of j.g starts.now cols.now vals.now mass.now) out.old) j.tau (window 0 (j.g.n + j.d) work.old)) work.old }
 {
     let g = j.g;
     let l = taylor_job::layout(g.n, j.d, g.with_mass);
@@ -67,7 +67,7 @@ pub fn record_call(
 ) -> TaylorAnswer
     requires passed { Passed (csr g.n starts.now cols.now vals.now) (given g.with_mass mass.now) g }
     requires field_len { (length field.now ≡ g.n) × (length load.now ≡ g.n) × (length out.old ≡ g.n) }
-    ensures { (gs : List Check) → Sound ≡ first gs → ends result out.new work.new ≡ record-call (after-checks gs (csr g.n starts.now cols.now vals.now) (given g.with_mass mass.now) g) duration level (field_of initial field.now out.old) load.now out.old work.old }
+    ensures { (gs : List Check) → Sound ≡ first gs → ends result out.new work.new ≡ record_call (after_checks gs (csr g.n starts.now cols.now vals.now) (given g.with_mass mass.now) g) duration level (field_of initial field.now out.old) load.now out.old work.old }
 {
     let early = record_checks::check_record(duration, level, initial, field, out, load);
     let Checked::Sound = early else {

@@ -8,74 +8,74 @@ use lib.Ieee.{Float}
 use Rattle.lists.specs.Loop.{tabulate}
 use Rattle.lists.specs.Walk.{on, walk}
 use Rattle.lists.specs.Window.{window, splice}
-use Rattle.lists.proofs.Window.{length-splice}
-use Rattle.doubles.specs.F64.{maxNum, minNum}
+use Rattle.lists.proofs.Window.{length_splice}
+use Rattle.doubles.specs.F64.{max_num, min_num}
 use Rattle.extremes.specs.Extremes.{largest, smallest}
-use Rattle.extremes.proofs.Windows.{extremes-of-front}
+use Rattle.extremes.proofs.Windows.{extremes_of_front}
 use Rattle.checks.specs.First.{first}
 use Rattle.checks.specs.declared.Checked.{Checked}
 use Rattle.checks.specs.declared.Checked.TheVariants.{Sound, Refused}
-use Rattle.checks.proofs.First.{sound-on, refused-up}
+use Rattle.checks.proofs.First.{sound_on, refused_up}
 use Rattle.general_operator.specs.Csr.{Csr}
-use Rattle.generator_action.specs.Mass.{Mass, generator-checks}
+use Rattle.generator_action.specs.Mass.{Mass, generator_checks}
 use Rattle.generator_action.specs.Generator.{Generator, forward}
 use Rattle.combination.specs.Call.{ends}
-use Rattle.taylor_schedule.proofs.Stored.{quotients-rows}
-use Rattle.ambient_checks.specs.Log.{Log, records-of, Places, field-checks, log-checks}
+use Rattle.taylor_schedule.proofs.Stored.{quotients_rows}
+use Rattle.ambient_checks.specs.Log.{Log, records_of, Places, field_checks, log_checks}
 use Rattle.ambient_checks.specs.Inner.{places}
-use Rattle.ambient_checks.proofs.Checks.{fields-known, log-known}
+use Rattle.ambient_checks.proofs.Checks.{fields_known, log_known}
 use Rattle.ambient_turns.specs.declared.AmbientAnswer.{AmbientAnswer}
 use Rattle.ambient_turns.specs.declared.AmbientAnswer.TheVariants.{Refusal}
-use Rattle.ambient_turns.specs.Ambient.{ended, record-step, ambient-checks, written, concluded, begun, unless-log-refused, ambient}
-use Rattle.ambient_turns.specs.Inner.{results-of, shown-in, Logs, results, logging}
+use Rattle.ambient_turns.specs.Ambient.{ended, record_step, ambient_checks, written, concluded, begun, unless_log_refused, ambient}
+use Rattle.ambient_turns.specs.Inner.{results_of, shown_in, Logs, results, logging}
 
 -- ---- what the slices hold at the end
 module _ (W n : ℕ) (t₁ w₀ w₁ : List Float) (wide : 1 ≤ W) (fits : n ≤ length t₁) where
-  largest-in : w₁ ≡ splice 0 (tabulate n (largest W t₁)) w₀ → w₁ ≡ splice 0 (tabulate (length (window 0 n t₁)) (largest W (window 0 n t₁))) w₀
+  largest_in : w₁ ≡ splice 0 (tabulate n (largest W t₁)) w₀ → w₁ ≡ splice 0 (tabulate (length (window 0 n t₁)) (largest W (window 0 n t₁))) w₀
   unfolding largest
-  largest-in e = e ∙ ap (λ (x : List Float). splice 0 x w₀) (extremes-of-front maxNum W n t₁ wide fits)
+  largest_in e = e ∙ ap (λ (x : List Float). splice 0 x w₀) (extremes_of_front max_num W n t₁ wide fits)
 
-  smallest-in : w₁ ≡ splice 0 (tabulate n (smallest W t₁)) w₀ → w₁ ≡ splice 0 (tabulate (length (window 0 n t₁)) (smallest W (window 0 n t₁))) w₀
+  smallest_in : w₁ ≡ splice 0 (tabulate n (smallest W t₁)) w₀ → w₁ ≡ splice 0 (tabulate (length (window 0 n t₁)) (smallest W (window 0 n t₁))) w₀
   unfolding smallest
-  smallest-in e = e ∙ ap (λ (x : List Float). splice 0 x w₀) (extremes-of-front minNum W n t₁ wide fits)
+  smallest_in e = e ∙ ap (λ (x : List Float). splice 0 x w₀) (extremes_of_front min_num W n t₁ wide fits)
 
-module _ (g : Generator) (log : Log) (field load : List Float) (W node : ℕ) (out₀ w₀ t₀ hi₀ lo₀ : List Float) {r : Checked} (told : r ≡ first (ambient-checks g log field load W node (length out₀) (places (length t₀) (length hi₀) (length lo₀)))) where
-  pub ambient-refused : {k : ℕ} {x : Float} → r ≡ Refused k x → logging (Refusal k x 0) out₀ w₀ t₀ hi₀ lo₀ ≡ ambient g log field load W node out₀ w₀ (results t₀ hi₀ lo₀)
-  unfolding ambient unless-log-refused
-  ambient-refused e = rw (← told, e) refl
+module _ (g : Generator) (log : Log) (field load : List Float) (W node : ℕ) (out₀ w₀ t₀ hi₀ lo₀ : List Float) {r : Checked} (told : r ≡ first (ambient_checks g log field load W node (length out₀) (places (length t₀) (length hi₀) (length lo₀)))) where
+  pub ambient_refused : {k : ℕ} {x : Float} → r ≡ Refused k x → logging (Refusal k x 0) out₀ w₀ t₀ hi₀ lo₀ ≡ ambient g log field load W node out₀ w₀ (results t₀ hi₀ lo₀)
+  unfolding ambient unless_log_refused
+  ambient_refused e = rw (← told, e) refl
 
-  pub ambient-is : {a : AmbientAnswer} {out₁ w₁ hi₁ lo₁ : List Float} (t₁ : List Float) {n : ℕ} → r ≡ Sound → 1 ≤ W → records-of log ≤ length t₀
-      → ended a out₁ w₁ (shown-in a (records-of log) t₁) ≡ concluded (walk (record-step g log load node) (records-of log) 0 (on (begun field out₀ w₀)))
-      → results-of a (records-of log) ≤ records-of log
-      → t₁ ≡ splice 0 (shown-in a (records-of log) t₁) t₀
-      → n ≡ results-of a (records-of log)
+  pub ambient_is : {a : AmbientAnswer} {out₁ w₁ hi₁ lo₁ : List Float} (t₁ : List Float) {n : ℕ} → r ≡ Sound → 1 ≤ W → records_of log ≤ length t₀
+      → ended a out₁ w₁ (shown_in a (records_of log) t₁) ≡ concluded (walk (record_step g log load node) (records_of log) 0 (on (begun field out₀ w₀)))
+      → results_of a (records_of log) ≤ records_of log
+      → t₁ ≡ splice 0 (shown_in a (records_of log) t₁) t₀
+      → n ≡ results_of a (records_of log)
       → hi₁ ≡ splice 0 (tabulate n (largest W t₁)) hi₀
       → lo₁ ≡ splice 0 (tabulate n (smallest W t₁)) lo₀
       → logging a out₁ w₁ t₁ hi₁ lo₁ ≡ ambient g log field load W node out₀ w₀ (results t₀ hi₀ lo₀)
-  unfolding ambient unless-log-refused written
-  ambient-is {a} {out₁} {w₁} {hi₁} {lo₁} t₁ {n} e wide room ee most et en eh el =
-      let N = results-of a (records-of log) in
-      let fits : N ≤ length t₁ = omega (arith, ap length et, length-splice 0 (shown-in a (records-of log) t₁) t₀, most, room) in
-      let hi = largest-in W N t₁ hi₀ hi₁ wide fits (rw en at eh) in
-      let lo = smallest-in W N t₁ lo₀ lo₁ wide fits (rw en at el) in
-      let made : logging a out₁ w₁ t₁ hi₁ lo₁ ≡ written W (results t₀ hi₀ lo₀) (ended a out₁ w₁ (shown-in a (records-of log) t₁)) = λ i. record { call = ends a out₁ w₁; results = results (et i) (hi i) (lo i) } in
+  unfolding ambient unless_log_refused written
+  ambient_is {a} {out₁} {w₁} {hi₁} {lo₁} t₁ {n} e wide room ee most et en eh el =
+      let N = results_of a (records_of log) in
+      let fits : N ≤ length t₁ = omega (arith, ap length et, length_splice 0 (shown_in a (records_of log) t₁) t₀, most, room) in
+      let hi = largest_in W N t₁ hi₀ hi₁ wide fits (rw en at eh) in
+      let lo = smallest_in W N t₁ lo₀ lo₁ wide fits (rw en at el) in
+      let made : logging a out₁ w₁ t₁ hi₁ lo₁ ≡ written W (results t₀ hi₀ lo₀) (ended a out₁ w₁ (shown_in a (records_of log) t₁)) = λ i. record { call = ends a out₁ w₁; results = results (et i) (hi i) (lo i) } in
       made ∙ ap (written W (results t₀ hi₀ lo₀)) ee ∙ rw (← told, e) refl
 
 -- ---- the checks before the records
-pub checks-told : (a : Csr) (mass : Mass) (log : Log) (field load : List Float) (W node output : ℕ) (p : Places) {r : Checked} → Sound ≡ first (generator-checks a mass) → r ≡ first (field-checks a.n field load output ++ log-checks a.n log W node p)
-    → r ≡ first (ambient-checks (forward a mass) log field load W node output p)
-unfolding ambient-checks
-checks-told a mass log field load W node output p sound e = sound-on (generator-checks a mass) _ refl sound (rw (quotients-rows a mass) e)
+pub checks_told : (a : Csr) (mass : Mass) (log : Log) (field load : List Float) (W node output : ℕ) (p : Places) {r : Checked} → Sound ≡ first (generator_checks a mass) → r ≡ first (field_checks a.n field load output ++ log_checks a.n log W node p)
+    → r ≡ first (ambient_checks (forward a mass) log field load W node output p)
+unfolding ambient_checks
+checks_told a mass log field load W node output p sound e = sound_on (generator_checks a mass) _ refl sound (rw (quotients_rows a mass) e)
 
-pub matrix-refused : (a : Csr) (mass : Mass) (log : Log) (field load : List Float) (W node output : ℕ) (p : Places) {k : ℕ} {x : Float} → Refused k x ≡ first (generator-checks a mass)
-    → Refused k x ≡ first (ambient-checks (forward a mass) log field load W node output p)
-unfolding ambient-checks
-matrix-refused a mass log field load W node output p e = refused-up (generator-checks a mass) _ refl e
+pub matrix_refused : (a : Csr) (mass : Mass) (log : Log) (field load : List Float) (W node output : ℕ) (p : Places) {k : ℕ} {x : Float} → Refused k x ≡ first (generator_checks a mass)
+    → Refused k x ≡ first (ambient_checks (forward a mass) log field load W node output p)
+unfolding ambient_checks
+matrix_refused a mass log field load W node output p e = refused_up (generator_checks a mass) _ refl e
 
 -- what they leave
-pub logs-known : (n : ℕ) (log : Log) (field load : List Float) (W node output : ℕ) (t hi lo : ℕ) → Sound ≡ first (field-checks n field load output) → Sound ≡ first (log-checks n log W node (places t hi lo))
-    → Logs n (records-of log) (length log.levels) (length field) (length load) output t node
-logs-known n log field load W node output t hi lo e f =
-    let a = fields-known n field load output e in
-    let b = log-known n log W node (places t hi lo) f in
+pub logs_known : (n : ℕ) (log : Log) (field load : List Float) (W node output : ℕ) (t hi lo : ℕ) → Sound ≡ first (field_checks n field load output) → Sound ≡ first (log_checks n log W node (places t hi lo))
+    → Logs n (records_of log) (length log.levels) (length field) (length load) output t node
+logs_known n log field load W node output t hi lo e f =
+    let a = fields_known n field load output e in
+    let b = log_known n log W node (places t hi lo) f in
     record { most = b.most; paired = b.paired; fielded = a.fielded; loaded = a.loaded; out = a.out; room = b.temperatures; known = b.known }

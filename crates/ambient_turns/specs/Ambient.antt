@@ -6,7 +6,7 @@ use Rattle.lists.specs.Loop.{tabulate}
 use Rattle.lists.specs.Walk.{Turn, on, out, walk}
 use Rattle.lists.specs.Window.{splice}
 use Rattle.doubles.specs.F64.{at}
-use Rattle.extremes.specs.Extremes.{largest, smallest, open-Extremes}
+use Rattle.extremes.specs.Extremes.{largest, smallest, open_extremes}
 use Rattle.checks.specs.First.{Check, first}
 use Rattle.checks.specs.declared.Checked.{Checked}
 use Rattle.checks.specs.declared.Checked.TheVariants.{Sound, Refused}
@@ -14,8 +14,8 @@ use Rattle.generator_action.specs.Generator.{Generator}
 use Rattle.combination.specs.Call.{Call, ends}
 use Rattle.taylor_job.specs.declared.TaylorAnswer.{TaylorAnswer}
 use Rattle.taylor_job.specs.declared.TaylorAnswer.TheVariants as taylor
-use Rattle.ambient_record.specs.Record.{record-call, open-Record}
-use Rattle.ambient_checks.specs.Log.{Log, records-of, Places, field-checks, log-checks, open-Log}
+use Rattle.ambient_record.specs.Record.{record_call, open_record}
+use Rattle.ambient_checks.specs.Log.{Log, records_of, Places, field_checks, log_checks, open_log}
 use Rattle.ambient_turns.specs.declared.AmbientAnswer.{AmbientAnswer}
 use Rattle.ambient_turns.specs.declared.AmbientAnswer.TheVariants.{Refusal, NotANumber, Logged}
 
@@ -46,15 +46,15 @@ settle node i temperatures c (taylor.Refusal k x) = out (ended (Refusal k x (i +
 settle node i temperatures c (taylor.Result r) = shown (is_nan (at c.output node)) i (at c.output node) c temperatures
 
 -- record i + 1
-unfoldable pub record-step : Generator → Log → List Float → ℕ → ℕ → Progress → Turn Progress Ended
-record-step g log load node i p =
-    let c = record-call g (at log.durations i) (at log.levels i) p.field load p.output p.memory in
+unfoldable pub record_step : Generator → Log → List Float → ℕ → ℕ → Progress → Turn Progress Ended
+record_step g log load node i p =
+    let c = record_call g (at log.durations i) (at log.levels i) p.field load p.output p.memory in
     settle node i p.temperatures c c.answer
 
 -- ---- the checks: those of the matrix, of field and load, of the log
-unfoldable pub ambient-checks : Generator → Log → List Float → List Float → ℕ → ℕ → ℕ → Places → List Check
-ambient-checks g log field load W node output r =
-    g.checks ++ (field-checks g.matrix.n field load output ++ log-checks g.matrix.n log W node r)
+unfoldable pub ambient_checks : Generator → Log → List Float → List Float → ℕ → ℕ → ℕ → Places → List Check
+ambient_checks g log field load W node output r =
+    g.checks ++ (field_checks g.matrix.n field load output ++ log_checks g.matrix.n log W node r)
 
 -- ---- the whole
 -- what the three slices hold at the end
@@ -93,16 +93,16 @@ abbrev pub begun : List Float → List Float → List Float → Progress
 begun field output memory = record { field = field; output = output; memory = memory; temperatures = [] }
 
 -- refused before any record: nothing is changed
-unfoldable pub unless-log-refused : Checked → List Float → List Float → Results → Logging → Logging
-unless-log-refused (Refused k x) output memory r l = record { call = ends (Refusal k x 0) output memory; results = r }
-unless-log-refused Sound output memory r l = l
+unfoldable pub unless_log_refused : Checked → List Float → List Float → Results → Logging → Logging
+unless_log_refused (Refused k x) output memory r l = record { call = ends (Refusal k x 0) output memory; results = r }
+unless_log_refused Sound output memory r l = l
 
 unfoldable pub ambient : Generator → Log → List Float → List Float → ℕ → ℕ → List Float → List Float → Results → Logging
 ambient g log field load W node output memory r =
-    unless-log-refused (first (ambient-checks g log field load W node (length output) (places_of r))) output memory r
-    (written W r (concluded (walk (record-step g log load node) (records-of log) 0 (on (begun field output memory)))))
+    unless_log_refused (first (ambient_checks g log field load W node (length output) (places_of r))) output memory r
+    (written W r (concluded (walk (record_step g log load node) (records_of log) 0 (on (begun field output memory)))))
 
--- to compute: a line `unfolding open-Ambient` opens every definition of this file and of those below it
-unfoldable pub open-Ambient : Unit {0}
-unfolding shown settle record-step ambient-checks written concluded unless-log-refused ambient walk splice tabulate open-Extremes open-Log open-Record
-open-Ambient = tt
+-- to compute: a line `unfolding open_ambient` opens every definition of this file and of those below it
+unfoldable pub open_ambient : Unit {0}
+unfolding shown settle record_step ambient_checks written concluded unless_log_refused ambient walk splice tabulate open_extremes open_log open_record
+open_ambient = tt

@@ -15,14 +15,14 @@ turn_at (NotANumber i) field output memory temperatures = out (ended (NotANumber
 turn_at Logged field output memory temperatures = on (record { field = field; output = output; memory = memory; temperatures = temperatures })
 
 -- how many of k records have a result: those before the one that is named
-unfoldable pub results-of : AmbientAnswer → ℕ → ℕ
-results-of (Refusal r x i) k = i - 1
-results-of (NotANumber i) k = i - 1
-results-of Logged k = k
+unfoldable pub results_of : AmbientAnswer → ℕ → ℕ
+results_of (Refusal r x i) k = i - 1
+results_of (NotANumber i) k = i - 1
+results_of Logged k = k
 
 -- the temperatures in their slice, where k records have been taken
-abbrev pub shown-in : AmbientAnswer → ℕ → List Float → List Float
-shown-in a k slice = window 0 (results-of a k) slice
+abbrev pub shown_in : AmbientAnswer → ℕ → List Float → List Float
+shown_in a k slice = window 0 (results_of a k) slice
 
 -- what the lengths are once all checks before the records have passed
 pub record Logs (n durations levels field load output temperatures node : ℕ) : Type 0 where

@@ -3,7 +3,7 @@ ghost use Rattle.std.specs.Prelude.{◌≡◌, List, ◌+◌, ◌-◌, ◌≤◌
 ghost use Rattle.lists.specs.Window.{window, splice};
 ghost use Rattle.combination.specs.Call.{ends};
 ghost use Rattle.ambient_turns.specs.Ambient.{settle};
-ghost use Rattle.ambient_turns.specs.Inner.{turn_at, results-of, shown-in};
+ghost use Rattle.ambient_turns.specs.Inner.{turn_at, results_of, shown_in};
 
 use taylor_job::TaylorAnswer;
 
@@ -24,8 +24,8 @@ pub fn settle(
     temperatures: &mut [f64],
 ) -> AmbientAnswer
     requires { (i < 100000) × (node < length out.now) × (i < length temperatures.old) }
-    ensures temperatures_after { (memory : List Float) → turn_at result out.now out.now memory (shown-in result (i + 1) temperatures.new) ≡ settle node i (window 0 i temperatures.old) (ends answer out.now memory) answer }
-    ensures i_bound { (results-of result (i + 1) ≤ i + 1) × ((t₀ : List Float) → temperatures.old ≡ splice 0 (window 0 i temperatures.old) t₀ → temperatures.new ≡ splice 0 (shown-in result (i + 1) temperatures.new) t₀) }
+    ensures temperatures_after { (memory : List Float) → turn_at result out.now out.now memory (shown_in result (i + 1) temperatures.new) ≡ settle node i (window 0 i temperatures.old) (ends answer out.now memory) answer }
+    ensures i_bound { (results_of result (i + 1) ≤ i + 1) × ((t₀ : List Float) → temperatures.old ≡ splice 0 (window 0 i temperatures.old) t₀ → temperatures.new ≡ splice 0 (shown_in result (i + 1) temperatures.new) t₀) }
 {
     let record = i as u32 + 1;
     match answer {
@@ -43,8 +43,8 @@ pub fn settle(
 
 // How many of k records have a result.
 pub fn results_of(answer: AmbientAnswer, k: usize) -> usize
-    requires { results-of answer k ≤ k }
-    ensures { result ≡ results-of answer k }
+    requires { results_of answer k ≤ k }
+    ensures { result ≡ results_of answer k }
 {
     match answer {
         AmbientAnswer::Refusal(_, _, i) => records_before(i),

@@ -28,22 +28,22 @@ pub record Numbers : Type 0 where
   pub shortest : Float
   pub last : Float
 
-abbrev pub run-numbers : ℕ → Float → ℕ → ℕ → ℕ → Float → Float → Numbers
-run-numbers k x a b c shortest last = record { number = k; value = x; first = a; second = b; third = c; shortest = shortest; last = last }
+abbrev pub run_numbers : ℕ → Float → ℕ → ℕ → ℕ → Float → Float → Numbers
+run_numbers k x a b c shortest last = record { number = k; value = x; first = a; second = b; third = c; shortest = shortest; last = last }
 
 -- where there are no steps
 abbrev pub numbers : ℕ → Float → ℕ → ℕ → ℕ → Numbers
-numbers k x a b c = run-numbers k x a b c +0 +0
+numbers k x a b c = run_numbers k x a b c +0 +0
 
 -- of a matrix: the norm and the first row that has it; the row of a refusal is 0
-unfoldable pub matrix-numbers : MatrixAnswer → Numbers
-matrix-numbers (matrix.Refusal k x) = numbers k x 0 0 0
-matrix-numbers (matrix.Norm x i) = numbers 0 x i 0 0
+unfoldable pub matrix_numbers : MatrixAnswer → Numbers
+matrix_numbers (matrix.Refusal k x) = numbers k x 0 0 0
+matrix_numbers (matrix.Norm x i) = numbers 0 x i 0 0
 
 -- of a join: the number of entries of the result; that of a refusal is 0
-unfoldable pub join-numbers : JoinAnswer → Numbers
-join-numbers (join.Refusal k x) = numbers k x 0 0 0
-join-numbers (join.Joined entries) = numbers 0 +0 entries 0 0
+unfoldable pub join_numbers : JoinAnswer → Numbers
+join_numbers (join.Refusal k x) = numbers k x 0 0 0
+join_numbers (join.Joined entries) = numbers 0 +0 entries 0 0
 
 -- and what its output slices hold
 pub record JoinTold : Type 0 where
@@ -52,27 +52,27 @@ pub record JoinTold : Type 0 where
   pub columns : List ℕ
   pub values : List Float
 
-abbrev pub join-told : Numbers → List ℕ → List ℕ → List Float → JoinTold
-join-told t starts columns values = record { told = t; starts = starts; columns = columns; values = values }
+abbrev pub join_told : Numbers → List ℕ → List ℕ → List Float → JoinTold
+join_told t starts columns values = record { told = t; starts = starts; columns = columns; values = values }
 
-abbrev pub telling-join : Call → JoinTold
-telling-join c = join-told (join-numbers c.answer) c.starts c.columns c.values
+abbrev pub telling_join : Call → JoinTold
+telling_join c = join_told (join_numbers c.answer) c.starts c.columns c.values
 
 -- of Taylor: mu, s, m and the applications
-unfoldable pub taylor-numbers : TaylorAnswer → Numbers
-taylor-numbers (taylor.Refusal k x) = numbers k x 0 0 0
-taylor-numbers (taylor.Result r) = numbers 0 r.mu r.s r.m r.applications
+unfoldable pub taylor_numbers : TaylorAnswer → Numbers
+taylor_numbers (taylor.Refusal k x) = numbers k x 0 0 0
+taylor_numbers (taylor.Result r) = numbers 0 r.mu r.s r.m r.applications
 
 -- of Krylov: the estimate, the substeps, the applications, the rejections, and the two steps (document 02, N10)
-unfoldable pub krylov-numbers : KrylovAnswer → Numbers
-krylov-numbers (krylov.Refusal k x) = numbers k x 0 0 0
-krylov-numbers (krylov.Result r) = run-numbers 0 r.est_error r.substeps r.matvecs r.rejected r.shortest r.last
+unfoldable pub krylov_numbers : KrylovAnswer → Numbers
+krylov_numbers (krylov.Refusal k x) = numbers k x 0 0 0
+krylov_numbers (krylov.Result r) = run_numbers 0 r.est_error r.substeps r.matvecs r.rejected r.shortest r.last
 
 -- of either solver: what its own call tells
 unfoldable pub phi_numbers : PhiAnswer → Numbers
 phi_numbers (phi.Refusal k x) = numbers k x 0 0 0
-phi_numbers (phi.Taylor r) = taylor-numbers (taylor.Result r)
-phi_numbers (phi.Krylov r) = krylov-numbers (krylov.Result r)
+phi_numbers (phi.Taylor r) = taylor_numbers (taylor.Result r)
+phi_numbers (phi.Krylov r) = krylov_numbers (krylov.Result r)
 
 -- tol, m and max_substeps, handed in as numbers (phi_krylov.rs, `KrylovPhiOptions`)
 abbrev pub options : Float → ℕ → ℕ → KrylovPhiOptions

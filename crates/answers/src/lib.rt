@@ -1,6 +1,6 @@
 // Answers as the numbers that an exported function hands back, and solvers from the numbers handed in.
 ghost use Rattle.std.specs.Prelude.{◌≡◌};
-ghost use Rattle.answers.specs.Told.{numbers, matrix-numbers, join-numbers, taylor-numbers, krylov-numbers, phi_numbers, run-numbers, options, solver};
+ghost use Rattle.answers.specs.Told.{numbers, matrix_numbers, join_numbers, taylor_numbers, krylov_numbers, phi_numbers, run_numbers, options, solver};
 
 use generator_action::MatrixAnswer;
 use join_rows::JoinAnswer;
@@ -10,7 +10,7 @@ use taylor_job::TaylorAnswer;
 
 // The result is 0 or the refusal's number; `value` is the norm or the refusal's double.
 pub fn matrix_numbers(answer: MatrixAnswer, value: &mut f64, row: &mut usize) -> u32
-    ensures { numbers result value.new row.new 0 0 ≡ matrix-numbers answer }
+    ensures { numbers result value.new row.new 0 0 ≡ matrix_numbers answer }
 {
     match answer {
         MatrixAnswer::Refusal(k, x) => {
@@ -28,7 +28,7 @@ pub fn matrix_numbers(answer: MatrixAnswer, value: &mut f64, row: &mut usize) ->
 
 // The result is 0 or the refusal's number; `value` is 0 or the refusal's double.
 pub fn join_numbers(answer: JoinAnswer, value: &mut f64, entries: &mut usize) -> u32
-    ensures { numbers result value.new entries.new 0 0 ≡ join-numbers answer }
+    ensures { numbers result value.new entries.new 0 0 ≡ join_numbers answer }
 {
     match answer {
         JoinAnswer::Refusal(k, x) => {
@@ -52,7 +52,7 @@ pub fn taylor_numbers(
     m: &mut u32,
     applications: &mut u64,
 ) -> u32
-    ensures { numbers result value.new s.new m.new applications.new ≡ taylor-numbers answer }
+    ensures { numbers result value.new s.new m.new applications.new ≡ taylor_numbers answer }
 {
     match answer {
         TaylorAnswer::Refusal(k, x) => {
@@ -82,7 +82,7 @@ pub fn krylov_numbers(
     shortest: &mut f64,
     last: &mut f64,
 ) -> u32
-    ensures { run-numbers result value.new substeps.new matvecs.new rejected.new shortest.new last.new ≡ krylov-numbers answer }
+    ensures { run_numbers result value.new substeps.new matvecs.new rejected.new shortest.new last.new ≡ krylov_numbers answer }
 {
     match answer {
         KrylovAnswer::Refusal(k, x) => {
@@ -116,7 +116,7 @@ pub fn phi_numbers(
     shortest: &mut f64,
     last: &mut f64,
 ) -> u32
-    ensures { run-numbers result value.new first.new second.new third.new shortest.new last.new ≡ phi_numbers answer }
+    ensures { run_numbers result value.new first.new second.new third.new shortest.new last.new ≡ phi_numbers answer }
 {
     match answer {
         PhiAnswer::Refusal(k, x) => {

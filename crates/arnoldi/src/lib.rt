@@ -4,10 +4,10 @@ ghost use Rattle.lists.specs.Walk.{on, walk};
 ghost use Rattle.lists.specs.Window.{window, splice};
 ghost use Rattle.doubles.specs.F64.{◌⊘◌, +0, 1f};
 ghost use Rattle.vectors.specs.Vectors.{scale};
-ghost use Rattle.phi_action_helpers.specs.Laid.{matrix-at};
+ghost use Rattle.phi_action_helpers.specs.Laid.{matrix_at};
 ghost use Rattle.phi_action_helpers.specs.declared.Coupling.{Coupling};
-ghost use Rattle.gram_schmidt.specs.Basis.{norm2, arnoldi-step, close, arnoldi};
-ghost use Rattle.gram_schmidt.specs.Memory.{setting-at, Room, Spared, column, columns-at, grown-at, Within, basis-at, Counted, Ended};
+ghost use Rattle.gram_schmidt.specs.Basis.{norm2, arnoldi_step, close, arnoldi};
+ghost use Rattle.gram_schmidt.specs.Memory.{setting_at, Room, Spared, column, columns_at, grown_at, Within, basis_at, Counted, Ended};
 
 use gram_schmidt::{BasisAnswer, Grown, Krylov};
 use phi_action_helpers::{Coupling, Layout};
@@ -24,8 +24,8 @@ fn columns(
     k: Krylov,
     beta: f64,
 ) -> Grown
-    requires { Room l b k (matrix-at l starts.now cols.now vals.now work.old) (length vals.now) (length vectors.now) (length work.old) }
-    ensures work_after { grown-at l k k.m result work.new ≡ walk (arnoldi-step (setting-at l b k (matrix-at l starts.now cols.now vals.now work.old) vectors.now) beta) k.m 0 (on (columns-at l k 1 0 work.old)) }
+    requires { Room l b k (matrix_at l starts.now cols.now vals.now work.old) (length vals.now) (length vectors.now) (length work.old) }
+    ensures work_after { grown_at l k k.m result work.new ≡ walk (arnoldi_step (setting_at l b k (matrix_at l starts.now cols.now vals.now work.old) vectors.now) beta) k.m 0 (on (columns_at l k 1 0 work.old)) }
     ensures within { Within k.m result × Spared l k work.old work.new }
 {
     let m = k.m;
@@ -62,8 +62,8 @@ fn end(
     b: Coupling,
     k: Krylov,
 ) -> f64
-    requires { Room l b k (matrix-at l starts.now cols.now vals.now work.old) (length vals.now) (length vectors.now) (length work.old) }
-    ensures { Ended l k (setting-at l b k (matrix-at l starts.now cols.now vals.now work.old) vectors.now) work.old work.new result }
+    requires { Room l b k (matrix_at l starts.now cols.now vals.now work.old) (length vals.now) (length vectors.now) (length work.old) }
+    ensures { Ended l k (setting_at l b k (matrix_at l starts.now cols.now vals.now work.old) vectors.now) work.old work.new result }
 {
     let m = k.m;
     let z = l.w;
@@ -85,9 +85,9 @@ fn finish(
     k: Krylov,
     o: Grown,
 ) -> BasisAnswer
-    requires room { Room l b k (matrix-at l starts.now cols.now vals.now work.old) (length vals.now) (length vectors.now) (length work.old) }
+    requires room { Room l b k (matrix_at l starts.now cols.now vals.now work.old) (length vals.now) (length vectors.now) (length work.old) }
     requires within { Within k.m o }
-    ensures work_after { basis-at l k result work.new ≡ close (setting-at l b k (matrix-at l starts.now cols.now vals.now work.old) vectors.now) (grown-at l k k.m o work.old) }
+    ensures work_after { basis_at l k result work.new ≡ close (setting_at l b k (matrix_at l starts.now cols.now vals.now work.old) vectors.now) (grown_at l k k.m o work.old) }
     ensures counted { Counted k.m result × Spared l k work.old work.new }
 {
     match o {
@@ -111,8 +111,8 @@ pub fn arnoldi(
     k: Krylov,
     beta: f64,
 ) -> BasisAnswer
-    requires { Room l b k (matrix-at l starts.now cols.now vals.now work.old) (length vals.now) (length vectors.now) (length work.old) }
-    ensures work_after { basis-at l k result work.new ≡ arnoldi (setting-at l b k (matrix-at l starts.now cols.now vals.now work.old) vectors.now) (window k.y (l.n + l.d) work.old) beta }
+    requires { Room l b k (matrix_at l starts.now cols.now vals.now work.old) (length vals.now) (length vectors.now) (length work.old) }
+    ensures work_after { basis_at l k result work.new ≡ arnoldi (setting_at l b k (matrix_at l starts.now cols.now vals.now work.old) vectors.now) (window k.y (l.n + l.d) work.old) beta }
     ensures counted { Counted k.m result × Spared l k work.old work.new }
 {
     begin(work, k.h, k.m + 2, k.y, l.n + l.d, beta);

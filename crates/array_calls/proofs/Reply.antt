@@ -13,13 +13,13 @@ pub packing : {t : Numbers} {f g : List Float} (out work : List ℕ) {out₁ wor
 packing {t} {f} {g} out work call e eo ew = (λ i. replies t (eo i) (ew i)) ∙ ap (λ c. packed c out work) e
 
 -- by whether the job is large
-pub refused-large : {large : Bool} (r : Reply) (call : Call Numbers) → large ≡ true → r ≡ replied large r call
+pub refused_large : {large : Bool} (r : Reply) (call : Call Numbers) → large ≡ true → r ≡ replied large r call
 unfolding replied
-refused-large r call e = rw e
+refused_large r call e = rw e
 
-pub not-large : {large : Bool} {r : Reply} (u : Reply) (call : Call Numbers) → large ≡ false → r ≡ packed call u.output u.memory → r ≡ replied large u call
+pub not_large : {large : Bool} {r : Reply} (u : Reply) (call : Call Numbers) → large ≡ false → r ≡ packed call u.output u.memory → r ≡ replied large u call
 unfolding replied
-not-large u call e d = rw e d
+not_large u call e d = rw e d
 
 -- the numbers that are told, where they are stored
 pub telling : {t₁ t : Numbers} {out₁ work₁ : List ℕ} {r : Reply} → t₁ ≡ t → replies t out₁ work₁ ≡ r → replies t₁ out₁ work₁ ≡ r

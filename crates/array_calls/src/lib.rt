@@ -4,7 +4,7 @@ ghost use Rattle.general_operator.specs.Csr.{csr};
 ghost use Rattle.generator_action.specs.Mass.{given};
 ghost use Rattle.generator_action.specs.Generator.{forward};
 ghost use Rattle.combination.specs.Call.{ends};
-ghost use Rattle.le_bytes.specs.Bytes.{numbers_of, doubles-of};
+ghost use Rattle.le_bytes.specs.Bytes.{numbers_of, doubles_of};
 ghost use Rattle.byte_calls.specs.Inner.{told, called};
 ghost use Rattle.array_calls.specs.Replies.{replies, packed};
 
@@ -104,7 +104,7 @@ pub fn in_arrays(
     work: &mut [u8],
 ) -> Told
     requires { (length starts.now / 4 ≤ 512) × (length cols.now / 4 ≤ 513) × (length vals.now / 8 ≤ 512) × (length mass.now / 8 ≤ 512) × (length v.now / 8 ≤ 512) × (length out.old / 8 ≤ 512) × (length work.old / 8 ≤ 4096) }
-    ensures { replies (told call result) out.new work.new ≡ packed (called call (forward (csr n (numbers_of starts.now) (numbers_of cols.now) (doubles-of vals.now)) (given with_mass (doubles-of mass.now))) tau k (doubles-of v.now) (doubles-of out.old) (doubles-of work.old)) out.old work.old }
+    ensures { replies (told call result) out.new work.new ≡ packed (called call (forward (csr n (numbers_of starts.now) (numbers_of cols.now) (doubles_of vals.now)) (given with_mass (doubles_of mass.now))) tau k (doubles_of v.now) (doubles_of out.old) (doubles_of work.old)) out.old work.old }
 {
     let starts_array = byte_arrays::numbers_in(starts);
     let cols_array = byte_arrays::numbers_in(cols);

@@ -5,10 +5,10 @@ ghost use Rattle.doubles.specs.F64.{◌⊘◌, 1f};
 ghost use Rattle.vectors.specs.Vectors.{scale};
 ghost use Rattle.hess_rows.specs.HessProduct.{place};
 ghost use Rattle.general_operator.specs.Csr.{csr};
-ghost use Rattle.phi_action_helpers.specs.Laid.{matrix-at};
+ghost use Rattle.phi_action_helpers.specs.Laid.{matrix_at};
 ghost use Rattle.phi_action_helpers.specs.declared.Coupling.{Coupling};
-ghost use Rattle.gram_schmidt.specs.Basis.{norm2, broken, arnoldi-step};
-ghost use Rattle.gram_schmidt.specs.Memory.{setting-at, Room, Spared, column, behind, columns-at, grown-at, Within};
+ghost use Rattle.gram_schmidt.specs.Basis.{norm2, broken, arnoldi_step};
+ghost use Rattle.gram_schmidt.specs.Memory.{setting_at, Room, Spared, column, behind, columns_at, grown_at, Within};
 
 use gram_schmidt::{Grown, Krylov};
 use phi_action_helpers::{Coupling, Layout};
@@ -19,7 +19,7 @@ const BREAKDOWN: f64 = 1e-12;
 // hn is at round-off level, and the basis spans the whole space or leaving hn out stays within tol.
 fn breaks(l: Layout, k: Krylov, beta: f64, j: usize, hn: f64) -> bool
     requires { (j < k.m) × (l.n + l.d ≤ 18446744073709551615) }
-    ensures { (b : Coupling) (starts cols : List ℕ) (entries vectors : List Float) → result ≡ broken (setting-at l b k (csr l.n starts cols entries) vectors) beta j hn }
+    ensures { (b : Coupling) (starts cols : List ℕ) (entries vectors : List Float) → result ≡ broken (setting_at l b k (csr l.n starts cols entries) vectors) beta j hn }
 {
     if hn <= BREAKDOWN * float::max(k.anorm, 1.0) {
         if j + 1 == l.n + l.d {
@@ -58,9 +58,9 @@ pub fn grow(
     j: usize,
     applied: usize,
 ) -> Grown
-    requires room { Room l b k (matrix-at l starts.now cols.now vals.now work.old) (length vals.now) (length vectors.now) (length work.old) }
+    requires room { Room l b k (matrix_at l starts.now cols.now vals.now work.old) (length vals.now) (length vectors.now) (length work.old) }
     requires j_lt_m { (j < k.m) × (applied ≤ j) }
-    ensures work_after { grown-at l k (j + 1) result work.new ≡ arnoldi-step (setting-at l b k (matrix-at l starts.now cols.now vals.now work.old) vectors.now) beta j (columns-at l k (j + 1) applied work.old) }
+    ensures work_after { grown_at l k (j + 1) result work.new ≡ arnoldi_step (setting_at l b k (matrix_at l starts.now cols.now vals.now work.old) vectors.now) beta j (columns_at l k (j + 1) applied work.old) }
     ensures within { Within (j + 1) result × Spared l k work.old work.new }
 {
     let z = l.w;

@@ -11,8 +11,8 @@ use Rattle.doubles.specs.F64.{nat}
 use Rattle.checks.specs.First.{Check, refuse, first, before}
 use Rattle.checks.specs.declared.Checked.{Checked}
 use Rattle.checks.specs.declared.Checked.TheVariants.{Sound, Refused}
-use Rattle.checks.proofs.First.{and_then, first-cons, first-append, stops, not-ne}
-use Rattle.checks.proofs.Numbers.{before-number}
+use Rattle.checks.proofs.First.{and_then, first_cons, first_append, stops, not_ne}
+use Rattle.checks.proofs.Numbers.{before_number}
 
 -- both refuse; where the number is k, the first reports x
 pub record Alike (k : ℕ) (x : Float) (c d : Checked) : Type 0 where
@@ -32,9 +32,9 @@ module _ {k : ℕ} {x : Float} where
       record { number = k; reported = y; here = sym (stops cs e₁ refl) ∙ ap (λ (b : Bool). Refused k (cond b x y)) (sym (eq-eqb k k refl)); there = sym (stops ds e₂ refl) }
 
   -- whatever stands behind two lists that refuse alike
-  pub in-front : (ps qs cs ds : List Check) → Alike k x (first ps) (first qs) → Alike k x (first (ps ++ cs)) (first (qs ++ ds))
+  pub in_front : (ps qs cs ds : List Check) → Alike k x (first ps) (first qs) → Alike k x (first (ps ++ cs)) (first (qs ++ ds))
   unfolding and_then
-  in-front ps qs cs ds a = record { number = a.number; reported = a.reported; here = rw (first-append ps cs, a.here); there = rw (first-append qs ds, a.there) }
+  in_front ps qs cs ds a = record { number = a.number; reported = a.reported; here = rw (first_append ps cs, a.here); there = rw (first_append qs ds, a.there) }
 
   -- behind checks of other numbers
   pub behind : (ps cs ds : List Check) → before k ps ≡ ps → Alike k x (first cs) (first ds) → Alike k x (first (ps ++ cs)) (first (ps ++ ds))
@@ -42,8 +42,8 @@ module _ {k : ℕ} {x : Float} where
   behind ps cs ds none a = go (first ps) refl
     where
       go : (r : Checked) → r ≡ first ps → Alike k x (first (ps ++ cs)) (first (ps ++ ds))
-      go Sound e = rw (first-append ps cs, first-append ps ds, ← e) a
-      go (Refused j y) e = same j y (before-number k ps (e ∙ ap first (sym none))) (rw (first-append ps cs, ← e)) (rw (first-append ps ds, ← e))
+      go Sound e = rw (first_append ps cs, first_append ps ds, ← e) a
+      go (Refused j y) e = same j y (before_number k ps (e ∙ ap first (sym none))) (rw (first_append ps cs, ← e)) (rw (first_append ps ds, ← e))
 
   -- behind one check of another number, which then fails
   pub past : (c : Check) (cs ds : List Check) → (c.number ≡ k → ⊥) → (c.holds ≡ false → Alike k x (first cs) (first ds)) → Alike k x (first (c ∷ cs)) (first (c ∷ ds))
@@ -51,15 +51,15 @@ module _ {k : ℕ} {x : Float} where
     where
       go : (b : Bool) → c.holds ≡ b → Alike k x (first (c ∷ cs)) (first (c ∷ ds))
       go true e = same c.number c.reported other (sym (stops cs e refl)) (sym (stops ds e refl))
-      go false e = rw (first-cons c.number c.holds c.reported cs, first-cons c.number c.holds c.reported ds, e) (h e)
+      go false e = rw (first_cons c.number c.holds c.reported cs, first_cons c.number c.holds c.reported ds, e) (h e)
 
 -- two lengths that are refused by number k: neither is the one wanted, unless the check `limit` before it refuses
 module _ (k : ℕ) (ps : List Check) (limit : Check) (qs : List Check) (len₁ len₂ wanted : ℕ) (cs ds : List Check) where
   abbrev wrong : ℕ → Check
   wrong len = refuse k (not (eqb len wanted)) (nat len)
 
-  pub wrong-lengths : before k ps ≡ ps → (limit.number ≡ k → ⊥) → before k qs ≡ qs → (limit.holds ≡ false → wanted ≤ 256) → 256 < len₁ → 256 < len₂ → Alike k (nat len₁) (first (ps ++ (limit ∷ (qs ++ (wrong len₁ ∷ cs))))) (first (ps ++ (limit ∷ (qs ++ (wrong len₂ ∷ ds)))))
-  wrong-lengths np nl nq few l₁ l₂ =
+  pub wrong_lengths : before k ps ≡ ps → (limit.number ≡ k → ⊥) → before k qs ≡ qs → (limit.holds ≡ false → wanted ≤ 256) → 256 < len₁ → 256 < len₂ → Alike k (nat len₁) (first (ps ++ (limit ∷ (qs ++ (wrong len₁ ∷ cs))))) (first (ps ++ (limit ∷ (qs ++ (wrong len₂ ∷ ds)))))
+  wrong_lengths np nl nq few l₁ l₂ =
       behind ps (limit ∷ (qs ++ (wrong len₁ ∷ cs))) (limit ∷ (qs ++ (wrong len₂ ∷ ds))) np
       (past limit (qs ++ (wrong len₁ ∷ cs)) (qs ++ (wrong len₂ ∷ ds)) nl
-      (λ e. behind qs (wrong len₁ ∷ cs) (wrong len₂ ∷ ds) nq (stopped (nat len₂) cs ds (not-ne {a = len₁} {b = wanted} (λ q. absurd (omega (arith, few e, l₁, q)))) (not-ne {a = len₂} {b = wanted} (λ q. absurd (omega (arith, few e, l₂, q)))))))
+      (λ e. behind qs (wrong len₁ ∷ cs) (wrong len₂ ∷ ds) nq (stopped (nat len₂) cs ds (not_ne {a = len₁} {b = wanted} (λ q. absurd (omega (arith, few e, l₁, q)))) (not_ne {a = len₂} {b = wanted} (λ q. absurd (omega (arith, few e, l₂, q)))))))

@@ -15,37 +15,37 @@ use Rattle.doubles.specs.F64.{nat}
 use Rattle.checks.specs.First.{Check, refuse, first, before}
 use Rattle.checks.specs.declared.Checked.{Checked}
 use Rattle.checks.specs.declared.Checked.TheVariants.{Sound, Refused}
-use Rattle.checks.proofs.First.{and_then, first-append, refused-up}
-use Rattle.checks.proofs.Numbers.{before-append}
+use Rattle.checks.proofs.First.{and_then, first_append, refused_up}
+use Rattle.checks.proofs.Numbers.{before_append}
 use Rattle.generator_action.specs.Mass.{Mass, given}
-use Rattle.byte_arrays.specs.Inner.{long-told, lengths-told}
-use Rattle.byte_arrays.proofs.Alike.{Alike, in-front, behind, wrong-lengths}
+use Rattle.byte_arrays.specs.Inner.{long_told, lengths_told}
+use Rattle.byte_arrays.proofs.Alike.{Alike, in_front, behind, wrong_lengths}
 use Rattle.byte_arrays.proofs.Parts.{Part, Columns}
 
 -- ---- an answer, with the double of number k where a list of c elements was cut
 unfoldable pub again : ℕ → ℕ → Checked → Checked
 again k c Sound = Sound
-again k c (Refused j x) = Refused j (long-told k c j x)
+again k c (Refused j x) = Refused j (long_told k c j x)
 
-pub long-few : (k c j : ℕ) (x : Float) → c ≤ 512 → long-told k c j x ≡ x
-unfolding long-told
-long-few k c j x few = rw (le-ltb 512 c few)
+pub long_few : (k c j : ℕ) (x : Float) → c ≤ 512 → long_told k c j x ≡ x
+unfolding long_told
+long_few k c j x few = rw (le-ltb 512 c few)
 
-again-few : (k c : ℕ) (y : Checked) → c ≤ 512 → y ≡ again k c y
+again_few : (k c : ℕ) (y : Checked) → c ≤ 512 → y ≡ again k c y
 unfolding again
-again-few k c Sound few = refl
-again-few k c (Refused j x) few = ap (Refused j) (sym (long-few k c j x few))
+again_few k c Sound few = refl
+again_few k c (Refused j x) few = ap (Refused j) (sym (long_few k c j x few))
 
-again-alike : {k c : ℕ} {x y : Checked} → 512 < c → Alike k (nat c) x y → x ≡ again k c y
-unfolding again long-told
-again-alike {k} {c} {x} {y} l α = α.here ∙ h ∙ ap (again k c) (sym α.there)
+again_alike : {k c : ℕ} {x y : Checked} → 512 < c → Alike k (nat c) x y → x ≡ again k c y
+unfolding again long_told
+again_alike {k} {c} {x} {y} l α = α.here ∙ h ∙ ap (again k c) (sym α.there)
   where
     h : Refused α.number (cond (eqb α.number k) (nat c) α.reported) ≡ again k c (Refused α.number α.reported)
     h = rw (lt-ltb 512 c l) refl
 
-again-sound : (k c : ℕ) {x y : Checked} → x ≡ again k c y → y ≡ Sound → x ≡ Sound
+again_sound : (k c : ℕ) {x y : Checked} → x ≡ again k c y → y ≡ Sound → x ≡ Sound
 unfolding again
-again-sound k c e s = e ∙ ap (again k c) s
+again_sound k c e s = e ∙ ap (again k c) s
 
 pub not_sound : {A : Type 0} {j : ℕ} {x : Float} → Refused j x ≡ Sound → A
 not_sound e = let z : zero ≡ 1 = cc in absurd (omega (arith, z))
@@ -56,8 +56,8 @@ pub record Step (k c : ℕ) (x y : Checked) (Same : Type 0) : Type 0 where
   pub same : y ≡ Sound → Same × (c ≤ 512)
 
 by_part : {A : Type 0} (k c : ℕ) {l p : List A} (f : List A → Checked) → (512 < c → length l ≡ c → 512 ≤ length p → Alike k (nat c) (f l) (f p)) → Part c l p → Step k c (f l) (f p) (p ≡ l)
-by_part k c {p = p} f h (inl (e, few)) = record { told = ap f (sym e) ∙ again-few k c (f p) few; same = λ s. (e, few) }
-by_part k c f h (inr (l, e, m)) = let α = h l e m in record { told = again-alike l α; same = λ s. not_sound (sym α.there ∙ s) }
+by_part k c {p = p} f h (inl (e, few)) = record { told = ap f (sym e) ∙ again_few k c (f p) few; same = λ s. (e, few) }
+by_part k c f h (inr (l, e, m)) = let α = h l e m in record { told = again_alike l α; same = λ s. not_sound (sym α.there ∙ s) }
 
 recount : {k len c : ℕ} {x y : Checked} → len ≡ c → Alike k (nat len) x y → Alike k (nat c) x y
 recount {k} {x = x} {y = y} e α = subst (λ (i : ℕ). Alike k (nat i) x y) e α
@@ -69,15 +69,15 @@ pub record Both (x y : Checked) : Type 0 where
   pub here : x ≡ Refused number reported
   pub there : y ≡ Refused number reported
 
-pub both-on : (xs ys cs ds : List Check) → Both (first xs) (first ys) → Both (first (xs ++ cs)) (first (ys ++ ds))
-both-on xs ys cs ds β = record { number = β.number; reported = β.reported; here = sym (refused-up xs cs refl (sym β.here)); there = sym (refused-up ys ds refl (sym β.there)) }
+pub both_on : (xs ys cs ds : List Check) → Both (first xs) (first ys) → Both (first (xs ++ cs)) (first (ys ++ ds))
+both_on xs ys cs ds β = record { number = β.number; reported = β.reported; here = sym (refused_up xs cs refl (sym β.here)); there = sym (refused_up ys ds refl (sym β.there)) }
 
-both-in : (ps xs ys cs ds : List Check) → Both (first xs) (first ys) → (first (ps ++ (xs ++ cs)) ≡ first (ps ++ (ys ++ ds))) × (first (ps ++ (ys ++ ds)) ≡ Sound → ⊥)
+both_in : (ps xs ys cs ds : List Check) → Both (first xs) (first ys) → (first (ps ++ (xs ++ cs)) ≡ first (ps ++ (ys ++ ds))) × (first (ps ++ (ys ++ ds)) ≡ Sound → ⊥)
 unfolding and_then
-both-in ps xs ys cs ds β = (e xs cs β.here ∙ sym (e ys ds β.there), λ s. never (first ps) (sym (e ys ds β.there) ∙ s))
+both_in ps xs ys cs ds β = (e xs cs β.here ∙ sym (e ys ds β.there), λ s. never (first ps) (sym (e ys ds β.there) ∙ s))
   where
     e : (zs rs : List Check) → first zs ≡ Refused β.number β.reported → first (ps ++ (zs ++ rs)) ≡ and_then (first ps) (Refused β.number β.reported)
-    e zs rs d = first-append ps (zs ++ rs) ∙ ap (and_then (first ps)) (first-append zs rs ∙ ap (λ (r : Checked). and_then r (first rs)) d)
+    e zs rs d = first_append ps (zs ++ rs) ∙ ap (and_then (first ps)) (first_append zs rs ∙ ap (λ (r : Checked). and_then r (first rs)) d)
 
     never : (r : Checked) → and_then r (Refused β.number β.reported) ≡ Sound → ⊥
     never Sound s = not_sound s
@@ -85,21 +85,21 @@ both-in ps xs ys cs ds β = (e xs cs β.here ∙ sym (e ys ds β.there), λ s. n
 
 -- ---- the checks of a matrix, by its row starts, columns and mass: too long lists are refused alike, and none of the checks is numbered 15 or 16
 pub record Refuses (entries : ℕ) (G : List ℕ → List ℕ → Mass → List Check) : Type 0 where
-  pub long-starts : (s t cols : List ℕ) (mass : Mass) → 512 < length s → 512 ≤ length t → Alike 1 (nat (length s)) (first (G s cols mass)) (first (G t cols mass))
-  pub long-mass : (s cols : List ℕ) (m p : List Float) → 512 < length m → 512 ≤ length p → Alike 7 (nat (length m)) (first (G s cols (some m))) (first (G s cols (some p)))
-  pub other-columns : (s cols other : List ℕ) (mass : Mass) → (length cols ≡ entries → ⊥) → (length other ≡ entries → ⊥) → Both (first (G s cols mass)) (first (G s other mass))
-  pub not-15 : (s cols : List ℕ) (mass : Mass) → before 15 (G s cols mass) ≡ G s cols mass
+  pub long_starts : (s t cols : List ℕ) (mass : Mass) → 512 < length s → 512 ≤ length t → Alike 1 (nat (length s)) (first (G s cols mass)) (first (G t cols mass))
+  pub long_mass : (s cols : List ℕ) (m p : List Float) → 512 < length m → 512 ≤ length p → Alike 7 (nat (length m)) (first (G s cols (some m))) (first (G s cols (some p)))
+  pub other_columns : (s cols other : List ℕ) (mass : Mass) → (length cols ≡ entries → ⊥) → (length other ≡ entries → ⊥) → Both (first (G s cols mass)) (first (G s other mass))
+  pub not_15 : (s cols : List ℕ) (mass : Mass) → before 15 (G s cols mass) ≡ G s cols mass
   pub not_16 : (s cols : List ℕ) (mass : Mass) → before 16 (G s cols mass) ≡ G s cols mass
 
 -- with more checks behind
-pub refuses-on : {entries : ℕ} {G : List ℕ → List ℕ → Mass → List Check} → Refuses entries G → (H : List ℕ → List ℕ → Mass → List Check) → ((s cols : List ℕ) (mass : Mass) → before 15 (H s cols mass) ≡ H s cols mass) → ((s cols : List ℕ) (mass : Mass) → before 16 (H s cols mass) ≡ H s cols mass) → Refuses entries (λ s cols mass. G s cols mass ++ H s cols mass)
-refuses-on {G = G} R H h h' =
+pub refuses_on : {entries : ℕ} {G : List ℕ → List ℕ → Mass → List Check} → Refuses entries G → (H : List ℕ → List ℕ → Mass → List Check) → ((s cols : List ℕ) (mass : Mass) → before 15 (H s cols mass) ≡ H s cols mass) → ((s cols : List ℕ) (mass : Mass) → before 16 (H s cols mass) ≡ H s cols mass) → Refuses entries (λ s cols mass. G s cols mass ++ H s cols mass)
+refuses_on {G = G} R H h h' =
     record {
-      long-starts = λ s t cols mass ls lt. in-front _ _ _ _ (R.long-starts s t cols mass ls lt);
-      long-mass = λ s cols m p lm lp. in-front _ _ _ _ (R.long-mass s cols m p lm lp);
-      other-columns = λ s cols other mass d d'. both-on _ _ _ _ (R.other-columns s cols other mass d d');
-      not-15 = λ s cols mass. before-append 15 (G s cols mass) (H s cols mass) (R.not-15 s cols mass) ∙ ap (λ r. G s cols mass ++ r) (h s cols mass);
-      not_16 = λ s cols mass. before-append 16 (G s cols mass) (H s cols mass) (R.not_16 s cols mass) ∙ ap (λ r. G s cols mass ++ r) (h' s cols mass);
+      long_starts = λ s t cols mass ls lt. in_front _ _ _ _ (R.long_starts s t cols mass ls lt);
+      long_mass = λ s cols m p lm lp. in_front _ _ _ _ (R.long_mass s cols m p lm lp);
+      other_columns = λ s cols other mass d d'. both_on _ _ _ _ (R.other_columns s cols other mass d d');
+      not_15 = λ s cols mass. before_append 15 (G s cols mass) (H s cols mass) (R.not_15 s cols mass) ∙ ap (λ r. G s cols mass ++ r) (h s cols mass);
+      not_16 = λ s cols mass. before_append 16 (G s cols mass) (H s cols mass) (R.not_16 s cols mass) ∙ ap (λ r. G s cols mass ++ r) (h' s cols mass);
     }
 
 -- nothing of a matrix was cut
@@ -107,37 +107,37 @@ abbrev pub Uncut : List ℕ → List ℕ → List ℕ → List ℕ → Mass → 
 Uncut s s₁ cols cols₁ mass mass₁ cs cm = (s₁ ≡ s) × (cols₁ ≡ cols) × (mass₁ ≡ mass) × (cs ≤ 512) × (cm ≤ 512)
 
 -- ---- between checks ps in front and checks J behind
-module _ (entries : ℕ) (few : entries ≤ 512) (G : List ℕ → List ℕ → Mass → List Check) (R : Refuses entries G) (ps : List Check) (free-1 : before 1 ps ≡ ps) (free-7 : before 7 ps ≡ ps) (J : List ℕ → List ℕ → Mass → List Check) where
+module _ (entries : ℕ) (few : entries ≤ 512) (G : List ℕ → List ℕ → Mass → List Check) (R : Refuses entries G) (ps : List Check) (free_1 : before 1 ps ≡ ps) (free_7 : before 7 ps ≡ ps) (J : List ℕ → List ℕ → Mass → List Check) where
   abbrev pub answers : List ℕ → List ℕ → Mass → Checked
   answers s cols mass = first (ps ++ (G s cols mass ++ J s cols mass))
 
-  part-starts : {c : ℕ} {s p : List ℕ} (cols : List ℕ) (mass : Mass) → Part c s p → Step 1 c (answers s cols mass) (answers p cols mass) (p ≡ s)
-  part-starts {c} {s} {p} cols mass =
+  part_starts : {c : ℕ} {s p : List ℕ} (cols : List ℕ) (mass : Mass) → Part c s p → Step 1 c (answers s cols mass) (answers p cols mass) (p ≡ s)
+  part_starts {c} {s} {p} cols mass =
       by_part 1 c (λ l. answers l cols mass)
-      (λ l e m. recount e (behind ps _ _ free-1 (in-front _ _ _ _ (R.long-starts s p cols mass (omega (arith, l, e)) m))))
+      (λ l e m. recount e (behind ps _ _ free_1 (in_front _ _ _ _ (R.long_starts s p cols mass (omega (arith, l, e)) m))))
 
-  part-mass : {c : ℕ} {m p : List Float} (s cols : List ℕ) (b : Bool) → (b ≡ true → Part c m p) → (b ≡ false → c ≤ 512) → Step 7 c (answers s cols (given b m)) (answers s cols (given b p)) (given b p ≡ given b m)
-  part-mass {c} {m} {p} s cols true h h' =
-      let t = by_part 7 c (λ l. answers s cols (some l)) (λ l e i. recount e (behind ps _ _ free-7 (in-front _ _ _ _ (R.long-mass s cols m p (omega (arith, l, e)) i)))) (h refl) in
+  part_mass : {c : ℕ} {m p : List Float} (s cols : List ℕ) (b : Bool) → (b ≡ true → Part c m p) → (b ≡ false → c ≤ 512) → Step 7 c (answers s cols (given b m)) (answers s cols (given b p)) (given b p ≡ given b m)
+  part_mass {c} {m} {p} s cols true h h' =
+      let t = by_part 7 c (λ l. answers s cols (some l)) (λ l e i. recount e (behind ps _ _ free_7 (in_front _ _ _ _ (R.long_mass s cols m p (omega (arith, l, e)) i)))) (h refl) in
       record { told = t.told; same = λ z. (ap some (t.same z).0, (t.same z).1) }
-  part-mass {c} s cols false h h' = record { told = again-few 7 c (answers s cols none) (h' refl); same = λ z. (refl, h' refl) }
+  part_mass {c} s cols false h h' = record { told = again_few 7 c (answers s cols none) (h' refl); same = λ z. (refl, h' refl) }
 
-  part-columns : {cols other : List ℕ} (s : List ℕ) (mass : Mass) → Columns cols other → (answers s cols mass ≡ answers s other mass) × (answers s other mass ≡ Sound → other ≡ cols)
-  part-columns s mass (inl e) = (ap (λ l. answers s l mass) (sym e), λ z. e)
-  part-columns {cols} {other} s mass (inr (l, m)) =
-      let t = both-in ps (G s cols mass) (G s other mass) (J s cols mass) (J s other mass) (R.other-columns s cols other mass (λ q. omega (arith, q, few, l)) (λ q. omega (arith, q, few, m))) in
+  part_columns : {cols other : List ℕ} (s : List ℕ) (mass : Mass) → Columns cols other → (answers s cols mass ≡ answers s other mass) × (answers s other mass ≡ Sound → other ≡ cols)
+  part_columns s mass (inl e) = (ap (λ l. answers s l mass) (sym e), λ z. e)
+  part_columns {cols} {other} s mass (inr (l, m)) =
+      let t = both_in ps (G s cols mass) (G s other mass) (J s cols mass) (J s other mass) (R.other_columns s cols other mass (λ q. omega (arith, q, few, l)) (λ q. omega (arith, q, few, m))) in
       (t.0, λ z. absurd (t.1 z))
 
-  pub matrix-cut : {cs cm : ℕ} {s s₁ cols cols₁ : List ℕ} {m m₁ : List Float} (b : Bool) → Part cs s s₁ → Columns cols cols₁ → (b ≡ true → Part cm m m₁) → (b ≡ false → cm ≤ 512)
+  pub matrix_cut : {cs cm : ℕ} {s s₁ cols cols₁ : List ℕ} {m m₁ : List Float} (b : Bool) → Part cs s s₁ → Columns cols cols₁ → (b ≡ true → Part cm m m₁) → (b ≡ false → cm ≤ 512)
       → (answers s cols (given b m) ≡ again 7 cm (again 1 cs (answers s₁ cols₁ (given b m₁)))) × (answers s₁ cols₁ (given b m₁) ≡ Sound → Uncut s s₁ cols cols₁ (given b m) (given b m₁) cs cm)
-  matrix-cut {cs} {cm} {s} {s₁} {cols} {cols₁} {m} {m₁} b hs hc hm hm' =
-      let u = part-mass {c = cm} {m = m} {p = m₁} s cols b hm hm' in
-      let v = part-starts cols (given b m₁) hs in
-      let w = part-columns s₁ (given b m₁) hc in (
+  matrix_cut {cs} {cm} {s} {s₁} {cols} {cols₁} {m} {m₁} b hs hc hm hm' =
+      let u = part_mass {c = cm} {m = m} {p = m₁} s cols b hm hm' in
+      let v = part_starts cols (given b m₁) hs in
+      let w = part_columns s₁ (given b m₁) hc in (
         u.told ∙ ap (again 7 cm) (v.told ∙ ap (again 1 cs) w.0),
         λ z.
             let z₁ = w.0 ∙ z in
-            let z₂ = again-sound 1 cs v.told z₁ in
+            let z₂ = again_sound 1 cs v.told z₁ in
             ((v.same z₁).0, w.1 z, (u.same z₂).0, (v.same z₁).1, (u.same z₂).1),
       )
 
@@ -149,70 +149,70 @@ pub record Recut (cs cm co cv : ℕ) (x y : Checked) (Same : Type 0) : Type 0 wh
   pub told : x ≡ retold cs cm co cv y
   pub same : y ≡ Sound → Same × (co ≤ 512) × (cv ≤ 512)
 
-pub retold-refused : (cs cm co cv j : ℕ) (x : Float) → retold cs cm co cv (Refused j x) ≡ Refused j (lengths-told cs cm co cv j x)
+pub retold_refused : (cs cm co cv j : ℕ) (x : Float) → retold cs cm co cv (Refused j x) ≡ Refused j (lengths_told cs cm co cv j x)
 unfolding again
-retold-refused cs cm co cv j x = refl
+retold_refused cs cm co cv j x = refl
 
 -- where nothing was cut, the double stays
-pub few-told : (cs cm co cv j : ℕ) (x : Float) → cs ≤ 512 → cm ≤ 512 → co ≤ 512 → cv ≤ 512 → lengths-told cs cm co cv j x ≡ x
-few-told cs cm co cv j x ls lm lo lv =
-    ap (λ (y : Float). long-told 16 cv j (long-told 15 co j (long-told 7 cm j y))) (long-few 1 cs j x ls)
-    ∙ ap (λ (y : Float). long-told 16 cv j (long-told 15 co j y)) (long-few 7 cm j x lm)
-    ∙ ap (long-told 16 cv j) (long-few 15 co j x lo)
-    ∙ long-few 16 cv j x lv
+pub few_told : (cs cm co cv j : ℕ) (x : Float) → cs ≤ 512 → cm ≤ 512 → co ≤ 512 → cv ≤ 512 → lengths_told cs cm co cv j x ≡ x
+few_told cs cm co cv j x ls lm lo lv =
+    ap (λ (y : Float). long_told 16 cv j (long_told 15 co j (long_told 7 cm j y))) (long_few 1 cs j x ls)
+    ∙ ap (λ (y : Float). long_told 16 cv j (long_told 15 co j y)) (long_few 7 cm j x lm)
+    ∙ ap (long_told 16 cv j) (long_few 15 co j x lo)
+    ∙ long_few 16 cv j x lv
 
 -- ---- a job: a limit, checks `times`, 15 and 16, and others
 module _ (entries : ℕ) (few : entries ≤ 512) (G : List ℕ → List ℕ → Mass → List Check) (R : Refuses entries G) (ps : List Check) (free : (before 1 ps ≡ ps) × (before 7 ps ≡ ps) × (before 15 ps ≡ ps) × (before 16 ps ≡ ps))
-    (limit : Check) (low : limit.number ≤ 13) (times : List Check) (not-15 : before 15 times ≡ times) (not_16 : (c : Check) → before 16 (times ++ (refuse 15 c.holds c.reported ∷ [])) ≡ times ++ (refuse 15 c.holds c.reported ∷ []))
-    (wanted expected : List ℕ → List ℕ → Mass → ℕ) (few-wanted : (s cols : List ℕ) (mass : Mass) → limit.holds ≡ false → wanted s cols mass ≤ 256) (few-expected : (s cols : List ℕ) (mass : Mass) → limit.holds ≡ false → expected s cols mass ≤ 256)
+    (limit : Check) (low : limit.number ≤ 13) (times : List Check) (not_15 : before 15 times ≡ times) (not_16 : (c : Check) → before 16 (times ++ (refuse 15 c.holds c.reported ∷ [])) ≡ times ++ (refuse 15 c.holds c.reported ∷ []))
+    (wanted expected : List ℕ → List ℕ → Mass → ℕ) (few_wanted : (s cols : List ℕ) (mass : Mass) → limit.holds ≡ false → wanted s cols mass ≤ 256) (few_expected : (s cols : List ℕ) (mass : Mass) → limit.holds ≡ false → expected s cols mass ≤ 256)
     (others : List ℕ → List ℕ → Mass → List Float → List Check) where
-  abbrev of-job : ℕ → List Float → List ℕ → List ℕ → Mass → List Check
-  of-job o v s cols mass =
+  abbrev of_job : ℕ → List Float → List ℕ → List ℕ → Mass → List Check
+  of_job o v s cols mass =
       limit ∷ (times ++ (refuse 15 (not (eqb o (wanted s cols mass))) (nat o) ∷ refuse 16 (not (eqb (length v) (expected s cols mass))) (nat (length v)) ∷ others s cols mass v))
 
-  abbrev pub job-answers : List ℕ → List ℕ → Mass → List Float → ℕ → Checked
-  job-answers s cols mass v o = first (ps ++ (G s cols mass ++ of-job o v s cols mass))
+  abbrev pub job_answers : List ℕ → List ℕ → Mass → List Float → ℕ → Checked
+  job_answers s cols mass v o = first (ps ++ (G s cols mass ++ of_job o v s cols mass))
 
-  alike-output : (s cols : List ℕ) (mass : Mass) (v : List Float) (o p : ℕ) → 512 < o → 512 ≤ p → Alike 15 (nat o) (job-answers s cols mass v o) (job-answers s cols mass v p)
-  alike-output s cols mass v o p lo lp =
+  alike_output : (s cols : List ℕ) (mass : Mass) (v : List Float) (o p : ℕ) → 512 < o → 512 ≤ p → Alike 15 (nat o) (job_answers s cols mass v o) (job_answers s cols mass v p)
+  alike_output s cols mass v o p lo lp =
       behind ps _ _ free.2
-      (wrong-lengths 15 (G s cols mass) limit times o p (wanted s cols mass) _ _ (R.not-15 s cols mass) (λ e. omega (arith, low, e)) not-15 (few-wanted s cols mass) (omega (arith, lo)) (omega (arith, lp)))
+      (wrong_lengths 15 (G s cols mass) limit times o p (wanted s cols mass) _ _ (R.not_15 s cols mass) (λ e. omega (arith, low, e)) not_15 (few_wanted s cols mass) (omega (arith, lo)) (omega (arith, lp)))
 
   abbrev of_output : List ℕ → List ℕ → Mass → ℕ → Check
   of_output s cols mass o = refuse 15 (not (eqb o (wanted s cols mass))) (nat o)
 
-  abbrev of-vectors : List ℕ → List ℕ → Mass → List Float → List Check
-  of-vectors s cols mass v = refuse 16 (not (eqb (length v) (expected s cols mass))) (nat (length v)) ∷ others s cols mass v
+  abbrev of_vectors : List ℕ → List ℕ → Mass → List Float → List Check
+  of_vectors s cols mass v = refuse 16 (not (eqb (length v) (expected s cols mass))) (nat (length v)) ∷ others s cols mass v
 
-  alike-vectors : (s cols : List ℕ) (mass : Mass) (v p : List Float) (o : ℕ) → 512 < length v → 512 ≤ length p → Alike 16 (nat (length v)) (job-answers s cols mass v o) (job-answers s cols mass p o)
-  alike-vectors s cols mass v p o lv lp =
+  alike_vectors : (s cols : List ℕ) (mass : Mass) (v p : List Float) (o : ℕ) → 512 < length v → 512 ≤ length p → Alike 16 (nat (length v)) (job_answers s cols mass v o) (job_answers s cols mass p o)
+  alike_vectors s cols mass v p o lv lp =
       behind ps _ _ free.3
-      (rw (lengths-on times (of_output s cols mass o) (of-vectors s cols mass v), lengths-on times (of_output s cols mass o) (of-vectors s cols mass p))
-      (wrong-lengths 16 (G s cols mass) limit (times ++ (of_output s cols mass o ∷ [])) (length v) (length p) (expected s cols mass) _ _ (R.not_16 s cols mass) (λ e. omega (arith, low, e)) (not_16 (of_output s cols mass o)) (few-expected s cols mass) (omega (arith, lv)) (omega (arith, lp))))
+      (rw (lengths_on times (of_output s cols mass o) (of_vectors s cols mass v), lengths_on times (of_output s cols mass o) (of_vectors s cols mass p))
+      (wrong_lengths 16 (G s cols mass) limit (times ++ (of_output s cols mass o ∷ [])) (length v) (length p) (expected s cols mass) _ _ (R.not_16 s cols mass) (λ e. omega (arith, low, e)) (not_16 (of_output s cols mass o)) (few_expected s cols mass) (omega (arith, lv)) (omega (arith, lp))))
     where
-      lengths-on : (ts : List Check) (c : Check) (rest : List Check) → ts ++ (c ∷ rest) ≡ (ts ++ (c ∷ [])) ++ rest
-      lengths-on ts c rest = sym (append_assoc ts (c ∷ []) rest)
+      lengths_on : (ts : List Check) (c : Check) (rest : List Check) → ts ++ (c ∷ rest) ≡ (ts ++ (c ∷ [])) ++ rest
+      lengths_on ts c rest = sym (append_assoc ts (c ∷ []) rest)
 
-  part-vectors : {c : ℕ} {v p : List Float} (s cols : List ℕ) (mass : Mass) (o : ℕ) → Part c v p → Step 16 c (job-answers s cols mass v o) (job-answers s cols mass p o) (p ≡ v)
-  part-vectors {c} {v} {p} s cols mass o = by_part 16 c (λ l. job-answers s cols mass l o) (λ l e m. recount e (alike-vectors s cols mass v p o (omega (arith, l, e)) m))
+  part_vectors : {c : ℕ} {v p : List Float} (s cols : List ℕ) (mass : Mass) (o : ℕ) → Part c v p → Step 16 c (job_answers s cols mass v o) (job_answers s cols mass p o) (p ≡ v)
+  part_vectors {c} {v} {p} s cols mass o = by_part 16 c (λ l. job_answers s cols mass l o) (λ l e m. recount e (alike_vectors s cols mass v p o (omega (arith, l, e)) m))
 
-  part-output : {c : ℕ} {o p : List Float} (s cols : List ℕ) (mass : Mass) (v : List Float) → Part c o p → Step 15 c (job-answers s cols mass v (length o)) (job-answers s cols mass v (length p)) (p ≡ o)
-  part-output {c} {o} {p} s cols mass v = by_part 15 c (λ l. job-answers s cols mass v (length l)) (λ l e m. recount e (alike-output s cols mass v (length o) (length p) (omega (arith, l, e)) m))
+  part_output : {c : ℕ} {o p : List Float} (s cols : List ℕ) (mass : Mass) (v : List Float) → Part c o p → Step 15 c (job_answers s cols mass v (length o)) (job_answers s cols mass v (length p)) (p ≡ o)
+  part_output {c} {o} {p} s cols mass v = by_part 15 c (λ l. job_answers s cols mass v (length l)) (λ l e m. recount e (alike_output s cols mass v (length o) (length p) (omega (arith, l, e)) m))
 
-  pub job-cut : {cs cm co cv : ℕ} {s s₁ cols cols₁ : List ℕ} {m m₁ v v₁ o o₁ : List Float} (b : Bool) → Part cs s s₁ → Columns cols cols₁ → (b ≡ true → Part cm m m₁) → (b ≡ false → cm ≤ 512) → Part co o o₁ → Part cv v v₁
-      → Recut cs cm co cv (job-answers s cols (given b m) v (length o)) (job-answers s₁ cols₁ (given b m₁) v₁ (length o₁)) (Uncut s s₁ cols cols₁ (given b m) (given b m₁) cs cm × (v₁ ≡ v))
-  job-cut {cs} {cm} {co} {cv} {s} {s₁} {cols} {cols₁} {m} {m₁} {v} {v₁} {o} {o₁} b hs hc hm hm' ho hv =
-      let x = part-vectors s cols (given b m) (length o) hv in
-      let y = part-output s cols (given b m) v₁ ho in
-      let z = matrix-cut entries few G R ps free.0 free.1 (of-job (length o₁) v₁) b hs hc hm hm' in
+  pub job_cut : {cs cm co cv : ℕ} {s s₁ cols cols₁ : List ℕ} {m m₁ v v₁ o o₁ : List Float} (b : Bool) → Part cs s s₁ → Columns cols cols₁ → (b ≡ true → Part cm m m₁) → (b ≡ false → cm ≤ 512) → Part co o o₁ → Part cv v v₁
+      → Recut cs cm co cv (job_answers s cols (given b m) v (length o)) (job_answers s₁ cols₁ (given b m₁) v₁ (length o₁)) (Uncut s s₁ cols cols₁ (given b m) (given b m₁) cs cm × (v₁ ≡ v))
+  job_cut {cs} {cm} {co} {cv} {s} {s₁} {cols} {cols₁} {m} {m₁} {v} {v₁} {o} {o₁} b hs hc hm hm' ho hv =
+      let x = part_vectors s cols (given b m) (length o) hv in
+      let y = part_output s cols (given b m) v₁ ho in
+      let z = matrix_cut entries few G R ps free.0 free.1 (of_job (length o₁) v₁) b hs hc hm hm' in
       record {
         told = x.told ∙ ap (again 16 cv) (y.told ∙ ap (again 15 co) z.0);
         same =
             λ e.
-            let e₁ : job-answers s cols (given b m) v₁ (length o₁) ≡ Sound = z.0 ∙ again-sounds e in
-            let e₂ = again-sound 15 co y.told e₁ in
+            let e₁ : job_answers s cols (given b m) v₁ (length o₁) ≡ Sound = z.0 ∙ again_sounds e in
+            let e₂ = again_sound 15 co y.told e₁ in
             ((z.1 e, (x.same e₂).0), (y.same e₁).1, (x.same e₂).1);
       }
     where
-      again-sounds : {y : Checked} → y ≡ Sound → again 7 cm (again 1 cs y) ≡ Sound
-      again-sounds e = again-sound 7 cm refl (again-sound 1 cs refl e)
+      again_sounds : {y : Checked} → y ≡ Sound → again 7 cm (again 1 cs y) ≡ Sound
+      again_sounds e = again_sound 7 cm refl (again_sound 1 cs refl e)

@@ -8,10 +8,10 @@ abbrev pub Cut : ℕ → ℕ → ℕ → Type 0
 Cut len most r = ((r ≡ len) × (len ≤ most)) ⊎ ((r ≡ most) × (most < len))
 
 -- the double x of a refusal where a slice of `len` elements was cut to 512: that of number k is the length handed in
-unfoldable pub long-told : ℕ → ℕ → ℕ → Float → Float
-long-told k len number x = cond (ltb 512 len && eqb number k) (nat len) x
+unfoldable pub long_told : ℕ → ℕ → ℕ → Float → Float
+long_told k len number x = cond (ltb 512 len && eqb number k) (nat len) x
 
 -- of row starts, mass, output and vectors
-abbrev pub lengths-told : ℕ → ℕ → ℕ → ℕ → ℕ → Float → Float
-lengths-told starts mass output vectors number x =
-    long-told 16 vectors number (long-told 15 output number (long-told 7 mass number (long-told 1 starts number x)))
+abbrev pub lengths_told : ℕ → ℕ → ℕ → ℕ → ℕ → Float → Float
+lengths_told starts mass output vectors number x =
+    long_told 16 vectors number (long_told 15 output number (long_told 7 mass number (long_told 1 starts number x)))

@@ -1,8 +1,8 @@
 // What the exports on bytes share: which jobs are large, slices cut to the local arrays, and the arrays.
 ghost use Rattle.std.specs.Prelude.{◌≡◌, false, cond, ◌/◌, ◌≤◌, length, take};
-ghost use Rattle.le_bytes.specs.Bytes.{numbers_of, doubles-of, words_of};
+ghost use Rattle.le_bytes.specs.Bytes.{numbers_of, doubles_of, words_of};
 ghost use Rattle.byte_arrays.specs.Large.{large};
-ghost use Rattle.byte_arrays.specs.Inner.{Cut, long-told, lengths-told};
+ghost use Rattle.byte_arrays.specs.Inner.{Cut, long_told, lengths_told};
 
 // By lengths in bytes.
 pub fn large(n: usize, vals: usize, work: usize) -> bool
@@ -39,7 +39,7 @@ pub fn used(with_mass: bool, mass: usize) -> usize
 }
 
 fn long_told(k: u32, len: usize, number: u32, value: f64) -> f64
-    ensures { result ≡ long-told k len number value }
+    ensures { result ≡ long_told k len number value }
 {
     if len > 512 {
         if number == k {
@@ -51,7 +51,7 @@ fn long_told(k: u32, len: usize, number: u32, value: f64) -> f64
 
 // The lengths handed in, where a refusal reports them.
 pub fn reported(number: u32, value: f64, starts: usize, mass: usize, out: usize, v: usize) -> f64
-    ensures { result ≡ lengths-told starts mass out v number value }
+    ensures { result ≡ lengths_told starts mass out v number value }
 {
     let of_starts = long_told(1, starts, number, value);
     let of_mass = long_told(7, mass, number, of_starts);
@@ -72,7 +72,7 @@ pub fn numbers_in(src: &[u8]) -> [u32; 513]
 
 pub fn doubles_in(src: &[u8]) -> [f64; 512]
     requires { length src.now / 8 ≤ 512 }
-    ensures { take (length src.now / 8) result ≡ doubles-of src.now }
+    ensures { take (length src.now / 8) result ≡ doubles_of src.now }
 {
     let mut array = [0.0f64; 512];
     let count = src.len() / 8;
@@ -83,7 +83,7 @@ pub fn doubles_in(src: &[u8]) -> [f64; 512]
 // Of working memory, which has up to 4,096.
 pub fn memory_in(src: &[u8]) -> [f64; 4096]
     requires { length src.now / 8 ≤ 4096 }
-    ensures { take (length src.now / 8) result ≡ doubles-of src.now }
+    ensures { take (length src.now / 8) result ≡ doubles_of src.now }
 {
     let mut array = [0.0f64; 4096];
     let count = src.len() / 8;

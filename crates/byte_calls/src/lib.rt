@@ -1,8 +1,8 @@
 // The four calls as one, for the exports on bytes: which call, and what it tells by value.
 ghost use Rattle.std.specs.Prelude.{◌≡◌};
-ghost use Rattle.answers.specs.Told.{numbers, run-numbers, taylor-numbers, krylov-numbers};
-ghost use Rattle.byte_arrays.specs.Inner.{lengths-told};
-ghost use Rattle.byte_calls.specs.Inner.{taylor-told, krylov-told, revalued};
+ghost use Rattle.answers.specs.Told.{numbers, run_numbers, taylor_numbers, krylov_numbers};
+ghost use Rattle.byte_arrays.specs.Inner.{lengths_told};
+ghost use Rattle.byte_calls.specs.Inner.{taylor_told, krylov_told, revalued};
 
 use krylov_job::KrylovAnswer;
 use taylor_job::TaylorAnswer;
@@ -32,7 +32,7 @@ pub struct Told {
 }
 
 fn told_taylor(number: u32, value: f64, s: u32, m: u32, applications: u64) -> Told
-    ensures { taylor-told result ≡ numbers number value s m applications }
+    ensures { taylor_told result ≡ numbers number value s m applications }
 {
     Told {
         number: number,
@@ -57,7 +57,7 @@ fn told_krylov(
     shortest: f64,
     last: f64,
 ) -> Told
-    ensures { krylov-told result ≡ run-numbers number value substeps matvecs rejected shortest last }
+    ensures { krylov_told result ≡ run_numbers number value substeps matvecs rejected shortest last }
 {
     Told {
         number: number,
@@ -74,7 +74,7 @@ fn told_krylov(
 }
 
 pub fn of_taylor(answer: TaylorAnswer) -> Told
-    ensures { taylor-told result ≡ taylor-numbers answer }
+    ensures { taylor_told result ≡ taylor_numbers answer }
 {
     match answer {
         TaylorAnswer::Refusal(k, x) => told_taylor(k, x, 0, 0, 0),
@@ -83,7 +83,7 @@ pub fn of_taylor(answer: TaylorAnswer) -> Told
 }
 
 pub fn of_krylov(answer: KrylovAnswer) -> Told
-    ensures { krylov-told result ≡ krylov-numbers answer }
+    ensures { krylov_told result ≡ krylov_numbers answer }
 {
     match answer {
         KrylovAnswer::Refusal(k, x) => told_krylov(k, x, 0, 0, 0, 0.0, 0.0),
@@ -101,7 +101,7 @@ pub fn of_krylov(answer: KrylovAnswer) -> Told
 
 // The lengths handed in, where a refusal reports them.
 pub fn reported(t: Told, starts: usize, mass: usize, out: usize, v: usize) -> Told
-    ensures { result ≡ revalued t (lengths-told starts mass out v t.number t.value) }
+    ensures { result ≡ revalued t (lengths_told starts mass out v t.number t.value) }
 {
     let mut r = t;
     r.value = byte_arrays::reported(t.number, t.value, starts, mass, out, v);
@@ -115,7 +115,7 @@ pub fn taylor_numbers(
     m: &mut u32,
     applications: &mut u64,
 ) -> u32
-    ensures { numbers result value.new s.new m.new applications.new ≡ taylor-told t }
+    ensures { numbers result value.new s.new m.new applications.new ≡ taylor_told t }
 {
     *value = t.value;
     *s = t.s;
@@ -133,7 +133,7 @@ pub fn krylov_numbers(
     shortest: &mut f64,
     last: &mut f64,
 ) -> u32
-    ensures { run-numbers result value.new substeps.new matvecs.new rejected.new shortest.new last.new ≡ krylov-told t }
+    ensures { run_numbers result value.new substeps.new matvecs.new rejected.new shortest.new last.new ≡ krylov_told t }
 {
     *value = t.value;
     *substeps = t.substeps;

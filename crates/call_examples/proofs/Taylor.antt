@@ -11,7 +11,7 @@ use Rattle.generator_action.specs.Generator.{forward}
 use Rattle.taylor_job.specs.declared.TaylorReport.{TaylorReport}
 use Rattle.taylor_job.specs.declared.TaylorAnswer.TheVariants.{Refusal, Result}
 use Rattle.combination.specs.Call.{ends}
-use Rattle.taylor_job.specs.Calls.{phi-combination, phi-action, phi-action-batched, open-Calls}
+use Rattle.taylor_job.specs.Calls.{phi_combination, phi_action, phi_action_batched, open_calls}
 
 abbrev laplace : Csr
 laplace = csr 2 (0 ∷ 2 ∷ 4 ∷ []) (0 ∷ 1 ∷ 0 ∷ 1 ∷ []) (nat 2 ∷ bits 0xbff0000000000000 ∷ bits 0xbff0000000000000 ∷ nat 2 ∷ [])
@@ -23,63 +23,63 @@ abbrev empty : Csr
 empty = csr 1 (0 ∷ 0 ∷ []) [] []
 
 -- with a shift: 8 doubles are needed, the ninth stays
-shifted : phi-combination (forward laplace none) (nat 2) 30 2 (1f ∷ bits 0xc000000000000000 ∷ bits 0x3fe0000000000000 ∷ bits 0x3fd0000000000000 ∷ []) (nat 7 ∷ nat 7 ∷ []) (replicate 9 (nat 9))
+shifted : phi_combination (forward laplace none) (nat 2) 30 2 (1f ∷ bits 0xc000000000000000 ∷ bits 0x3fe0000000000000 ∷ bits 0x3fd0000000000000 ∷ []) (nat 7 ∷ nat 7 ∷ []) (replicate 9 (nat 9))
     ≡ ends (Result (record { s = 4; m = 30; mu = bits 0xc010000000000000; applications = 120 })) (bits 0x3fd351b9c75b5bb2 ∷ bits 0x3fcb0be1d2ba255d ∷ []) (replicate 8 +0 ++ (nat 9 ∷ []))
-unfolding open-Calls
+unfolding open_calls
 shifted = refl
 
 -- one double short: 26, and nothing changes
-short : phi-combination (forward laplace none) (nat 2) 30 2 (1f ∷ bits 0xc000000000000000 ∷ bits 0x3fe0000000000000 ∷ bits 0x3fd0000000000000 ∷ []) (nat 7 ∷ nat 7 ∷ []) (replicate 7 (nat 9))
+short : phi_combination (forward laplace none) (nat 2) 30 2 (1f ∷ bits 0xc000000000000000 ∷ bits 0x3fe0000000000000 ∷ bits 0x3fd0000000000000 ∷ []) (nat 7 ∷ nat 7 ∷ []) (replicate 7 (nat 9))
     ≡ ends (Refusal 26 nan) (nat 7 ∷ nat 7 ∷ []) (replicate 7 (nat 9))
-unfolding open-Calls
+unfolding open_calls
 short = refl
 
 -- phi_0 and phi_1 of a matrix without entries at time 1: v and v
-batch : phi-action-batched (forward empty none) 1f 30 1 (nat 3 ∷ []) (+0 ∷ +0 ∷ []) (replicate 9 (nat 9))
+batch : phi_action_batched (forward empty none) 1f 30 1 (nat 3 ∷ []) (+0 ∷ +0 ∷ []) (replicate 9 (nat 9))
     ≡ ends (Result (record { s = 2; m = 25; mu = +0; applications = 100 })) (nat 3 ∷ nat 3 ∷ []) (replicate 9 +0)
-unfolding open-Calls
+unfolding open_calls
 batch = refl
 
 -- ---- 17 of a field v (document 02, N2): the first entry that is not finite, and nothing changes
-field-with-nan : phi-action (forward laplace none) 1f 30 1 (1f ∷ nan ∷ []) (nat 7 ∷ nat 7 ∷ []) (replicate 12 (nat 9)) ≡ ends (Refusal 17 nan) (nat 7 ∷ nat 7 ∷ []) (replicate 12 (nat 9))
-unfolding open-Calls
-field-with-nan = refl
+field_with_nan : phi_action (forward laplace none) 1f 30 1 (1f ∷ nan ∷ []) (nat 7 ∷ nat 7 ∷ []) (replicate 12 (nat 9)) ≡ ends (Refusal 17 nan) (nat 7 ∷ nat 7 ∷ []) (replicate 12 (nat 9))
+unfolding open_calls
+field_with_nan = refl
 
-batch-with-infinity : phi-action-batched (forward laplace none) 1f 30 0 (-∞ ∷ nan ∷ []) (nat 7 ∷ nat 7 ∷ []) (replicate 12 (nat 9)) ≡ ends (Refusal 17 -∞) (nat 7 ∷ nat 7 ∷ []) (replicate 12 (nat 9))
-unfolding open-Calls
-batch-with-infinity = refl
+batch_with_infinity : phi_action_batched (forward laplace none) 1f 30 0 (-∞ ∷ nan ∷ []) (nat 7 ∷ nat 7 ∷ []) (replicate 12 (nat 9)) ≡ ends (Refusal 17 -∞) (nat 7 ∷ nat 7 ∷ []) (replicate 12 (nat 9))
+unfolding open_calls
+batch_with_infinity = refl
 
 -- one value for two rows: 16 first
-length-first : phi-action (forward laplace none) 1f 30 1 (nan ∷ []) (nat 7 ∷ nat 7 ∷ []) (replicate 12 (nat 9)) ≡ ends (Refusal 16 1f) (nat 7 ∷ nat 7 ∷ []) (replicate 12 (nat 9))
-unfolding open-Calls
-length-first = refl
+length_first : phi_action (forward laplace none) 1f 30 1 (nan ∷ []) (nat 7 ∷ nat 7 ∷ []) (replicate 12 (nat 9)) ≡ ends (Refusal 16 1f) (nat 7 ∷ nat 7 ∷ []) (replicate 12 (nat 9))
+unfolding open_calls
+length_first = refl
 
 -- ---- the cap (document 02, N7): (2 -1; -1 2) at time 1 runs 3 x 30 without a shift; up to 29 the shifted plan is strictly cheaper, 4 x 25
-abbrev planned-within : ℕ → TaylorReport → Type 0
-planned-within cap r = phi-action (forward laplace none) 1f cap 0 (+0 ∷ +0 ∷ []) (nat 7 ∷ nat 7 ∷ []) (replicate 12 (nat 9)) ≡ ends (Result r) (+0 ∷ +0 ∷ []) (replicate 12 +0)
+abbrev planned_within : ℕ → TaylorReport → Type 0
+planned_within cap r = phi_action (forward laplace none) 1f cap 0 (+0 ∷ +0 ∷ []) (nat 7 ∷ nat 7 ∷ []) (replicate 12 (nat 9)) ≡ ends (Result r) (+0 ∷ +0 ∷ []) (replicate 12 +0)
 
-up-to-30 : planned-within 30 (record { s = 3; m = 30; mu = +0; applications = 90 })
-unfolding open-Calls
-up-to-30 = refl
+up_to_30 : planned_within 30 (record { s = 3; m = 30; mu = +0; applications = 90 })
+unfolding open_calls
+up_to_30 = refl
 
-up-to-29 : planned-within 29 (record { s = 4; m = 25; mu = bits 0xc000000000000000; applications = 100 })
-unfolding open-Calls
-up-to-29 = refl
+up_to_29 : planned_within 29 (record { s = 4; m = 25; mu = bits 0xc000000000000000; applications = 100 })
+unfolding open_calls
+up_to_29 = refl
 
 -- outside 1 to 30; behind 14, in front of 15
-no-degree : phi-action (forward laplace none) 1f 0 0 (+0 ∷ +0 ∷ []) [] [] ≡ ends (Refusal 33 nan) [] []
-unfolding open-Calls
-no-degree = refl
+no_degree : phi_action (forward laplace none) 1f 0 0 (+0 ∷ +0 ∷ []) [] [] ≡ ends (Refusal 33 nan) [] []
+unfolding open_calls
+no_degree = refl
 
-degree-31 : phi-action-batched (forward laplace none) 1f 31 0 (+0 ∷ +0 ∷ []) [] [] ≡ ends (Refusal 33 nan) [] []
-unfolding open-Calls
-degree-31 = refl
+degree_31 : phi_action_batched (forward laplace none) 1f 31 0 (+0 ∷ +0 ∷ []) [] [] ≡ ends (Refusal 33 nan) [] []
+unfolding open_calls
+degree_31 = refl
 
-time-first : phi-combination (forward laplace none) nan 31 1 (+0 ∷ +0 ∷ []) [] [] ≡ ends (Refusal 14 nan) [] []
-unfolding open-Calls
-time-first = refl
+time_first : phi_combination (forward laplace none) nan 31 1 (+0 ∷ +0 ∷ []) [] [] ≡ ends (Refusal 14 nan) [] []
+unfolding open_calls
+time_first = refl
 
 -- up to 1 no row is admissible, not even at time 0, where the argument is 4
-degree-1 : phi-action (forward laplace none) +0 1 0 (+0 ∷ +0 ∷ []) (nat 7 ∷ nat 7 ∷ []) (replicate 12 (nat 9)) ≡ ends (Refusal 25 (nat 4)) (nat 7 ∷ nat 7 ∷ []) (replicate 12 (nat 9))
-unfolding open-Calls
-degree-1 = refl
+degree_1 : phi_action (forward laplace none) +0 1 0 (+0 ∷ +0 ∷ []) (nat 7 ∷ nat 7 ∷ []) (replicate 12 (nat 9)) ≡ ends (Refusal 25 (nat 4)) (nat 7 ∷ nat 7 ∷ []) (replicate 12 (nat 9))
+unfolding open_calls
+degree_1 = refl

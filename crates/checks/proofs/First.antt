@@ -23,123 +23,123 @@ abbrev pub unless : Bool → ℕ → Float → Checked → Checked
 unless true k x r = Refused k x
 unless false k x r = r
 
-pub first-cons : (k : ℕ) (b : Bool) (x : Float) (cs : List Check) → first (refuse k b x ∷ cs) ≡ unless b k x (first cs)
+pub first_cons : (k : ℕ) (b : Bool) (x : Float) (cs : List Check) → first (refuse k b x ∷ cs) ≡ unless b k x (first cs)
 unfolding first
-first-cons k true x cs = refl
-first-cons k false x cs = refl
+first_cons k true x cs = refl
+first_cons k false x cs = refl
 
-pub first-none : first [] ≡ Sound
+pub first_none : first [] ≡ Sound
 unfolding first
-first-none = refl
+first_none = refl
 
-append-by : (b : Bool) (k : ℕ) (x : Float) (r t u : Checked) → r ≡ and_then t u → unless b k x r ≡ and_then (unless b k x t) u
+append_by : (b : Bool) (k : ℕ) (x : Float) (r t u : Checked) → r ≡ and_then t u → unless b k x r ≡ and_then (unless b k x t) u
 unfolding and_then
-append-by true k x r t u e = refl
-append-by false k x r t u e = e
+append_by true k x r t u e = refl
+append_by false k x r t u e = e
 
-pub first-append : (xs ys : List Check) → first (xs ++ ys) ≡ and_then (first xs) (first ys)
+pub first_append : (xs ys : List Check) → first (xs ++ ys) ≡ and_then (first xs) (first ys)
 unfolding first and_then
-first-append [] ys = refl
-first-append (c ∷ cs) ys =
-    first-cons c.number c.holds c.reported (cs ++ ys)
-    ∙ append-by c.holds c.number c.reported (first (cs ++ ys)) (first cs) (first ys) (first-append cs ys)
-    ∙ ap (λ (r : Checked). and_then r (first ys)) (sym (first-cons c.number c.holds c.reported cs))
+first_append [] ys = refl
+first_append (c ∷ cs) ys =
+    first_cons c.number c.holds c.reported (cs ++ ys)
+    ∙ append_by c.holds c.number c.reported (first (cs ++ ys)) (first cs) (first ys) (first_append cs ys)
+    ∙ ap (λ (r : Checked). and_then r (first ys)) (sym (first_cons c.number c.holds c.reported cs))
 
 -- ---- what a function that makes some of the checks hands to its caller
 -- a refusal taken apart by its number and its double
-pub passed-up : {r : Checked} {j k : ℕ} {x y : Float} → r ≡ Refused j x → k ≡ number r → y ≡ reported r → r ≡ Refused k y
+pub passed_up : {r : Checked} {j k : ℕ} {x y : Float} → r ≡ Refused j x → k ≡ number r → y ≡ reported r → r ≡ Refused k y
 unfolding number reported
-passed-up e ek ey = rw (ek, ey, e)
+passed_up e ek ey = rw (ek, ey, e)
 
-pub refused-up : (xs ys : List Check) {r : Checked} {k : ℕ} {x : Float} → r ≡ Refused k x → r ≡ first xs → r ≡ first (xs ++ ys)
+pub refused_up : (xs ys : List Check) {r : Checked} {k : ℕ} {x : Float} → r ≡ Refused k x → r ≡ first xs → r ≡ first (xs ++ ys)
 unfolding and_then
-refused-up xs ys e d = rw (first-append xs ys, ← d, e)
+refused_up xs ys e d = rw (first_append xs ys, ← d, e)
 
-pub sound-on : (xs ys : List Check) {s r : Checked} → s ≡ Sound → s ≡ first xs → r ≡ first ys → r ≡ first (xs ++ ys)
+pub sound_on : (xs ys : List Check) {s r : Checked} → s ≡ Sound → s ≡ first xs → r ≡ first ys → r ≡ first (xs ++ ys)
 unfolding and_then
-sound-on xs ys e d f = rw (first-append xs ys, ← d, e) f
+sound_on xs ys e d f = rw (first_append xs ys, ← d, e) f
 
 -- no check of a list holds: the first fails, and no other holds
-unless-sound : (k : ℕ) (b : Bool) (x : Float) (r : Checked) → Sound ≡ unless b k x r → (b ≡ false) × (Sound ≡ r)
-unless-sound k true x r e = (cc, cc)
-unless-sound k false x r e = (refl, e)
+unless_sound : (k : ℕ) (b : Bool) (x : Float) (r : Checked) → Sound ≡ unless b k x r → (b ≡ false) × (Sound ≡ r)
+unless_sound k true x r e = (cc, cc)
+unless_sound k false x r e = (refl, e)
 
-pub sound-cons : (k : ℕ) (b : Bool) (x : Float) (cs : List Check) → Sound ≡ first (refuse k b x ∷ cs) → (b ≡ false) × (Sound ≡ first cs)
-sound-cons k b x cs e = unless-sound k b x (first cs) (e ∙ first-cons k b x cs)
+pub sound_cons : (k : ℕ) (b : Bool) (x : Float) (cs : List Check) → Sound ≡ first (refuse k b x ∷ cs) → (b ≡ false) × (Sound ≡ first cs)
+sound_cons k b x cs e = unless_sound k b x (first cs) (e ∙ first_cons k b x cs)
 
-and-then-sound : (r s : Checked) → Sound ≡ and_then r s → (Sound ≡ r) × (Sound ≡ s)
+and_then_sound : (r s : Checked) → Sound ≡ and_then r s → (Sound ≡ r) × (Sound ≡ s)
 unfolding and_then
-and-then-sound Sound s e = (refl, e)
-and-then-sound (Refused k x) s e = (cc, cc)
+and_then_sound Sound s e = (refl, e)
+and_then_sound (Refused k x) s e = (cc, cc)
 
 -- no check of two lists in a row holds
-pub sound-append : (xs ys : List Check) → Sound ≡ first (xs ++ ys) → (Sound ≡ first xs) × (Sound ≡ first ys)
-sound-append xs ys e = and-then-sound (first xs) (first ys) (e ∙ first-append xs ys)
+pub sound_append : (xs ys : List Check) → Sound ≡ first (xs ++ ys) → (Sound ≡ first xs) × (Sound ≡ first ys)
+sound_append xs ys e = and_then_sound (first xs) (first ys) (e ∙ first_append xs ys)
 
 -- ---- a check that cannot hold where those of gs pass may stand behind them or not
 module _ (c : Check) where
-  same-behind : (p : Check) (xs ys : List Check) → first xs ≡ first ys → first (p ∷ xs) ≡ first (p ∷ ys)
-  same-behind p xs ys e = first-cons p.number p.holds p.reported xs ∙ ap (unless p.holds p.number p.reported) e ∙ sym (first-cons p.number p.holds p.reported ys)
+  same_behind : (p : Check) (xs ys : List Check) → first xs ≡ first ys → first (p ∷ xs) ≡ first (p ∷ ys)
+  same_behind p xs ys e = first_cons p.number p.holds p.reported xs ∙ ap (unless p.holds p.number p.reported) e ∙ sym (first_cons p.number p.holds p.reported ys)
 
   skipped : c.holds ≡ false → (ps cs : List Check) → first (ps ++ (c ∷ cs)) ≡ first (ps ++ cs)
-  skipped e [] cs = first-cons c.number c.holds c.reported cs ∙ rw e refl
-  skipped e (p ∷ ps) cs = same-behind p _ _ (skipped e ps cs)
+  skipped e [] cs = first_cons c.number c.holds c.reported cs ∙ rw e refl
+  skipped e (p ∷ ps) cs = same_behind p _ _ (skipped e ps cs)
 
-  pub never-holds : (gs ps cs : List Check) → (Sound ≡ first gs → c.holds ≡ false) → first (gs ++ (ps ++ (c ∷ cs))) ≡ first (gs ++ (ps ++ cs))
+  pub never_holds : (gs ps cs : List Check) → (Sound ≡ first gs → c.holds ≡ false) → first (gs ++ (ps ++ (c ∷ cs))) ≡ first (gs ++ (ps ++ cs))
   unfolding first
-  never-holds [] ps cs h = skipped (h refl) ps cs
-  never-holds (g ∷ gs) ps cs h =
-      first-cons g.number g.holds g.reported (gs ++ (ps ++ (c ∷ cs)))
-      ∙ by (λ k. never-holds gs ps cs k) g.holds refl
-      ∙ sym (first-cons g.number g.holds g.reported (gs ++ (ps ++ cs)))
+  never_holds [] ps cs h = skipped (h refl) ps cs
+  never_holds (g ∷ gs) ps cs h =
+      first_cons g.number g.holds g.reported (gs ++ (ps ++ (c ∷ cs)))
+      ∙ by (λ k. never_holds gs ps cs k) g.holds refl
+      ∙ sym (first_cons g.number g.holds g.reported (gs ++ (ps ++ cs)))
     where
       by : ((Sound ≡ first gs → c.holds ≡ false) → first (gs ++ (ps ++ (c ∷ cs))) ≡ first (gs ++ (ps ++ cs))) → (b : Bool) → g.holds ≡ b
           → unless b g.number g.reported (first (gs ++ (ps ++ (c ∷ cs)))) ≡ unless b g.number g.reported (first (gs ++ (ps ++ cs)))
       by f true e = refl
-      by f false e = ap (unless false g.number g.reported) (f (λ s. h (s ∙ sym (first-cons g.number g.holds g.reported gs ∙ rw e refl))))
+      by f false e = ap (unless false g.number g.reported) (f (λ s. h (s ∙ sym (first_cons g.number g.holds g.reported gs ∙ rw e refl))))
 
 -- ---- a chain of tests: what `search` needs. A check whose condition fails, and one whose condition holds
 pub passes : (k : ℕ) {b : Bool} (x : Float) (cs : List Check) {r : Checked} → b ≡ false → r ≡ first cs → r ≡ first (refuse k b x ∷ cs)
-passes k {b} x cs e g = rw (first-cons, e) g
+passes k {b} x cs e g = rw (first_cons, e) g
 
 pub stops : {k : ℕ} {b : Bool} {x y : Float} (cs : List Check) → b ≡ true → y ≡ x → Refused k y ≡ first (refuse k b x ∷ cs)
-stops {k} {b} {x} {y} cs e g = rw (first-cons, e, g)
+stops {k} {b} {x} {y} cs e g = rw (first_cons, e, g)
 
-pub ends-sound : Sound ≡ first []
-ends-sound = sym first-none
+pub ends_sound : Sound ≡ first []
+ends_sound = sym first_none
 
 -- the same where a condition is decided by the answer t of a function, or by its negation
-pub passes-told : (k : ℕ) {t b : Bool} (x : Float) (cs : List Check) {r : Checked} → t ≡ b → t ≡ false → r ≡ first cs → r ≡ first (refuse k b x ∷ cs)
-passes-told k x cs e f g = passes k x cs (sym e ∙ f) g
+pub passes_told : (k : ℕ) {t b : Bool} (x : Float) (cs : List Check) {r : Checked} → t ≡ b → t ≡ false → r ≡ first cs → r ≡ first (refuse k b x ∷ cs)
+passes_told k x cs e f g = passes k x cs (sym e ∙ f) g
 
-pub stops-told : {k : ℕ} {t b : Bool} {x y : Float} (cs : List Check) → t ≡ b → t ≡ true → y ≡ x → Refused k y ≡ first (refuse k b x ∷ cs)
-stops-told cs e f g = stops cs (sym e ∙ f) g
+pub stops_told : {k : ℕ} {t b : Bool} {x y : Float} (cs : List Check) → t ≡ b → t ≡ true → y ≡ x → Refused k y ≡ first (refuse k b x ∷ cs)
+stops_told cs e f g = stops cs (sym e ∙ f) g
 
-pub passes-not : (k : ℕ) {t b : Bool} (x : Float) (cs : List Check) {r : Checked} → t ≡ b → not t ≡ false → r ≡ first cs → r ≡ first (refuse k (not b) x ∷ cs)
-passes-not k x cs e f g = passes k x cs (ap not (sym e) ∙ f) g
+pub passes_not : (k : ℕ) {t b : Bool} (x : Float) (cs : List Check) {r : Checked} → t ≡ b → not t ≡ false → r ≡ first cs → r ≡ first (refuse k (not b) x ∷ cs)
+passes_not k x cs e f g = passes k x cs (ap not (sym e) ∙ f) g
 
-pub stops-not : {k : ℕ} {t b : Bool} {x y : Float} (cs : List Check) → t ≡ b → not t ≡ true → y ≡ x → Refused k y ≡ first (refuse k (not b) x ∷ cs)
-stops-not cs e f g = stops cs (ap not (sym e) ∙ f) g
+pub stops_not : {k : ℕ} {t b : Bool} {x y : Float} (cs : List Check) → t ≡ b → not t ≡ true → y ≡ x → Refused k y ≡ first (refuse k (not b) x ∷ cs)
+stops_not cs e f g = stops cs (ap not (sym e) ∙ f) g
 
 -- the same where it is decided by a comparison of numbers: with `lt-ltb`, `le-ltb`, `eq-eqb`, `ne_eqb`
-pub not-eq : {a b : ℕ} → a ≡ b → not (eqb a b) ≡ false
-not-eq {a} {b} e = ap not (eq-eqb a b e)
+pub not_eq : {a b : ℕ} → a ≡ b → not (eqb a b) ≡ false
+not_eq {a} {b} e = ap not (eq-eqb a b e)
 
-pub not-ne : {a b : ℕ} → (a ≡ b → ⊥) → not (eqb a b) ≡ true
-not-ne {a} {b} e = ap not (ne_eqb a b e)
+pub not_ne : {a b : ℕ} → (a ≡ b → ⊥) → not (eqb a b) ≡ true
+not_ne {a} {b} e = ap not (ne_eqb a b e)
 
 -- the same where it is decided by a search, whose place i is told: the element there is reported, or the place
-pub passes-find : (k : ℕ) (x : Float) (cs : List Check) (p : ℕ → Bool) (n : ℕ) {i : ℕ} {r : Checked} → i ≡ find p n → n ≤ i → r ≡ first cs → r ≡ first (refuse k (exists p n) x ∷ cs)
+pub passes_find : (k : ℕ) (x : Float) (cs : List Check) (p : ℕ → Bool) (n : ℕ) {i : ℕ} {r : Checked} → i ≡ find p n → n ≤ i → r ≡ first cs → r ≡ first (refuse k (exists p n) x ∷ cs)
 unfolding exists
-passes-find k x cs p n {i} e l g = passes k x cs (rw (← e) (le-ltb i n l)) g
+passes_find k x cs p n {i} e l g = passes k x cs (rw (← e) (le-ltb i n l)) g
 
-pub stops-find : (k : ℕ) (w : List Float) (cs : List Check) (p : ℕ → Bool) (n : ℕ) {i : ℕ} → i ≡ find p n → i < n → Refused k (get_or w i nan) ≡ first (refuse k (exists p n) (get_or w (find p n) nan) ∷ cs)
+pub stops_find : (k : ℕ) (w : List Float) (cs : List Check) (p : ℕ → Bool) (n : ℕ) {i : ℕ} → i ≡ find p n → i < n → Refused k (get_or w i nan) ≡ first (refuse k (exists p n) (get_or w (find p n) nan) ∷ cs)
 unfolding exists
-stops-find k w cs p n {i} e l = stops cs (rw (← e) (lt-ltb i n l)) (ap (λ (j : ℕ). get_or w j nan) e)
+stops_find k w cs p n {i} e l = stops cs (rw (← e) (lt-ltb i n l)) (ap (λ (j : ℕ). get_or w j nan) e)
 
-pub stops-place : (k : ℕ) (cs : List Check) (p : ℕ → Bool) (n : ℕ) {i : ℕ} {y : Float} → i ≡ find p n → i < n → y ≡ of_int binary64 (pos i) → Refused k y ≡ first (refuse k (exists p n) (of_int binary64 (pos (find p n))) ∷ cs)
+pub stops_place : (k : ℕ) (cs : List Check) (p : ℕ → Bool) (n : ℕ) {i : ℕ} {y : Float} → i ≡ find p n → i < n → y ≡ of_int binary64 (pos i) → Refused k y ≡ first (refuse k (exists p n) (of_int binary64 (pos (find p n))) ∷ cs)
 unfolding exists
-stops-place k cs p n {i} e l d = stops cs (rw (← e) (lt-ltb i n l)) (d ∙ ap (λ (j : ℕ). of_int binary64 (pos j)) e)
+stops_place k cs p n {i} e l d = stops cs (rw (← e) (lt-ltb i n l)) (d ∙ ap (λ (j : ℕ). of_int binary64 (pos j)) e)
 
 -- every return of a chain: `search chain`, from five checks on `search chain depth 9`
-pub ruleset chain = (refl, passes, stops, ends-sound, passes-told, stops-told, passes-not, stops-not, not-eq, not-ne, eq-eqb, ne_eqb, lt-ltb, le-ltb, passes-find, stops-find, stops-place)
+pub ruleset chain = (refl, passes, stops, ends_sound, passes_told, stops_told, passes_not, stops_not, not_eq, not_ne, eq-eqb, ne_eqb, lt-ltb, le-ltb, passes_find, stops_find, stops_place)

@@ -27,11 +27,11 @@ unfoldable pub reported : Checked → Float
 reported Sound = +0
 reported (Refused k x) = x
 
-abbrev pub unless-named : Bool → Check → List Check → List Check
-unless-named true c cs = []
-unless-named false c cs = c ∷ cs
+abbrev pub unless_named : Bool → Check → List Check → List Check
+unless_named true c cs = []
+unless_named false c cs = c ∷ cs
 
 -- those in front of the first numbered k
 unfoldable pub before : ℕ → List Check → List Check
 before k [] = []
-before k (c ∷ cs) = unless-named (eqb c.number k) c (before k cs)
+before k (c ∷ cs) = unless_named (eqb c.number k) c (before k cs)

@@ -6,13 +6,13 @@ use lib.Ieee.{Float}
 use Rattle.checks.specs.First.{Check, first}
 use Rattle.checks.specs.declared.Checked.{Checked}
 use Rattle.checks.specs.declared.Checked.TheVariants.{Sound, Refused}
-use Rattle.combination.specs.Call.{Call, ends, unless-refused}
+use Rattle.combination.specs.Call.{Call, ends, unless_refused}
 
 module _ {A : Type 0} (refusal : ℕ → Float → A) (cs : List Check) (output memory : List Float) (end : Call A) where
-  pub refused-by : {r : Checked} {k : ℕ} {x : Float} → r ≡ Refused k x → r ≡ first cs → ends (refusal k x) output memory ≡ unless-refused refusal (first cs) output memory end
-  unfolding unless-refused
-  refused-by e f = rw (← f, e) refl
+  pub refused_by : {r : Checked} {k : ℕ} {x : Float} → r ≡ Refused k x → r ≡ first cs → ends (refusal k x) output memory ≡ unless_refused refusal (first cs) output memory end
+  unfolding unless_refused
+  refused_by e f = rw (← f, e) refl
 
-  pub runs : {r : Checked} {c : Call A} → r ≡ Sound → r ≡ first cs → c ≡ end → c ≡ unless-refused refusal (first cs) output memory end
-  unfolding unless-refused
+  pub runs : {r : Checked} {c : Call A} → r ≡ Sound → r ≡ first cs → c ≡ end → c ≡ unless_refused refusal (first cs) output memory end
+  unfolding unless_refused
   runs e f h = rw (← f, e) h

@@ -14,15 +14,15 @@ abbrev pub ends : {A : Type 0} → A → List Float → List Float → Call A
 ends a output memory = record { answer = a; output = output; memory = memory }
 
 -- refusals by a check (1 to 26 and 33) change no lent memory
-unfoldable pub unless-refused : {A : Type 0} → (ℕ → Float → A) → Checked → List Float → List Float → Call A → Call A
-unless-refused refusal (Refused k x) output memory c = ends (refusal k x) output memory
-unless-refused refusal Sound output memory c = c
+unfoldable pub unless_refused : {A : Type 0} → (ℕ → Float → A) → Checked → List Float → List Float → Call A → Call A
+unless_refused refusal (Refused k x) output memory c = ends (refusal k x) output memory
+unless_refused refusal Sound output memory c = c
 
 -- the needed length of the memory holds +0, the rest is unchanged
 unfoldable pub cleared : ℕ → List Float → List Float
 cleared need memory = splice 0 (replicate need +0) memory
 
 -- to compute
-unfoldable pub open-Call : Unit {0}
-unfolding unless-refused cleared
-open-Call = tt
+unfoldable pub open_call : Unit {0}
+unfolding unless_refused cleared
+open_call = tt

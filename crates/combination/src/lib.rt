@@ -1,8 +1,8 @@
 // The checks of a job, one by one.
 ghost use Rattle.std.specs.Prelude.{◌≡◌, List, ◌++◌, ◌+◌, ◌||◌, eqb, ltb};
 ghost use Rattle.checks.specs.First.{Check, first};
-ghost use Rattle.expmv.specs.Select.{M-MAX};
-ghost use Rattle.combination.specs.Checks.{count-checks, index-checks, out_of_range, time-checks, degree-checks, plan-checks, memory-checks};
+ghost use Rattle.expmv.specs.Select.{M_MAX};
+ghost use Rattle.combination.specs.Checks.{count_checks, index_checks, out_of_range, time_checks, degree_checks, plan_checks, memory_checks};
 
 use checks::Checked;
 
@@ -17,7 +17,7 @@ fn wrong_count(count: usize) -> bool
 
 // 12.
 pub fn check_count(count: usize) -> Checked
-    ensures { result ≡ first (count-checks count) }
+    ensures { result ≡ first (count_checks count) }
 {
     if wrong_count(count) {
         return Checked::Refused(12, float::count(count));
@@ -27,7 +27,7 @@ pub fn check_count(count: usize) -> Checked
 
 // 13.
 pub fn check_index(k: usize) -> Checked
-    ensures { result ≡ first (index-checks k) }
+    ensures { result ≡ first (index_checks k) }
 {
     if k > 3 {
         return Checked::Refused(13, float::count(k));
@@ -46,7 +46,7 @@ fn out_of_range(x: f64) -> bool
 
 // 14.
 pub fn check_time(tau: f64) -> Checked
-    ensures { result ≡ first (time-checks tau) }
+    ensures { result ≡ first (time_checks tau) }
 {
     if out_of_range(tau) {
         return Checked::Refused(14, tau);
@@ -55,7 +55,7 @@ pub fn check_time(tau: f64) -> Checked
 }
 
 fn wrong_degree(cap: u32) -> bool
-    ensures { result ≡ (eqb cap 0 || ltb M-MAX cap) }
+    ensures { result ≡ (eqb cap 0 || ltb M_MAX cap) }
 {
     if cap == 0 {
         return true;
@@ -65,7 +65,7 @@ fn wrong_degree(cap: u32) -> bool
 
 // 33.
 fn check_degree(cap: u32) -> Checked
-    ensures { result ≡ first (degree-checks cap) }
+    ensures { result ≡ first (degree_checks cap) }
 {
     if wrong_degree(cap) {
         return Checked::Refused(33, float::not_a_number());
@@ -75,7 +75,7 @@ fn check_degree(cap: u32) -> Checked
 
 // 14 and 33 of a Taylor job.
 pub fn check_plan(tau: f64, cap: u32) -> Checked
-    ensures { result ≡ first (plan-checks tau cap) }
+    ensures { result ≡ first (plan_checks tau cap) }
 {
     let time = check_time(tau);
     let degree = check_degree(cap);
@@ -84,7 +84,7 @@ pub fn check_plan(tau: f64, cap: u32) -> Checked
 
 // 26.
 pub fn check_memory(memory: usize, need: usize) -> Checked
-    ensures { result ≡ first (memory-checks memory need) }
+    ensures { result ≡ first (memory_checks memory need) }
 {
     if memory < need {
         return Checked::Refused(26, float::not_a_number());

@@ -5,7 +5,7 @@ use Rattle.lists.specs.Loop.{tabulate}
 use Rattle.lists.specs.Window.{window}
 use Rattle.lists.specs.Bounds.{Disjoint}
 use Rattle.doubles.specs.F64.{if◌then◌else◌, ◌⊗◌}
-use Rattle.general_operator.specs.Csr.{Csr, start, row-product}
+use Rattle.general_operator.specs.Csr.{Csr, start, row_product}
 
 -- with a mass, as many values as there are entries, from place `at`
 unfoldable pub values : Bool → ℕ → List Float → List Float → List Float
@@ -22,5 +22,5 @@ unfoldable pub factored : Bool → Float → Float → Float
 factored scaled tau x = if scaled then tau ⊗ x else x
 
 -- G x, or tau G x: each row's product by tau
-unfoldable pub generator-by : Bool → Float → Csr → List Float → List Float
-generator-by scaled tau q x = tabulate q.n (λ i. factored scaled tau (row-product q.columns q.entries x (start q i) (start q (i + 1))))
+unfoldable pub generator_by : Bool → Float → Csr → List Float → List Float
+generator_by scaled tau q x = tabulate q.n (λ i. factored scaled tau (row_product q.columns q.entries x (start q i) (start q (i + 1))))

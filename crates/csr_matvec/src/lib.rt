@@ -2,14 +2,14 @@
 ghost use Rattle.std.specs.Prelude.{◌≡◌, ◌+◌, ◌≤◌, length};
 ghost use Rattle.lists.specs.Window.{window, splice};
 ghost use Rattle.lists.specs.Bounds.{Disjoint, Apart};
-ghost use Rattle.general_operator.specs.Csr.{csr, Valid, apply-generator};
-ghost use Rattle.csr_matvec.specs.Values.{values, Stored, factored, generator-by};
+ghost use Rattle.general_operator.specs.Csr.{csr, Valid, apply_generator};
+ghost use Rattle.csr_matvec.specs.Values.{values, Stored, factored, generator_by};
 
 // dst = G src
 pub fn csr_matvec(starts: &[u32], cols: &[u32], vals: &[f64], src: &[f64], dst: &mut [f64])
     requires valid { Valid (csr (length dst.old) starts.now cols.now vals.now) }
     requires src_len { length src.now ≡ length dst.old }
-    ensures { dst.new ≡ apply-generator (csr (length dst.old) starts.now cols.now vals.now) src.now }
+    ensures { dst.new ≡ apply_generator (csr (length dst.old) starts.now cols.now vals.now) src.now }
 {
     let n = dst.len();
     let mut from = starts[0] as usize;
@@ -46,7 +46,7 @@ fn matvec_in(
     requires n_in_bounds { src_at + n ≤ length work.old }
     requires n_in_bounds_2 { dst_at + n ≤ length work.old }
     requires apart { Apart dst_at src_at n }
-    ensures { work.new ≡ splice dst_at (generator-by «scaled» tau (csr n starts.now cols.now vals.now) (window src_at n work.old)) work.old }
+    ensures { work.new ≡ splice dst_at (generator_by «scaled» tau (csr n starts.now cols.now vals.now) (window src_at n work.old)) work.old }
 {
     let src_end = src_at + n;
     let mut from = starts[0] as usize;
@@ -75,7 +75,7 @@ fn quotients_in(
     requires count_in_bounds { (q_at + count ≤ length work.old) × (src_at + n ≤ length work.old) × (dst_at + n ≤ length work.old) }
     requires disjoint { Disjoint dst_at n q_at count }
     requires apart { Apart dst_at src_at n }
-    ensures { work.new ≡ splice dst_at (generator-by «scaled» tau (csr n starts.now cols.now (window q_at count work.old)) (window src_at n work.old)) work.old }
+    ensures { work.new ≡ splice dst_at (generator_by «scaled» tau (csr n starts.now cols.now (window q_at count work.old)) (window src_at n work.old)) work.old }
 {
     let q_end = q_at + count;
     let src_end = src_at + n;
@@ -107,7 +107,7 @@ pub fn apply_generator(
     requires n_in_bounds { (src_at + n ≤ length work.old) × (dst_at + n ≤ length work.old) }
     requires apart { Apart dst_at src_at n }
     requires stored { Stored with_mass q_at (length vals.now) dst_at n (length work.old) }
-    ensures { work.new ≡ splice dst_at (generator-by «scaled» tau (csr n starts.now cols.now (values with_mass q_at vals.now work.old)) (window src_at n work.old)) work.old }
+    ensures { work.new ≡ splice dst_at (generator_by «scaled» tau (csr n starts.now cols.now (values with_mass q_at vals.now work.old)) (window src_at n work.old)) work.old }
 {
     if with_mass {
         quotients_in(

@@ -7,13 +7,13 @@ use lib.Ieee.{Float}
 use Rattle.doubles.specs.F64.{◌⊕◌, at, abs}
 use Rattle.general_operator.specs.Csr.{Csr}
 use Rattle.csr_shift.specs.declared.Row.{Row}
-use Rattle.csr_shift.specs.Shift.{row, csr-entry}
+use Rattle.csr_shift.specs.Shift.{row, csr_entry}
 
 module _ (q : Csr) (i p : ℕ) (s : Row) {d r : Float} where
-  pub on-diagonal : get_or q.columns p 0 ≡ i → d ≡ s.diagonal ⊕ at q.entries p → r ≡ s.rest → row d r ≡ csr-entry q i p s
-  unfolding csr-entry
-  on-diagonal t e f = rw (eq-eqb _ _ t, e, f)
+  pub on_diagonal : get_or q.columns p 0 ≡ i → d ≡ s.diagonal ⊕ at q.entries p → r ≡ s.rest → row d r ≡ csr_entry q i p s
+  unfolding csr_entry
+  on_diagonal t e f = rw (eq-eqb _ _ t, e, f)
 
-  pub off-diagonal : (get_or q.columns p 0 ≡ i → ⊥) → d ≡ s.diagonal → r ≡ s.rest ⊕ abs (at q.entries p) → row d r ≡ csr-entry q i p s
-  unfolding csr-entry
-  off-diagonal t e f = rw (ne_eqb _ _ t, e, f)
+  pub off_diagonal : (get_or q.columns p 0 ≡ i → ⊥) → d ≡ s.diagonal → r ≡ s.rest ⊕ abs (at q.entries p) → row d r ≡ csr_entry q i p s
+  unfolding csr_entry
+  off_diagonal t e f = rw (ne_eqb _ _ t, e, f)

@@ -2,7 +2,7 @@
 ghost use Rattle.std.specs.Prelude.{◌≡◌, ◌<◌};
 ghost use Rattle.lists.specs.Find.{find};
 ghost use Rattle.general_operator.specs.Csr.{csr, Valid};
-ghost use Rattle.csr_shift.specs.Shift.{csr-row, generator-row, bad-row, midpoint, shifted-norm, worth, negated-csr-shift};
+ghost use Rattle.csr_shift.specs.Shift.{csr_row, generator_row, bad_row, midpoint, shifted_norm, worth, negated_csr_shift};
 
 use doubles::INF_BITS;
 
@@ -24,7 +24,7 @@ pub enum Shift {
 fn csr_row(n: usize, starts: &[u32], cols: &[u32], vals: &[f64], i: usize) -> Row
     requires valid { Valid (csr n starts.now cols.now vals.now) }
     requires i_lt_n { i < n }
-    ensures { result ≡ csr-row (csr n starts.now cols.now vals.now) i }
+    ensures { result ≡ csr_row (csr n starts.now cols.now vals.now) i }
 {
     let from = starts[i] as usize;
     let count = starts[i + 1] as usize - from;
@@ -49,7 +49,7 @@ fn csr_row(n: usize, starts: &[u32], cols: &[u32], vals: &[f64], i: usize) -> Ro
 fn generator_row(n: usize, starts: &[u32], cols: &[u32], vals: &[f64], i: usize) -> Row
     requires valid { Valid (csr n starts.now cols.now vals.now) }
     requires i_lt_n { i < n }
-    ensures { result ≡ generator-row (csr n starts.now cols.now vals.now) i }
+    ensures { result ≡ generator_row (csr n starts.now cols.now vals.now) i }
 {
     let s = csr_row(n, starts, cols, vals, i);
     Row {
@@ -61,7 +61,7 @@ fn generator_row(n: usize, starts: &[u32], cols: &[u32], vals: &[f64], i: usize)
 fn is_bad_row(n: usize, starts: &[u32], cols: &[u32], vals: &[f64], i: usize) -> bool
     requires valid { Valid (csr n starts.now cols.now vals.now) }
     requires i_lt_n { i < n }
-    ensures { result ≡ bad-row (generator-row (csr n starts.now cols.now vals.now)) i }
+    ensures { result ≡ bad_row (generator_row (csr n starts.now cols.now vals.now)) i }
 {
     let g = generator_row(n, starts, cols, vals, i);
     if g.diagonal != g.diagonal {
@@ -73,7 +73,7 @@ fn is_bad_row(n: usize, starts: &[u32], cols: &[u32], vals: &[f64], i: usize) ->
 // The first row with a NaN, n if there is none.
 fn first_bad_row(n: usize, starts: &[u32], cols: &[u32], vals: &[f64]) -> usize
     requires { Valid (csr n starts.now cols.now vals.now) }
-    ensures { result ≡ find (bad-row (generator-row (csr n starts.now cols.now vals.now))) n }
+    ensures { result ≡ find (bad_row (generator_row (csr n starts.now cols.now vals.now))) n }
 {
     for i in 0..n {
         if is_bad_row(n, starts, cols, vals, i) {
@@ -86,7 +86,7 @@ fn first_bad_row(n: usize, starts: &[u32], cols: &[u32], vals: &[f64]) -> usize
 // The midpoint of the hull. The halves are taken before the sum, which could overflow.
 fn midpoint(n: usize, starts: &[u32], cols: &[u32], vals: &[f64]) -> f64
     requires { Valid (csr n starts.now cols.now vals.now) }
-    ensures { result ≡ midpoint (generator-row (csr n starts.now cols.now vals.now)) n }
+    ensures { result ≡ midpoint (generator_row (csr n starts.now cols.now vals.now)) n }
 {
     let mut high = f64::from_bits(0xfff0_0000_0000_0000);
     let mut low = f64::from_bits(INF_BITS);
@@ -101,7 +101,7 @@ fn midpoint(n: usize, starts: &[u32], cols: &[u32], vals: &[f64]) -> f64
 // The largest row sum of G - mu.
 fn shifted_norm(n: usize, starts: &[u32], cols: &[u32], vals: &[f64], mu: f64) -> f64
     requires { Valid (csr n starts.now cols.now vals.now) }
-    ensures { result ≡ shifted-norm (generator-row (csr n starts.now cols.now vals.now)) n mu }
+    ensures { result ≡ shifted_norm (generator_row (csr n starts.now cols.now vals.now)) n mu }
 {
     let mut norm = 0.0;
     for i in 0..n {
@@ -129,7 +129,7 @@ fn worth(mu: f64, norm: f64, bound: f64) -> bool
 // The shift of G, or none where it does not lower the norm below `bound`. A row with a NaN is looked for first: max and min would skip it.
 pub fn negated_csr_shift(n: usize, starts: &[u32], cols: &[u32], vals: &[f64], bound: f64) -> Shift
     requires { Valid (csr n starts.now cols.now vals.now) }
-    ensures { result ≡ negated-csr-shift (csr n starts.now cols.now vals.now) bound }
+    ensures { result ≡ negated_csr_shift (csr n starts.now cols.now vals.now) bound }
 {
     let bad = first_bad_row(n, starts, cols, vals);
     if bad < n {

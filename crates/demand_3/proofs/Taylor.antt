@@ -11,139 +11,139 @@ use lib.Ieee.{Float, nan, le, of_bits}
 use lib.Ieee.Bits.{is_true}
 use borrow.Author.Tests.{not-false, eq-eqb, eqb-true, lt-ltb, ltb-true}
 use Rattle.lists.specs.Find.{find, exists}
-use Rattle.lists.proofs.Find.{found_at, find-before, find-holds}
+use Rattle.lists.proofs.Find.{found_at, find_before, find_holds}
 use Rattle.doubles.specs.F64.{◌⊕◌, ◌⊗◌, ◌⋖◌, ◌⩽◌, +0, 2f, at, is_finite}
 use Rattle.doubles.proofs.Finite.{holds}
-use Rattle.doubles.proofs.Total.{le-number-left, ⋖-not, ⩽-or-⋖}
-use Rattle.doubles.proofs.Monotone.{finite_number, mul-number, add-nonneg, mul-nonneg}
+use Rattle.doubles.proofs.Total.{le_number_left, ⋖_not, ⩽_or_⋖}
+use Rattle.doubles.proofs.Monotone.{finite_number, mul_number, add_nonneg, mul_nonneg}
 use Rattle.checks.specs.First.{Check, refuse, first, before}
-use Rattle.checks.proofs.First.{unless, first-cons, sound-cons, sound-append, sound-on, stops, passes}
-use Rattle.checks.proofs.Numbers.{before-append, not-by, refused-past, refused-here, only-by, if-by}
+use Rattle.checks.proofs.First.{unless, first_cons, sound_cons, sound_append, sound_on, stops, passes}
+use Rattle.checks.proofs.Numbers.{before_append, not_by, refused_past, refused_here, only_by, if_by}
 use Rattle.checks.specs.declared.Checked.{Checked}
 use Rattle.checks.specs.declared.Checked.TheVariants.{Sound, Refused}
-use Rattle.general_operator.specs.Csr.{Csr, row-sum-norm}
-use Rattle.general_operator.proofs.Sound.{or-false}
+use Rattle.general_operator.specs.Csr.{Csr, row_sum_norm}
+use Rattle.general_operator.proofs.Sound.{or_false}
 use Rattle.generator_action.specs.Generator.{Generator}
-use Rattle.expmv.specs.Select.{select-s-m, admissible, degree, quotient}
+use Rattle.expmv.specs.Select.{select_s_m, admissible, degree, quotient}
 use Rattle.expmv.specs.declared.Selected.{Selected}
 use Rattle.expmv.specs.declared.Selected.TheVariants.{NoRow, Row}
 use Rattle.expmv.proofs.Least as Least
-use Rattle.expmv.proofs.Least.{none_only, none-if}
-use Rattle.pow2.specs.Pow2.{sup, eta-scaling}
+use Rattle.expmv.proofs.Least.{none_only, none_if}
+use Rattle.pow2.specs.Pow2.{sup, eta_scaling}
 use Rattle.phi_action_helpers.specs.Augmented.{Augmented}
 use Rattle.phi_action_helpers.specs.declared.SweepPlan.{SweepPlan}
-use Rattle.phi_shift.specs.Plan.{argument, sweep-plan, plan-of}
+use Rattle.phi_shift.specs.Plan.{argument, sweep_plan, plan_of}
 use Rattle.phi_shift.specs.declared.PlanAnswer.{PlanAnswer}
 use Rattle.phi_shift.specs.declared.PlanAnswer.TheVariants.{NoPlan, Plan}
-use Rattle.phi_shift.proofs.Chosen.{plan-chosen, plan-bounded, chosen-least}
-use Rattle.combination.specs.Call.{Call, unless-refused}
-use Rattle.combination.specs.Combination.{further, eta-of, combination-operator, action-operator}
-use Rattle.combination.specs.Checks.{no_row, out_of_range, count-checks, index-checks, time-checks, degree-checks, plan-checks, length-checks, not-finite-at, finite-checks, magnitude-checks, schedule-checks, memory-checks, vector-checks-by, vector-checks, sweep-checks, job-checks, taylor-need}
+use Rattle.phi_shift.proofs.Chosen.{plan_chosen, plan_bounded, chosen_least}
+use Rattle.combination.specs.Call.{Call, unless_refused}
+use Rattle.combination.specs.Combination.{further, eta_of, combination_operator, action_operator}
+use Rattle.combination.specs.Checks.{no_row, out_of_range, count_checks, index_checks, time_checks, degree_checks, plan_checks, length_checks, not_finite_at, finite_checks, magnitude_checks, schedule_checks, memory_checks, vector_checks_by, vector_checks, sweep_checks, job_checks, taylor_need}
 use Rattle.taylor_job.specs.declared.TaylorReport.{TaylorReport}
 use Rattle.taylor_job.specs.declared.TaylorAnswer.{TaylorAnswer}
 use Rattle.taylor_job.specs.declared.TaylorAnswer.TheVariants.{Refusal, Result}
-use Rattle.taylor_job.specs.Calls.{Fields, after-plan, combination-checks, combination-run, phi-combination, action-checks, phi-action, phi-action-batched}
-use Rattle.demand_3.specs.Taylor.{norm-of, row_fits, TaylorCost, NoRowFits, Exactly25, DegreeRefused, Exactly33, ValueRefused, Exactly17, TaylorClaim}
-use Rattle.demand_3.specs.Demand3.{start_of, operator-of, action-start, action-of}
-use Rattle.demand_3.proofs.Products.{Made, one-made, batch-made}
+use Rattle.taylor_job.specs.Calls.{Fields, after_plan, combination_checks, combination_run, phi_combination, action_checks, phi_action, phi_action_batched}
+use Rattle.demand_3.specs.Taylor.{norm_of, row_fits, TaylorCost, NoRowFits, Exactly25, DegreeRefused, Exactly33, ValueRefused, Exactly17, TaylorClaim}
+use Rattle.demand_3.specs.Demand3.{start_of, operator_of, action_start, action_of}
+use Rattle.demand_3.proofs.Products.{Made, one_made, batch_made}
 
 reported : {a b : TaylorReport} → Result a ≡ Result b → a ≡ b
 reported e = cc
 
 -- an accepted answer, and its output, are those of a job whose checks all passed
-accepted : (x : Checked) (output memory : List Float) (end : Call TaylorAnswer) {r : TaylorReport} → (unless-refused Refusal x output memory end).answer ≡ Result r
-    → (end.answer ≡ Result r) × (end.output ≡ (unless-refused Refusal x output memory end).output)
-unfolding unless-refused
+accepted : (x : Checked) (output memory : List Float) (end : Call TaylorAnswer) {r : TaylorReport} → (unless_refused Refusal x output memory end).answer ≡ Result r
+    → (end.answer ≡ Result r) × (end.output ≡ (unless_refused Refusal x output memory end).output)
+unfolding unless_refused
 accepted Sound output memory end e = (e, refl)
 accepted (Refused k x) output memory end e = let z : zero ≡ 1 = cc in absurd (omega (arith, z))
 
-pub fits-is : (cap : ℕ) (arg : Float) (j : ℕ) → admissible cap arg j ≡ row_fits cap arg j
+pub fits_is : (cap : ℕ) (arg : Float) (j : ℕ) → admissible cap arg j ≡ row_fits cap arg j
 unfolding admissible quotient degree
-fits-is cap arg j = refl
+fits_is cap arg j = refl
 
 module _ (tau : Float) (cap : ℕ) (b : Augmented) (runs : ℕ) (start : ℕ → List Float) (run : SweepPlan → Fields) (made : (p : SweepPlan) → Made b tau runs start p (run p)) where
-  of-plan : (need : ℕ) (output memory : List Float) (x : PlanAnswer) {r : TaylorReport} → sweep-plan cap tau b.matrix (norm-of b) ≡ x → (after-plan need tau (norm-of b) output memory x run).answer ≡ Result r
-      → TaylorCost tau cap b runs start (after-plan need tau (norm-of b) output memory x run).output r
-  unfolding after-plan argument
-  of-plan need output memory NoPlan e f = let z : zero ≡ 1 = cc in absurd (omega (arith, z))
-  of-plan need output memory (Plan p) e f =
-      let c = plan-chosen cap tau b.matrix (norm-of b) e in
+  of_plan : (need : ℕ) (output memory : List Float) (x : PlanAnswer) {r : TaylorReport} → sweep_plan cap tau b.matrix (norm_of b) ≡ x → (after_plan need tau (norm_of b) output memory x run).answer ≡ Result r
+      → TaylorCost tau cap b runs start (after_plan need tau (norm_of b) output memory x run).output r
+  unfolding after_plan argument
+  of_plan need output memory NoPlan e f = let z : zero ≡ 1 = cc in absurd (omega (arith, z))
+  of_plan need output memory (Plan p) e f =
+      let c = plan_chosen cap tau b.matrix (norm_of b) e in
       subst (TaylorCost tau cap b runs start (run p).fields) (reported f)
-      (record { planned = e; capped = (plan-bounded cap tau b.matrix (norm-of b) e).m-allowed; chosen = c; least = λ j l e. chosen-least c j l (fits-is cap _ j ∙ e); applications = (made p).applications; counted = (made p).counted; fields = (made p).fields })
+      (record { planned = e; capped = (plan_bounded cap tau b.matrix (norm_of b) e).m_allowed; chosen = c; least = λ j l e. chosen_least c j l (fits_is cap _ j ∙ e); applications = (made p).applications; counted = (made p).counted; fields = (made p).fields })
 
-  pub of-call : (x : Checked) (need : ℕ) (output memory : List Float) {r : TaylorReport}
-      → (unless-refused Refusal x output memory (after-plan need tau (norm-of b) output memory (sweep-plan cap tau b.matrix (norm-of b)) run)).answer ≡ Result r
-      → TaylorCost tau cap b runs start (unless-refused Refusal x output memory (after-plan need tau (norm-of b) output memory (sweep-plan cap tau b.matrix (norm-of b)) run)).output r
-  of-call x need output memory {r} e =
+  pub of_call : (x : Checked) (need : ℕ) (output memory : List Float) {r : TaylorReport}
+      → (unless_refused Refusal x output memory (after_plan need tau (norm_of b) output memory (sweep_plan cap tau b.matrix (norm_of b)) run)).answer ≡ Result r
+      → TaylorCost tau cap b runs start (unless_refused Refusal x output memory (after_plan need tau (norm_of b) output memory (sweep_plan cap tau b.matrix (norm_of b)) run)).output r
+  of_call x need output memory {r} e =
       let h = accepted x output memory _ e in
-      subst (λ (out : List Float). TaylorCost tau cap b runs start out r) h.1 (of-plan need output memory _ refl h.0)
+      subst (λ (out : List Float). TaylorCost tau cap b runs start out r) h.1 (of_plan need output memory _ refl h.0)
 
 -- ---- 25
 -- tau and the argument are numbers from 0 on where 14 and 24 pass, and so is the norm where the generator's checks do
-two-nonneg : T (+0 ⩽ 2f)
+two_nonneg : T (+0 ⩽ 2f)
 unfolding le of_bits
-two-nonneg = tt
+two_nonneg = tt
 
-in-range : (x : Float) → out_of_range x ≡ false → T (is_finite x) × T (+0 ⩽ x)
+in_range : (x : Float) → out_of_range x ≡ false → T (is_finite x) × T (+0 ⩽ x)
 unfolding out_of_range
-in-range x e =
-    let r = or-false (not (is_finite x)) (x ⋖ +0) e in
+in_range x e =
+    let r = or_false (not (is_finite x)) (x ⋖ +0) e in
     let f = holds (not-false (is_finite x) r.0) in
-    (f, ⊎_elim (λ h. h) (λ h. absurd (true≢false (sym (is_true (x ⋖ +0) h) ∙ r.1))) (⩽-or-⋖ +0 x (le-number-left +0 2f two-nonneg) (finite_number x f)))
+    (f, ⊎_elim (λ h. h) (λ h. absurd (true≢false (sym (is_true (x ⋖ +0) h) ∙ r.1))) (⩽_or_⋖ +0 x (le_number_left +0 2f two_nonneg) (finite_number x f)))
 
-argument-nonneg : (tau norm : Float) → out_of_range tau ≡ false → out_of_range norm ≡ false → T (is_finite (argument tau norm)) → T (+0 ⩽ argument tau norm)
+argument_nonneg : (tau norm : Float) → out_of_range tau ≡ false → out_of_range norm ≡ false → T (is_finite (argument tau norm)) → T (+0 ⩽ argument tau norm)
 unfolding argument
-argument-nonneg tau norm e f g =
-    let t = in-range tau e in
-    let n = in-range norm f in
-    mul-nonneg (tau ⊗ norm ⊕ 2f) 2f (add-nonneg (tau ⊗ norm) 2f (mul-nonneg tau norm t.1 n.1 (mul-number tau norm t.0 n.0)) two-nonneg) two-nonneg (finite_number _ g)
+argument_nonneg tau norm e f g =
+    let t = in_range tau e in
+    let n = in_range norm f in
+    mul_nonneg (tau ⊗ norm ⊕ 2f) 2f (add_nonneg (tau ⊗ norm) 2f (mul_nonneg tau norm t.1 n.1 (mul_number tau norm t.0 n.0)) two_nonneg) two_nonneg (finite_number _ g)
 
-row-none : (s : Selected) → no_row s ≡ true → s ≡ NoRow
-row-none NoRow e = refl
-row-none (Row s m) e = absurd (true≢false (sym e))
+row_none : (s : Selected) → no_row s ≡ true → s ≡ NoRow
+row_none NoRow e = refl
+row_none (Row s m) e = absurd (true≢false (sym e))
 
-none-fits : (cap : ℕ) (arg : Float) → T (is_finite arg) → T (+0 ⩽ arg) → Least.Refused cap arg → (j : ℕ) → j < 22 → admissible cap arg j ≡ false
-none-fits cap arg f g (Least.not_finite e) = absurd (true≢false (sym (is_true (is_finite arg) f) ∙ e))
-none-fits cap arg f g (Least.below-zero e) = absurd (⋖-not arg +0 (holds e) g)
-none-fits cap arg f g (Least.no_row h) = h
+none_fits : (cap : ℕ) (arg : Float) → T (is_finite arg) → T (+0 ⩽ arg) → Least.Refused cap arg → (j : ℕ) → j < 22 → admissible cap arg j ≡ false
+none_fits cap arg f g (Least.not_finite e) = absurd (true≢false (sym (is_true (is_finite arg) f) ∙ e))
+none_fits cap arg f g (Least.below_zero e) = absurd (⋖_not arg +0 (holds e) g)
+none_fits cap arg f g (Least.no_row h) = h
 
-has-plan : (tau : Float) (cap : ℕ) (q : Csr) (norm : Float) → no_row (select-s-m cap (argument tau norm)) ≡ false → sweep-plan cap tau q norm ≡ NoPlan → zero ≡ 1
-unfolding sweep-plan plan-of
-has-plan tau cap q norm h e = go (select-s-m cap (argument tau norm)) h e
+has_plan : (tau : Float) (cap : ℕ) (q : Csr) (norm : Float) → no_row (select_s_m cap (argument tau norm)) ≡ false → sweep_plan cap tau q norm ≡ NoPlan → zero ≡ 1
+unfolding sweep_plan plan_of
+has_plan tau cap q norm h e = go (select_s_m cap (argument tau norm)) h e
   where
-    go : (r : Selected) → no_row r ≡ false → plan-of cap tau q norm r ≡ NoPlan → zero ≡ 1
+    go : (r : Selected) → no_row r ≡ false → plan_of cap tau q norm r ≡ NoPlan → zero ≡ 1
     go NoRow h e = cc
     go (Row s m) h e = cc
 
 -- the checks of a job: before tau's, between tau's and those of the schedule
 module _ (gs xs ys : List Check) (tau : Float) (cap : ℕ) (norm : Float) (memory need : ℕ) where
   abbrev pub in_order : List Check
-  in_order = gs ++ (xs ++ (time-checks tau ++ (ys ++ (schedule-checks cap norm tau ++ memory-checks memory need))))
+  in_order = gs ++ (xs ++ (time_checks tau ++ (ys ++ (schedule_checks cap norm tau ++ memory_checks memory need))))
 
-  abbrev just-before : List Check
-  just-before = refuse 24 (not (is_finite (argument tau norm))) (argument tau norm) ∷ []
+  abbrev just_before : List Check
+  just_before = refuse 24 (not (is_finite (argument tau norm))) (argument tau norm) ∷ []
 
   module _ (rg : Sound ≡ first gs → out_of_range norm ≡ false) (lg : before 25 gs ≡ gs) (lx : before 25 xs ≡ xs) (ly : before 25 ys ≡ ys) where
-    lt : before 25 (time-checks tau) ≡ time-checks tau
-    unfolding before plan-checks time-checks
+    lt : before 25 (time_checks tau) ≡ time_checks tau
+    unfolding before plan_checks time_checks
     lt = refl
 
-    ls : before 25 just-before ≡ just-before
+    ls : before 25 just_before ≡ just_before
     unfolding before
     ls = refl
 
-    last : before 25 (schedule-checks cap norm tau ++ memory-checks memory need) ≡ just-before
-    unfolding before schedule-checks memory-checks
+    last : before 25 (schedule_checks cap norm tau ++ memory_checks memory need) ≡ just_before
+    unfolding before schedule_checks memory_checks
     last = refl
 
-    before-is : before 25 in_order ≡ gs ++ (xs ++ (time-checks tau ++ (ys ++ just-before)))
-    before-is =
-        before-append 25 gs _ lg
-        ∙ ap (λ (r : List Check). gs ++ r) (before-append 25 xs _ lx ∙ ap (λ (r : List Check). xs ++ r) (before-append 25 (time-checks tau) _ lt ∙ ap (λ (r : List Check). time-checks tau ++ r) (before-append 25 ys _ ly ∙ ap (λ (r : List Check). ys ++ r) last)))
+    before_is : before 25 in_order ≡ gs ++ (xs ++ (time_checks tau ++ (ys ++ just_before)))
+    before_is =
+        before_append 25 gs _ lg
+        ∙ ap (λ (r : List Check). gs ++ r) (before_append 25 xs _ lx ∙ ap (λ (r : List Check). xs ++ r) (before_append 25 (time_checks tau) _ lt ∙ ap (λ (r : List Check). time_checks tau ++ r) (before_append 25 ys _ ly ∙ ap (λ (r : List Check). ys ++ r) last)))
 
-    not-26 : {x : Float} → Refused 25 x ≡ first (memory-checks memory need) → ⊥
-    unfolding memory-checks first
-    not-26 {x} e = go (ltb memory need) (e ∙ first-cons 26 (ltb memory need) nan [])
+    not_26 : {x : Float} → Refused 25 x ≡ first (memory_checks memory need) → ⊥
+    unfolding memory_checks first
+    not_26 {x} e = go (ltb memory need) (e ∙ first_cons 26 (ltb memory need) nan [])
       where
         go : (b : Bool) → Refused 25 x ≡ unless b 26 nan Sound → ⊥
         go true e = let n : ◌≡◌ {A = ℕ} 25 26 = cc in absurd (omega (arith, n))
@@ -151,86 +151,86 @@ module _ (gs xs ys : List Check) (tau : Float) (cap : ℕ) (norm : Float) (memor
 
     -- what holds where 14 and 24 pass, and the generator's checks
     ranged : Sound ≡ first (before 25 in_order) → T (is_finite (argument tau norm)) × T (+0 ⩽ argument tau norm)
-    unfolding plan-checks time-checks
+    unfolding plan_checks time_checks
     ranged e =
-        let g = sound-append gs _ (e ∙ ap first before-is) in
-        let x = sound-append xs _ g.1 in
-        let t = sound-append (time-checks tau) _ x.1 in
-        let y = sound-append ys _ t.1 in
-        let f = holds (not-false (is_finite (argument tau norm)) (sound-cons _ _ _ _ y.1).0) in
-        (f, argument-nonneg tau norm (sound-cons _ _ _ _ t.0).0 (rg g.0) f)
+        let g = sound_append gs _ (e ∙ ap first before_is) in
+        let x = sound_append xs _ g.1 in
+        let t = sound_append (time_checks tau) _ x.1 in
+        let y = sound_append ys _ t.1 in
+        let f = holds (not-false (is_finite (argument tau norm)) (sound_cons _ _ _ _ y.1).0) in
+        (f, argument_nonneg tau norm (sound_cons _ _ _ _ t.0).0 (rg g.0) f)
 
-    pub only-25 : {x : Float} → Refused 25 x ≡ first in_order → NoRowFits in_order tau cap norm x
-    unfolding schedule-checks argument
-    only-25 {x} e =
-        let g = refused-past 25 gs _ lg e in
-        let h = refused-past 25 xs _ lx g.1 in
-        let t = refused-past 25 (time-checks tau) _ lt h.1 in
-        let y = refused-past 25 ys _ ly t.1 in
-        let s = refused-past 25 just-before (refuse 25 (no_row (select-s-m cap (argument tau norm))) (argument tau norm) ∷ memory-checks memory need) ls y.1 in
-        let r = refused-here 25 _ _ (memory-checks memory need) not-26 s.1 in
-        let b : Sound ≡ first (before 25 in_order) = sound-on gs _ refl g.0 (sound-on xs _ refl h.0 (sound-on (time-checks tau) _ refl t.0 (sound-on ys _ refl y.0 s.0))) ∙ ap first (sym before-is) in
+    pub only_25 : {x : Float} → Refused 25 x ≡ first in_order → NoRowFits in_order tau cap norm x
+    unfolding schedule_checks argument
+    only_25 {x} e =
+        let g = refused_past 25 gs _ lg e in
+        let h = refused_past 25 xs _ lx g.1 in
+        let t = refused_past 25 (time_checks tau) _ lt h.1 in
+        let y = refused_past 25 ys _ ly t.1 in
+        let s = refused_past 25 just_before (refuse 25 (no_row (select_s_m cap (argument tau norm))) (argument tau norm) ∷ memory_checks memory need) ls y.1 in
+        let r = refused_here 25 _ _ (memory_checks memory need) not_26 s.1 in
+        let b : Sound ≡ first (before 25 in_order) = sound_on gs _ refl g.0 (sound_on xs _ refl h.0 (sound_on (time_checks tau) _ refl t.0 (sound_on ys _ refl y.0 s.0))) ∙ ap first (sym before_is) in
         let f = ranged b in
-        record { earlier = b; none = λ j l. sym (fits-is cap _ j) ∙ none-fits cap _ f.0 f.1 (none_only cap _ (row-none _ r.0)) j l; told = r.1 }
+        record { earlier = b; none = λ j l. sym (fits_is cap _ j) ∙ none_fits cap _ f.0 f.1 (none_only cap _ (row_none _ r.0)) j l; told = r.1 }
 
-    pub if-25 : {x : Float} → NoRowFits in_order tau cap norm x → Refused 25 x ≡ first in_order
-    unfolding schedule-checks argument
-    if-25 {x} h =
-        let g = sound-append gs _ (h.earlier ∙ ap first before-is) in
-        let k = sound-append xs _ g.1 in
-        let t = sound-append (time-checks tau) _ k.1 in
-        let y = sound-append ys _ t.1 in
-        let none : no_row (select-s-m cap (argument tau norm)) ≡ true = ap no_row (none-if cap (argument tau norm) (Least.no_row (λ j l. fits-is cap _ j ∙ h.none j l))) in
-        sound-on gs _ refl g.0 (sound-on xs _ refl k.0 (sound-on (time-checks tau) _ refl t.0 (sound-on ys _ refl y.0 (passes 24 _ _ (sound-cons _ _ _ _ y.1).0 (stops _ none h.told)))))
+    pub if_25 : {x : Float} → NoRowFits in_order tau cap norm x → Refused 25 x ≡ first in_order
+    unfolding schedule_checks argument
+    if_25 {x} h =
+        let g = sound_append gs _ (h.earlier ∙ ap first before_is) in
+        let k = sound_append xs _ g.1 in
+        let t = sound_append (time_checks tau) _ k.1 in
+        let y = sound_append ys _ t.1 in
+        let none : no_row (select_s_m cap (argument tau norm)) ≡ true = ap no_row (none_if cap (argument tau norm) (Least.no_row (λ j l. fits_is cap _ j ∙ h.none j l))) in
+        sound_on gs _ refl g.0 (sound_on xs _ refl k.0 (sound_on (time_checks tau) _ refl t.0 (sound_on ys _ refl y.0 (passes 24 _ _ (sound_cons _ _ _ _ y.1).0 (stops _ none h.told)))))
 
-    planned : Sound ≡ first in_order → no_row (select-s-m cap (argument tau norm)) ≡ false
-    unfolding schedule-checks
+    planned : Sound ≡ first in_order → no_row (select_s_m cap (argument tau norm)) ≡ false
+    unfolding schedule_checks
     planned e =
-        let x = sound-append xs _ (sound-append gs _ e).1 in
-        let y = sound-append ys _ (sound-append (time-checks tau) _ x.1).1 in
-        let s = sound-append (schedule-checks cap norm tau) _ y.1 in
-        (sound-cons _ _ _ _ (sound-cons _ _ _ _ s.0).1).0
+        let x = sound_append xs _ (sound_append gs _ e).1 in
+        let y = sound_append ys _ (sound_append (time_checks tau) _ x.1).1 in
+        let s = sound_append (schedule_checks cap norm tau) _ y.1 in
+        (sound_cons _ _ _ _ (sound_cons _ _ _ _ s.0).1).0
 
     -- of a call
     module _ (q : Csr) (run : SweepPlan → Fields) (output lent : List Float) where
       abbrev call : Checked → Call TaylorAnswer
-      call c = unless-refused Refusal c output lent (after-plan need tau norm output lent (sweep-plan cap tau q norm) run)
+      call c = unless_refused Refusal c output lent (after_plan need tau norm output lent (sweep_plan cap tau q norm) run)
 
-      has-run : (x : PlanAnswer) {k : ℕ} {y : Float} → (x ≡ NoPlan → zero ≡ 1) → (after-plan need tau norm output lent x run).answer ≡ Refusal k y → ⊥
-      unfolding after-plan
-      has-run NoPlan h e = absurd (omega (arith, h refl))
-      has-run (Plan p) h e = let z : zero ≡ 1 = cc in absurd (omega (arith, z))
+      has_run : (x : PlanAnswer) {k : ℕ} {y : Float} → (x ≡ NoPlan → zero ≡ 1) → (after_plan need tau norm output lent x run).answer ≡ Refusal k y → ⊥
+      unfolding after_plan
+      has_run NoPlan h e = absurd (omega (arith, h refl))
+      has_run (Plan p) h e = let z : zero ≡ 1 = cc in absurd (omega (arith, z))
 
-      refusal-of : (c : Checked) {j : ℕ} {x : Float} → c ≡ first in_order → (call c).answer ≡ Refusal j x → Refused j x ≡ first in_order
-      unfolding unless-refused
-      refusal-of Sound e f = absurd (has-run _ (has-plan tau cap q norm (planned e)) f)
-      refusal-of (Refused k y) {j} {x} e f = same f ∙ e
+      refusal_of : (c : Checked) {j : ℕ} {x : Float} → c ≡ first in_order → (call c).answer ≡ Refusal j x → Refused j x ≡ first in_order
+      unfolding unless_refused
+      refusal_of Sound e f = absurd (has_run _ (has_plan tau cap q norm (planned e)) f)
+      refusal_of (Refused k y) {j} {x} e f = same f ∙ e
         where
           same : {i j : ℕ} {x y : Float} → Refusal i x ≡ Refusal j y → Refused j y ≡ Refused i x
           same g = cc
 
       refuses : {x : Float} → NoRowFits in_order tau cap norm x → (call (first in_order)).answer ≡ Refusal 25 x
-      unfolding unless-refused
-      refuses h = rw (← (if-25 h)) refl
+      unfolding unless_refused
+      refuses h = rw (← (if_25 h)) refl
 
       -- the refusals of the call are those of its list
-      pub by-list : (cs : List Check) → cs ≡ in_order → (j : ℕ) (x : Float) → ((call (first cs)).answer ≡ Refusal j x → Refused j x ≡ first cs) × (Refused j x ≡ first cs → (call (first cs)).answer ≡ Refusal j x)
-      unfolding unless-refused
-      by-list cs e j x = rw e (refusal-of (first in_order) refl, λ f. rw (← f) refl)
+      pub by_list : (cs : List Check) → cs ≡ in_order → (j : ℕ) (x : Float) → ((call (first cs)).answer ≡ Refusal j x → Refused j x ≡ first cs) × (Refused j x ≡ first cs → (call (first cs)).answer ≡ Refusal j x)
+      unfolding unless_refused
+      by_list cs e j x = rw e (refusal_of (first in_order) refl, λ f. rw (← f) refl)
 
-      pub exactly-25 : (cs : List Check) → cs ≡ in_order → Exactly25 (call (first cs)) cs tau cap norm
-      exactly-25 cs e x = rw e ((λ f. only-25 (refusal-of (first in_order) refl f)), refuses)
+      pub exactly_25 : (cs : List Check) → cs ≡ in_order → Exactly25 (call (first cs)) cs tau cap norm
+      exactly_25 cs e x = rw e ((λ f. only_25 (refusal_of (first in_order) refl f)), refuses)
 
-      pub never-27 : (cs : List Check) → cs ≡ in_order → before 27 cs ≡ cs → (x : Float) → (call (first cs)).answer ≡ Refusal 27 x → ⊥
-      unfolding unless-refused
-      never-27 cs e low x f = go (first cs) refl f
+      pub never_27 : (cs : List Check) → cs ≡ in_order → before 27 cs ≡ cs → (x : Float) → (call (first cs)).answer ≡ Refusal 27 x → ⊥
+      unfolding unless_refused
+      never_27 cs e low x f = go (first cs) refl f
         where
           number : {i j : ℕ} {x y : Float} → Refusal i x ≡ Refusal j y → i ≡ j
           number g = cc
 
           go : (c : Checked) → c ≡ first cs → (call c).answer ≡ Refusal 27 x → ⊥
-          go Sound d f = absurd (has-run _ (has-plan tau cap q norm (planned (d ∙ ap first e))) f)
-          go (Refused k y) d f = let n : k ≡ 27 = number f in not-by 27 cs low (subst (λ (i : ℕ). Refused i y ≡ first cs) n d)
+          go Sound d f = absurd (has_run _ (has_plan tau cap q norm (planned (d ∙ ap first e))) f)
+          go (Refused k y) d f = let n : k ≡ 27 = number f in not_by 27 cs low (subst (λ (i : ℕ). Refused i y ≡ first cs) n d)
 
 -- ---- 33 and 17
 -- what a call answers is what its list does
@@ -245,194 +245,194 @@ outside cap e = go (eqb cap 0) (ltb 30 cap) refl refl e
     go false true p q e = inr (ltb-true 30 cap q)
     go false false p q e = absurd (true≢false (sym e))
 
-refused-outside : (cap : ℕ) → (cap ≡ 0) ⊎ (30 < cap) → (eqb cap 0 || ltb 30 cap) ≡ true
-refused-outside cap (inl z) = rw (eq-eqb cap 0 z) refl
-refused-outside cap (inr l) = rw (lt-ltb 30 cap l) (or-true (eqb cap 0))
+refused_outside : (cap : ℕ) → (cap ≡ 0) ⊎ (30 < cap) → (eqb cap 0 || ltb 30 cap) ≡ true
+refused_outside cap (inl z) = rw (eq-eqb cap 0 z) refl
+refused_outside cap (inr l) = rw (lt-ltb 30 cap l) (or_true (eqb cap 0))
   where
-    or-true : (b : Bool) → (b || true) ≡ true
-    or-true true = refl
-    or-true false = refl
+    or_true : (b : Bool) → (b || true) ≡ true
+    or_true true = refl
+    or_true false = refl
 
 module _ (cs gs xs ys : List Check) (cap : ℕ) (c : Call TaylorAnswer) (listed : ByList c cs) where
-  exactly-33 : cs ≡ gs ++ (xs ++ (refuse 33 (eqb cap 0 || ltb 30 cap) nan ∷ ys)) → before 33 gs ≡ gs → before 33 xs ≡ xs → before 33 ys ≡ ys → Exactly33 c cs cap
-  exactly-33 e ng nx ny x = (
-    (λ f. let h = only-by 33 _ nan gs xs ys ng nx ny ((listed 33 x).0 f ∙ ap first e) in record { earlier = h.0 ∙ ap (λ (r : List Check). first (before 33 r)) (sym e); outside = outside cap h.1.0; told = h.1.1 }),
-    (λ r. (listed 33 x).1 (if-by 33 _ nan gs xs ys ng nx ny (r.earlier ∙ ap (λ (l : List Check). first (before 33 l)) e) (refused-outside cap r.outside) r.told ∙ ap first (sym e))),
+  exactly_33 : cs ≡ gs ++ (xs ++ (refuse 33 (eqb cap 0 || ltb 30 cap) nan ∷ ys)) → before 33 gs ≡ gs → before 33 xs ≡ xs → before 33 ys ≡ ys → Exactly33 c cs cap
+  exactly_33 e ng nx ny x = (
+    (λ f. let h = only_by 33 _ nan gs xs ys ng nx ny ((listed 33 x).0 f ∙ ap first e) in record { earlier = h.0 ∙ ap (λ (r : List Check). first (before 33 r)) (sym e); outside = outside cap h.1.0; told = h.1.1 }),
+    (λ r. (listed 33 x).1 (if_by 33 _ nan gs xs ys ng nx ny (r.earlier ∙ ap (λ (l : List Check). first (before 33 l)) e) (refused_outside cap r.outside) r.told ∙ ap first (sym e))),
   )
 
-not-true : (b : Bool) → not b ≡ true → b ≡ false
-not-true true e = absurd (true≢false (sym e))
-not-true false e = refl
+not_true : (b : Bool) → not b ≡ true → b ≡ false
+not_true true e = absurd (true≢false (sym e))
+not_true false e = refl
 
 module _ (cs gs xs ys : List Check) (v : List Float) (c : Call TaylorAnswer) (listed : ByList c cs) where
   abbrev bad : ℕ → Bool
   bad i = not (is_finite (at v i))
 
-  exactly-17 : cs ≡ gs ++ (xs ++ (refuse 17 (exists bad (length v)) (at v (find bad (length v))) ∷ ys)) → before 17 gs ≡ gs → before 17 xs ≡ xs → before 17 ys ≡ ys → Exactly17 c cs v
+  exactly_17 : cs ≡ gs ++ (xs ++ (refuse 17 (exists bad (length v)) (at v (find bad (length v))) ∷ ys)) → before 17 gs ≡ gs → before 17 xs ≡ xs → before 17 ys ≡ ys → Exactly17 c cs v
   unfolding exists
-  exactly-17 e ng nx ny x = (only, only_if)
+  exactly_17 e ng nx ny x = (only, only_if)
     where
       only : c.answer ≡ Refusal 17 x → ValueRefused cs v x
       only f =
-          let h = only-by 17 _ _ gs xs ys ng nx ny ((listed 17 x).0 f ∙ ap first e) in
+          let h = only_by 17 _ _ gs xs ys ng nx ny ((listed 17 x).0 f ∙ ap first e) in
           let l = ltb-true (find bad (length v)) (length v) h.1.0 in
           record {
             earlier = h.0 ∙ ap (λ (r : List Check). first (before 17 r)) (sym e);
             place = find bad (length v);
             below = l;
-            not_finite = not-true _ (find-holds bad (length v) l);
-            finite-before = λ j m. not-false _ (find-before bad (length v) j m);
+            not_finite = not_true _ (find_holds bad (length v) l);
+            finite_before = λ j m. not-false _ (find_before bad (length v) j m);
             told = h.1.1;
           }
 
       only_if : ValueRefused cs v x → c.answer ≡ Refusal 17 x
       only_if r =
-          let p = found_at {p = bad} (record { none = λ j m. ap not (r.finite-before j m) }) (length v) r.below (ap not r.not_finite) in
-          (listed 17 x).1 (if-by 17 _ _ gs xs ys ng nx ny (r.earlier ∙ ap (λ (l : List Check). first (before 17 l)) e) (rw (← p) (lt-ltb _ _ r.below)) (r.told ∙ ap (at v) p) ∙ ap first (sym e))
+          let p = found_at {p = bad} (record { none = λ j m. ap not (r.finite_before j m) }) (length v) r.below (ap not r.not_finite) in
+          (listed 17 x).1 (if_by 17 _ _ gs xs ys ng nx ny (r.earlier ∙ ap (λ (l : List Check). first (before 17 l)) e) (rw (← p) (lt-ltb _ _ r.below)) (r.told ∙ ap (at v) p) ∙ ap first (sym e))
 
 -- ---- the three calls
 module _
     (g : Generator)
-    (ranged-norm : Sound ≡ first g.checks → out_of_range (row-sum-norm g.matrix) ≡ false)
-    (none-25 : before 25 g.checks ≡ g.checks)
-    (none-27 : before 27 g.checks ≡ g.checks)
-    (none-17 : before 17 g.checks ≡ g.checks)
-    (none-33 : before 33 g.checks ≡ g.checks)
+    (ranged_norm : Sound ≡ first g.checks → out_of_range (row_sum_norm g.matrix) ≡ false)
+    (none_25 : before 25 g.checks ≡ g.checks)
+    (none_27 : before 27 g.checks ≡ g.checks)
+    (none_17 : before 17 g.checks ≡ g.checks)
+    (none_33 : before 33 g.checks ≡ g.checks)
     (tau : Float) where
   abbrev norm : Float
-  norm = row-sum-norm g.matrix
+  norm = row_sum_norm g.matrix
 
   module _ (cap count : ℕ) (w output memory : List Float) where
-    combination-cost : {r : TaylorReport} → (phi-combination g tau cap count w output memory).answer ≡ Result r
-        → TaylorCost tau cap (operator-of g tau count w) 1 (λ _. start_of g tau count w) (phi-combination g tau cap count w output memory).output r
-    unfolding combination-run phi-combination combination-operator
-    combination-cost e = of-call tau cap (operator-of g tau count w) 1 _ _ (λ p. one-made (operator-of g tau count w) tau p (start_of g tau count w)) _ _ output memory e
+    combination_cost : {r : TaylorReport} → (phi_combination g tau cap count w output memory).answer ≡ Result r
+        → TaylorCost tau cap (operator_of g tau count w) 1 (λ _. start_of g tau count w) (phi_combination g tau cap count w output memory).output r
+    unfolding combination_run phi_combination combination_operator
+    combination_cost e = of_call tau cap (operator_of g tau count w) 1 _ _ (λ p. one_made (operator_of g tau count w) tau p (start_of g tau count w)) _ _ output memory e
 
-    low_count : before 25 (count-checks count) ≡ count-checks count
-    unfolding before count-checks
+    low_count : before 25 (count_checks count) ≡ count_checks count
+    unfolding before count_checks
     low_count = refl
 
-    abbrev of-magnitude : List Check
-    of-magnitude =
+    abbrev of_magnitude : List Check
+    of_magnitude =
         let f = further g.matrix.n w in
-        magnitude-checks g.matrix.n f tau (count - 1) (eta-of g.matrix.n f tau (count - 1)).eta
+        magnitude_checks g.matrix.n f tau (count - 1) (eta_of g.matrix.n f tau (count - 1)).eta
 
     abbrev between : List Check
-    between = degree-checks cap ++ (length-checks (length output) g.matrix.n (length w) (count * g.matrix.n) ++ (finite-checks w ++ of-magnitude))
+    between = degree_checks cap ++ (length_checks (length output) g.matrix.n (length w) (count * g.matrix.n) ++ (finite_checks w ++ of_magnitude))
 
-    low-between : before 25 between ≡ between
-    unfolding before degree-checks length-checks finite-checks magnitude-checks
-    low-between = refl
+    low_between : before 25 between ≡ between
+    unfolding before degree_checks length_checks finite_checks magnitude_checks
+    low_between = refl
 
-    combination-in-order : combination-checks g tau cap count w (length output) (length memory) ≡ in_order g.checks (count-checks count) between tau cap norm (length memory) (taylor-need g.matrix.n (count - 1) g.stored)
-    unfolding combination-checks vector-checks vector-checks-by sweep-checks count-checks plan-checks time-checks degree-checks length-checks finite-checks magnitude-checks
-    combination-in-order = refl
+    combination_in_order : combination_checks g tau cap count w (length output) (length memory) ≡ in_order g.checks (count_checks count) between tau cap norm (length memory) (taylor_need g.matrix.n (count - 1) g.stored)
+    unfolding combination_checks vector_checks vector_checks_by sweep_checks count_checks plan_checks time_checks degree_checks length_checks finite_checks magnitude_checks
+    combination_in_order = refl
 
-    combination-25 : Exactly25 (phi-combination g tau cap count w output memory) (combination-checks g tau cap count w (length output) (length memory)) tau cap norm
-    unfolding combination-run phi-combination
-    combination-25 = exactly-25 _ _ between tau cap norm _ _ ranged-norm none-25 low_count low-between _ _ output memory _ combination-in-order
+    combination_25 : Exactly25 (phi_combination g tau cap count w output memory) (combination_checks g tau cap count w (length output) (length memory)) tau cap norm
+    unfolding combination_run phi_combination
+    combination_25 = exactly_25 _ _ between tau cap norm _ _ ranged_norm none_25 low_count low_between _ _ output memory _ combination_in_order
 
-    low-combination : before 27 (combination-checks g tau cap count w (length output) (length memory)) ≡ combination-checks g tau cap count w (length output) (length memory)
-    unfolding before combination-checks vector-checks vector-checks-by count-checks plan-checks time-checks degree-checks length-checks finite-checks sweep-checks magnitude-checks schedule-checks memory-checks
-    low-combination = before-append 27 g.checks _ none-27
+    low_combination : before 27 (combination_checks g tau cap count w (length output) (length memory)) ≡ combination_checks g tau cap count w (length output) (length memory)
+    unfolding before combination_checks vector_checks vector_checks_by count_checks plan_checks time_checks degree_checks length_checks finite_checks sweep_checks magnitude_checks schedule_checks memory_checks
+    low_combination = before_append 27 g.checks _ none_27
 
-    combination-no-27 : (x : Float) → (phi-combination g tau cap count w output memory).answer ≡ Refusal 27 x → ⊥
-    unfolding combination-run phi-combination
-    combination-no-27 = never-27 _ _ between tau cap norm _ _ ranged-norm none-25 low_count low-between _ _ output memory _ combination-in-order low-combination
+    combination_no_27 : (x : Float) → (phi_combination g tau cap count w output memory).answer ≡ Refusal 27 x → ⊥
+    unfolding combination_run phi_combination
+    combination_no_27 = never_27 _ _ between tau cap norm _ _ ranged_norm none_25 low_count low_between _ _ output memory _ combination_in_order low_combination
 
-    combination-listed : ByList (phi-combination g tau cap count w output memory) (combination-checks g tau cap count w (length output) (length memory))
-    unfolding combination-run phi-combination
-    combination-listed = by-list _ _ between tau cap norm _ _ ranged-norm none-25 low_count low-between _ _ output memory _ combination-in-order
+    combination_listed : ByList (phi_combination g tau cap count w output memory) (combination_checks g tau cap count w (length output) (length memory))
+    unfolding combination_run phi_combination
+    combination_listed = by_list _ _ between tau cap norm _ _ ranged_norm none_25 low_count low_between _ _ output memory _ combination_in_order
 
     -- behind 33, and behind 17
-    abbrev of-lengths : List Check
-    of-lengths = length-checks (length output) g.matrix.n (length w) (count * g.matrix.n)
+    abbrev of_lengths : List Check
+    of_lengths = length_checks (length output) g.matrix.n (length w) (count * g.matrix.n)
 
-    abbrev of-sweeps : List Check
-    of-sweeps = sweep-checks g.matrix.n tau cap (count - 1) (further g.matrix.n w) norm (length memory) (taylor-need g.matrix.n (count - 1) g.stored)
+    abbrev of_sweeps : List Check
+    of_sweeps = sweep_checks g.matrix.n tau cap (count - 1) (further g.matrix.n w) norm (length memory) (taylor_need g.matrix.n (count - 1) g.stored)
 
-    combination-33 : Exactly33 (phi-combination g tau cap count w output memory) (combination-checks g tau cap count w (length output) (length memory)) cap
-    unfolding before combination-checks vector-checks vector-checks-by plan-checks count-checks time-checks degree-checks length-checks finite-checks sweep-checks magnitude-checks schedule-checks memory-checks
-    combination-33 = exactly-33 _ g.checks (count-checks count ++ time-checks tau) (of-lengths ++ (finite-checks w ++ of-sweeps)) cap (phi-combination g tau cap count w output memory) combination-listed refl none-33 refl refl
+    combination_33 : Exactly33 (phi_combination g tau cap count w output memory) (combination_checks g tau cap count w (length output) (length memory)) cap
+    unfolding before combination_checks vector_checks vector_checks_by plan_checks count_checks time_checks degree_checks length_checks finite_checks sweep_checks magnitude_checks schedule_checks memory_checks
+    combination_33 = exactly_33 _ g.checks (count_checks count ++ time_checks tau) (of_lengths ++ (finite_checks w ++ of_sweeps)) cap (phi_combination g tau cap count w output memory) combination_listed refl none_33 refl refl
 
-    combination-17 : Exactly17 (phi-combination g tau cap count w output memory) (combination-checks g tau cap count w (length output) (length memory)) w
-    unfolding before combination-checks vector-checks vector-checks-by plan-checks count-checks time-checks degree-checks length-checks finite-checks not-finite-at sweep-checks magnitude-checks schedule-checks memory-checks
-    combination-17 = exactly-17 _ g.checks (count-checks count ++ (plan-checks tau cap ++ of-lengths)) of-sweeps w (phi-combination g tau cap count w output memory) combination-listed refl none-17 refl refl
+    combination_17 : Exactly17 (phi_combination g tau cap count w output memory) (combination_checks g tau cap count w (length output) (length memory)) w
+    unfolding before combination_checks vector_checks vector_checks_by plan_checks count_checks time_checks degree_checks length_checks finite_checks not_finite_at sweep_checks magnitude_checks schedule_checks memory_checks
+    combination_17 = exactly_17 _ g.checks (count_checks count ++ (plan_checks tau cap ++ of_lengths)) of_sweeps w (phi_combination g tau cap count w output memory) combination_listed refl none_17 refl refl
 
-    pub combination-claim : TaylorClaim (phi-combination g tau cap count w output memory) (combination-checks g tau cap count w (length output) (length memory)) tau cap w (operator-of g tau count w) 1 (λ _. start_of g tau count w)
-    unfolding combination-operator
-    combination-claim = record { accepted = combination-cost; no-degree = combination-33; no_value = combination-17; no-plan = combination-25; no-limit = combination-no-27 }
+    pub combination_claim : TaylorClaim (phi_combination g tau cap count w output memory) (combination_checks g tau cap count w (length output) (length memory)) tau cap w (operator_of g tau count w) 1 (λ _. start_of g tau count w)
+    unfolding combination_operator
+    combination_claim = record { accepted = combination_cost; no_degree = combination_33; no_value = combination_17; no_plan = combination_25; no_limit = combination_no_27 }
 
   module _ (cap k : ℕ) (v output memory : List Float) where
-    low-index : before 25 (index-checks k) ≡ index-checks k
-    unfolding before index-checks
-    low-index = refl
+    low_index : before 25 (index_checks k) ≡ index_checks k
+    unfolding before index_checks
+    low_index = refl
 
     -- 33 and 15 to 17
     abbrev of_field : ℕ → List Check
-    of_field wanted = degree-checks cap ++ (length-checks (length output) wanted (length v) g.matrix.n ++ finite-checks v)
+    of_field wanted = degree_checks cap ++ (length_checks (length output) wanted (length v) g.matrix.n ++ finite_checks v)
 
     low_field : (wanted : ℕ) → before 25 (of_field wanted) ≡ of_field wanted
-    unfolding before degree-checks length-checks finite-checks
+    unfolding before degree_checks length_checks finite_checks
     low_field wanted = refl
 
-    action-in-order : (wanted : ℕ) → action-checks g tau cap k v (length output) wanted (length memory) ≡ in_order g.checks (index-checks k) (of_field wanted) tau cap norm (length memory) (taylor-need g.matrix.n 3 g.stored)
-    unfolding action-checks job-checks plan-checks time-checks degree-checks length-checks finite-checks
-    action-in-order wanted = refl
+    action_in_order : (wanted : ℕ) → action_checks g tau cap k v (length output) wanted (length memory) ≡ in_order g.checks (index_checks k) (of_field wanted) tau cap norm (length memory) (taylor_need g.matrix.n 3 g.stored)
+    unfolding action_checks job_checks plan_checks time_checks degree_checks length_checks finite_checks
+    action_in_order wanted = refl
 
-    action-cost : {r : TaylorReport} → (phi-action g tau cap k v output memory).answer ≡ Result r
-        → TaylorCost tau cap (action-of g v) 1 (λ _. action-start g v k) (phi-action g tau cap k v output memory).output r
-    unfolding phi-action action-operator
-    action-cost e = of-call tau cap (action-of g v) 1 _ _ (λ p. one-made (action-of g v) tau p (action-start g v k)) _ _ output memory e
+    action_cost : {r : TaylorReport} → (phi_action g tau cap k v output memory).answer ≡ Result r
+        → TaylorCost tau cap (action_of g v) 1 (λ _. action_start g v k) (phi_action g tau cap k v output memory).output r
+    unfolding phi_action action_operator
+    action_cost e = of_call tau cap (action_of g v) 1 _ _ (λ p. one_made (action_of g v) tau p (action_start g v k)) _ _ output memory e
 
-    batch-cost : {r : TaylorReport} → (phi-action-batched g tau cap k v output memory).answer ≡ Result r
-        → TaylorCost tau cap (action-of g v) (suc k) (action-start g v) (phi-action-batched g tau cap k v output memory).output r
-    unfolding phi-action-batched action-operator
-    batch-cost e = of-call tau cap (action-of g v) (suc k) _ _ (λ p. batch-made (action-of g v) tau p v (eta-scaling (sup v)).inv (suc k)) _ _ output memory e
+    batch_cost : {r : TaylorReport} → (phi_action_batched g tau cap k v output memory).answer ≡ Result r
+        → TaylorCost tau cap (action_of g v) (suc k) (action_start g v) (phi_action_batched g tau cap k v output memory).output r
+    unfolding phi_action_batched action_operator
+    batch_cost e = of_call tau cap (action_of g v) (suc k) _ _ (λ p. batch_made (action_of g v) tau p v (eta_scaling (sup v)).inv (suc k)) _ _ output memory e
 
     -- of an output of `wanted` values, whatever is run
-    action-exactly : (wanted : ℕ) (run : SweepPlan → Fields)
-        → Exactly25 (unless-refused Refusal (first (action-checks g tau cap k v (length output) wanted (length memory))) output memory (after-plan (taylor-need g.matrix.n 3 g.stored) tau norm output memory (sweep-plan cap tau g.matrix norm) run))
-        (action-checks g tau cap k v (length output) wanted (length memory))
+    action_exactly : (wanted : ℕ) (run : SweepPlan → Fields)
+        → Exactly25 (unless_refused Refusal (first (action_checks g tau cap k v (length output) wanted (length memory))) output memory (after_plan (taylor_need g.matrix.n 3 g.stored) tau norm output memory (sweep_plan cap tau g.matrix norm) run))
+        (action_checks g tau cap k v (length output) wanted (length memory))
         tau
         cap
         norm
-    action-exactly wanted run = exactly-25 g.checks (index-checks k) (of_field wanted) tau cap norm _ _ ranged-norm none-25 low-index (low_field wanted) _ run output memory _ (action-in-order wanted)
+    action_exactly wanted run = exactly_25 g.checks (index_checks k) (of_field wanted) tau cap norm _ _ ranged_norm none_25 low_index (low_field wanted) _ run output memory _ (action_in_order wanted)
 
-    low-action : (wanted : ℕ) → before 27 (action-checks g tau cap k v (length output) wanted (length memory)) ≡ action-checks g tau cap k v (length output) wanted (length memory)
-    unfolding before action-checks job-checks index-checks plan-checks time-checks degree-checks length-checks finite-checks schedule-checks memory-checks
-    low-action wanted = before-append 27 g.checks _ none-27
+    low_action : (wanted : ℕ) → before 27 (action_checks g tau cap k v (length output) wanted (length memory)) ≡ action_checks g tau cap k v (length output) wanted (length memory)
+    unfolding before action_checks job_checks index_checks plan_checks time_checks degree_checks length_checks finite_checks schedule_checks memory_checks
+    low_action wanted = before_append 27 g.checks _ none_27
 
-    action-no-27 : (wanted : ℕ) (run : SweepPlan → Fields) (x : Float)
-        → (unless-refused Refusal (first (action-checks g tau cap k v (length output) wanted (length memory))) output memory (after-plan (taylor-need g.matrix.n 3 g.stored) tau norm output memory (sweep-plan cap tau g.matrix norm) run)).answer ≡ Refusal 27 x → ⊥
-    action-no-27 wanted run = never-27 g.checks (index-checks k) (of_field wanted) tau cap norm _ _ ranged-norm none-25 low-index (low_field wanted) _ run output memory _ (action-in-order wanted) (low-action wanted)
+    action_no_27 : (wanted : ℕ) (run : SweepPlan → Fields) (x : Float)
+        → (unless_refused Refusal (first (action_checks g tau cap k v (length output) wanted (length memory))) output memory (after_plan (taylor_need g.matrix.n 3 g.stored) tau norm output memory (sweep_plan cap tau g.matrix norm) run)).answer ≡ Refusal 27 x → ⊥
+    action_no_27 wanted run = never_27 g.checks (index_checks k) (of_field wanted) tau cap norm _ _ ranged_norm none_25 low_index (low_field wanted) _ run output memory _ (action_in_order wanted) (low_action wanted)
 
     -- of an output of `wanted` values, whatever is run
     module _ (wanted : ℕ) (run : SweepPlan → Fields) where
       abbrev acted : Call TaylorAnswer
-      acted = unless-refused Refusal (first (action-checks g tau cap k v (length output) wanted (length memory))) output memory (after-plan (taylor-need g.matrix.n 3 g.stored) tau norm output memory (sweep-plan cap tau g.matrix norm) run)
+      acted = unless_refused Refusal (first (action_checks g tau cap k v (length output) wanted (length memory))) output memory (after_plan (taylor_need g.matrix.n 3 g.stored) tau norm output memory (sweep_plan cap tau g.matrix norm) run)
 
-      action-listed : ByList acted (action-checks g tau cap k v (length output) wanted (length memory))
-      action-listed = by-list g.checks (index-checks k) (of_field wanted) tau cap norm _ _ ranged-norm none-25 low-index (low_field wanted) _ run output memory _ (action-in-order wanted)
+      action_listed : ByList acted (action_checks g tau cap k v (length output) wanted (length memory))
+      action_listed = by_list g.checks (index_checks k) (of_field wanted) tau cap norm _ _ ranged_norm none_25 low_index (low_field wanted) _ run output memory _ (action_in_order wanted)
 
-      abbrev of-plan-and-host : List Check
-      of-plan-and-host = schedule-checks cap norm tau ++ memory-checks (length memory) (taylor-need g.matrix.n 3 g.stored)
+      abbrev of_plan_and_host : List Check
+      of_plan_and_host = schedule_checks cap norm tau ++ memory_checks (length memory) (taylor_need g.matrix.n 3 g.stored)
 
-      abbrev of-v-lengths : List Check
-      of-v-lengths = length-checks (length output) wanted (length v) g.matrix.n
+      abbrev of_v_lengths : List Check
+      of_v_lengths = length_checks (length output) wanted (length v) g.matrix.n
 
-      action-33 : Exactly33 acted (action-checks g tau cap k v (length output) wanted (length memory)) cap
-      unfolding before action-checks job-checks plan-checks index-checks time-checks degree-checks length-checks finite-checks schedule-checks memory-checks
-      action-33 = exactly-33 _ g.checks (index-checks k ++ time-checks tau) (of-v-lengths ++ (finite-checks v ++ of-plan-and-host)) cap acted action-listed refl none-33 refl refl
+      action_33 : Exactly33 acted (action_checks g tau cap k v (length output) wanted (length memory)) cap
+      unfolding before action_checks job_checks plan_checks index_checks time_checks degree_checks length_checks finite_checks schedule_checks memory_checks
+      action_33 = exactly_33 _ g.checks (index_checks k ++ time_checks tau) (of_v_lengths ++ (finite_checks v ++ of_plan_and_host)) cap acted action_listed refl none_33 refl refl
 
-      action-17 : Exactly17 acted (action-checks g tau cap k v (length output) wanted (length memory)) v
-      unfolding before action-checks job-checks plan-checks index-checks time-checks degree-checks length-checks finite-checks not-finite-at schedule-checks memory-checks
-      action-17 = exactly-17 _ g.checks (index-checks k ++ (plan-checks tau cap ++ of-v-lengths)) of-plan-and-host v acted action-listed refl none-17 refl refl
+      action_17 : Exactly17 acted (action_checks g tau cap k v (length output) wanted (length memory)) v
+      unfolding before action_checks job_checks plan_checks index_checks time_checks degree_checks length_checks finite_checks not_finite_at schedule_checks memory_checks
+      action_17 = exactly_17 _ g.checks (index_checks k ++ (plan_checks tau cap ++ of_v_lengths)) of_plan_and_host v acted action_listed refl none_17 refl refl
 
-    pub action-claim : TaylorClaim (phi-action g tau cap k v output memory) (action-checks g tau cap k v (length output) g.matrix.n (length memory)) tau cap v (action-of g v) 1 (λ _. action-start g v k)
-    unfolding phi-action action-operator
-    action-claim = record { accepted = action-cost; no-degree = action-33 g.matrix.n _; no_value = action-17 g.matrix.n _; no-plan = action-exactly g.matrix.n _; no-limit = action-no-27 g.matrix.n _ }
+    pub action_claim : TaylorClaim (phi_action g tau cap k v output memory) (action_checks g tau cap k v (length output) g.matrix.n (length memory)) tau cap v (action_of g v) 1 (λ _. action_start g v k)
+    unfolding phi_action action_operator
+    action_claim = record { accepted = action_cost; no_degree = action_33 g.matrix.n _; no_value = action_17 g.matrix.n _; no_plan = action_exactly g.matrix.n _; no_limit = action_no_27 g.matrix.n _ }
 
-    pub batch-claim : TaylorClaim (phi-action-batched g tau cap k v output memory) (action-checks g tau cap k v (length output) (suc k * g.matrix.n) (length memory)) tau cap v (action-of g v) (suc k) (action-start g v)
-    unfolding phi-action-batched action-operator
-    batch-claim = record { accepted = batch-cost; no-degree = action-33 (suc k * g.matrix.n) _; no_value = action-17 (suc k * g.matrix.n) _; no-plan = action-exactly (suc k * g.matrix.n) _; no-limit = action-no-27 (suc k * g.matrix.n) _ }
+    pub batch_claim : TaylorClaim (phi_action_batched g tau cap k v output memory) (action_checks g tau cap k v (length output) (suc k * g.matrix.n) (length memory)) tau cap v (action_of g v) (suc k) (action_start g v)
+    unfolding phi_action_batched action_operator
+    batch_claim = record { accepted = batch_cost; no_degree = action_33 (suc k * g.matrix.n) _; no_value = action_17 (suc k * g.matrix.n) _; no_plan = action_exactly (suc k * g.matrix.n) _; no_limit = action_no_27 (suc k * g.matrix.n) _ }

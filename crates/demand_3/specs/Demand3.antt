@@ -1,18 +1,18 @@
 -- Demand 3, one claim on whole runs of the four calls (document 01, 'What demand 3 counts'). Definitions only.
 use Rattle.std.specs.Prelude.{◌≡◌, List, ◌++◌, ℕ, suc, ◌+◌, ◌-◌, ◌*◌, min, ltb, length, Float}
-use Rattle.general_operator.specs.Csr.{row-sum-norm, apply-generator}
+use Rattle.general_operator.specs.Csr.{row_sum_norm, apply_generator}
 use Rattle.generator_action.specs.Generator.{Generator}
-use Rattle.pow2.specs.Pow2.{sup, eta-scaling}
-use Rattle.phi_action_helpers.specs.Augmented.{Augmented, top, bottom, aug-matvec}
+use Rattle.pow2.specs.Pow2.{sup, eta_scaling}
+use Rattle.phi_action_helpers.specs.Augmented.{Augmented, top, bottom, aug_matvec}
 use Rattle.phi_action_helpers.specs.declared.Scales.{Scales}
 use Rattle.lists.specs.Window.{window}
 use Rattle.doubles.specs.F64.{if◌then◌else◌, +0}
 use Rattle.checks.specs.First.{first}
 use Rattle.checks.specs.declared.Checked.TheVariants.{Sound}
-use Rattle.combination.specs.Combination.{further, eta-of, combination-operator, combination-start, action-operator, init-aug-vector}
-use Rattle.taylor_job.specs.Calls.{combination-checks, phi-combination, action-checks, phi-action, phi-action-batched}
+use Rattle.combination.specs.Combination.{further, eta_of, combination_operator, combination_start, action_operator, init_aug_vector}
+use Rattle.taylor_job.specs.Calls.{combination_checks, phi_combination, action_checks, phi_action, phi_action_batched}
 use Rattle.krylov_advance.specs.declared.KrylovPhiReport.{KrylovPhiReport}
-use Rattle.krylov_job.specs.KrylovCall.{bound, krylov-checks, phi-combination-krylov}
+use Rattle.krylov_job.specs.KrylovCall.{bound, krylov_checks, phi_combination_krylov}
 use Rattle.krylov_job.specs.declared.KrylovPhiOptions.{KrylovPhiOptions}
 use Rattle.krylov_job.specs.declared.KrylovAnswer.TheVariants.{Refusal, Result}
 use Rattle.demand_3.specs.Trace.{Run, run_of}
@@ -23,24 +23,24 @@ use Rattle.demand_3.specs.Taylor.{Rows, TaylorClaim}
 abbrev pub start_of : Generator → Float → ℕ → List Float → List Float
 start_of g tau count w =
     let n = g.matrix.n in
-    combination-start n w (count - 1) (eta-of n (further n w) tau (count - 1)).inv
+    combination_start n w (count - 1) (eta_of n (further n w) tau (count - 1)).inv
 
-abbrev pub operator-of : Generator → Float → ℕ → List Float → Augmented
-operator-of g tau count w =
+abbrev pub operator_of : Generator → Float → ℕ → List Float → Augmented
+operator_of g tau count w =
     let f = further g.matrix.n w in
-    combination-operator g.matrix f tau (count - 1) (eta-of g.matrix.n f tau (count - 1)).eta
+    combination_operator g.matrix f tau (count - 1) (eta_of g.matrix.n f tau (count - 1)).eta
 
 -- of phi_k v and the batch
-abbrev pub action-start : Generator → List Float → ℕ → List Float
-action-start g v k = init-aug-vector g.matrix.n v (eta-scaling (sup v)).inv k
+abbrev pub action_start : Generator → List Float → ℕ → List Float
+action_start g v k = init_aug_vector g.matrix.n v (eta_scaling (sup v)).inv k
 
-abbrev pub action-of : Generator → List Float → Augmented
-action-of g v = action-operator g.matrix v (eta-scaling (sup v)).eta
+abbrev pub action_of : Generator → List Float → Augmented
+action_of g v = action_operator g.matrix v (eta_scaling (sup v)).eta
 
 -- the run of a Krylov call
-abbrev pub krylov-run : Generator → Float → ℕ → List Float → KrylovPhiOptions → Run
-krylov-run g tau count w o =
-    run_of (operator-of g tau count w) tau (bound tau (row-sum-norm g.matrix)) o.tol o.m o.max_substeps (start_of g tau count w)
+abbrev pub krylov_run : Generator → Float → ℕ → List Float → KrylovPhiOptions → Run
+krylov_run g tau count w o =
+    run_of (operator_of g tau count w) tau (bound tau (row_sum_norm g.matrix)) o.tol o.m o.max_substeps (start_of g tau count w)
 
 -- M: m clamped to 2 .. max(2, n + d)
 abbrev pub clamped : ℕ → ℕ → ℕ
@@ -51,7 +51,7 @@ abbrev pub OneProduct : Augmented → Scales → List Float → Type 0
 OneProduct b k x =
     let u = window 0 b.matrix.n x in
     let c = window b.matrix.n b.d x in
-    aug-matvec b k x ≡ top b k (apply-generator b.matrix u) u c ++ bottom k b.d c
+    aug_matvec b k x ≡ top b k (apply_generator b.matrix u) u c ++ bottom k b.d c
 
 -- of a generator, a time and what is lent, for every cap, count, index, vector and option
 pub record Demand3 (g : Generator) (tau : Float) (output memory : List Float) : Type 0 where
@@ -61,19 +61,19 @@ pub record Demand3 (g : Generator) (tau : Float) (output memory : List Float) : 
   -- Taylor: the products are exactly s × m for each function, the least of all rows that are admissible up to the cap; 25 exactly where none is, 33 exactly for a
   -- cap that is not 1 to 30, 17 exactly for a value that is not finite
   pub combination : (cap count : ℕ) (w : List Float)
-      → TaylorClaim (phi-combination g tau cap count w output memory) (combination-checks g tau cap count w (length output) (length memory)) tau cap w (operator-of g tau count w) 1 (λ _. start_of g tau count w)
+      → TaylorClaim (phi_combination g tau cap count w output memory) (combination_checks g tau cap count w (length output) (length memory)) tau cap w (operator_of g tau count w) 1 (λ _. start_of g tau count w)
   pub action : (cap k : ℕ) (v : List Float)
-      → TaylorClaim (phi-action g tau cap k v output memory) (action-checks g tau cap k v (length output) g.matrix.n (length memory)) tau cap v (action-of g v) 1 (λ _. action-start g v k)
+      → TaylorClaim (phi_action g tau cap k v output memory) (action_checks g tau cap k v (length output) g.matrix.n (length memory)) tau cap v (action_of g v) 1 (λ _. action_start g v k)
   pub batch : (cap p : ℕ) (v : List Float)
-      → TaylorClaim (phi-action-batched g tau cap p v output memory) (action-checks g tau cap p v (length output) (suc p * g.matrix.n) (length memory)) tau cap v (action-of g v) (suc p) (action-start g v)
+      → TaylorClaim (phi_action_batched g tau cap p v output memory) (action_checks g tau cap p v (length output) (suc p * g.matrix.n) (length memory)) tau cap v (action_of g v) (suc p) (action_start g v)
   -- Krylov: the counts are those of what the run did, and bounded; the rounded sum of its steps is 1 at the last; 27 exactly at the limit
-  pub krylov : (count : ℕ) (w : List Float) (o : KrylovPhiOptions) {r : KrylovPhiReport} → (phi-combination-krylov g tau count w o output memory).answer ≡ Result r
-      → KrylovCost g.matrix.n (clamped o.m (g.matrix.n + (count - 1))) o.max_substeps (start_of g tau count w) (phi-combination-krylov g tau count w o output memory).output (krylov-run g tau count w o) r
-  pub at-limit : (count : ℕ) (w : List Float) (o : KrylovPhiOptions)
-      → Exactly27 (phi-combination-krylov g tau count w o output memory) (krylov-checks g tau count w o (length output) (length memory)) o.max_substeps (krylov-run g tau count w o)
+  pub krylov : (count : ℕ) (w : List Float) (o : KrylovPhiOptions) {r : KrylovPhiReport} → (phi_combination_krylov g tau count w o output memory).answer ≡ Result r
+      → KrylovCost g.matrix.n (clamped o.m (g.matrix.n + (count - 1))) o.max_substeps (start_of g tau count w) (phi_combination_krylov g tau count w o output memory).output (krylov_run g tau count w o) r
+  pub at_limit : (count : ℕ) (w : List Float) (o : KrylovPhiOptions)
+      → Exactly27 (phi_combination_krylov g tau count w o output memory) (krylov_checks g tau count w o (length output) (length memory)) o.max_substeps (krylov_run g tau count w o)
   -- a start of zeros gives a result, all counts and steps 0
-  pub zeros : (count : ℕ) (w : List Float) (o : KrylovPhiOptions) → Sound ≡ first (krylov-checks g tau count w o (length output) (length memory)) → Zeros (start_of g tau count w)
-      → (phi-combination-krylov g tau count w o output memory).answer ≡ Result (record { matvecs = 0; substeps = 0; rejected = 0; est_error = +0; shortest = +0; last = +0 })
+  pub zeros : (count : ℕ) (w : List Float) (o : KrylovPhiOptions) → Sound ≡ first (krylov_checks g tau count w o (length output) (length memory)) → Zeros (start_of g tau count w)
+      → (phi_combination_krylov g tau count w o output memory).answer ≡ Result (record { matvecs = 0; substeps = 0; rejected = 0; est_error = +0; shortest = +0; last = +0 })
   -- 25 and 33 are Taylor's alone
-  pub no-25 : (count : ℕ) (w : List Float) (o : KrylovPhiOptions) (x : Float) → (phi-combination-krylov g tau count w o output memory).answer ≡ Refusal 25 x → ⊥
-  pub no-33 : (count : ℕ) (w : List Float) (o : KrylovPhiOptions) (x : Float) → (phi-combination-krylov g tau count w o output memory).answer ≡ Refusal 33 x → ⊥
+  pub no_25 : (count : ℕ) (w : List Float) (o : KrylovPhiOptions) (x : Float) → (phi_combination_krylov g tau count w o output memory).answer ≡ Refusal 25 x → ⊥
+  pub no_33 : (count : ℕ) (w : List Float) (o : KrylovPhiOptions) (x : Float) → (phi_combination_krylov g tau count w o output memory).answer ≡ Refusal 33 x → ⊥

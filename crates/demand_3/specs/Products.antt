@@ -3,7 +3,7 @@ use Rattle.std.specs.Prelude.{List, ℕ, zero, suc, ◌+◌, Float}
 use Rattle.lists.specs.Loop.{iter, tabulate, zip_with, stack}
 use Rattle.doubles.specs.F64.{if◌then◌else◌, ◌⊕◌}
 use Rattle.vectors.specs.Vectors.{scale}
-use Rattle.phi_action_helpers.specs.Augmented.{Augmented, aug-matvec}
+use Rattle.phi_action_helpers.specs.Augmented.{Augmented, aug_matvec}
 use Rattle.phi_action_helpers.specs.Sweeps.{shifted, scales, rescale}
 use Rattle.phi_action_helpers.specs.declared.SweepPlan.{SweepPlan}
 
@@ -11,7 +11,7 @@ module _ (b : Augmented) (tau : Float) (p : SweepPlan) where
   -- the terms of a sweep from y: y, and each further one the product with the one before it
   unfoldable pub term : List Float → ℕ → List Float
   term y zero = y
-  term y (suc k) = aug-matvec b (scales tau p (k + 1)) (term y k)
+  term y (suc k) = aug_matvec b (scales tau p (k + 1)) (term y k)
 
   -- the field after a sweep: y and its m products added up, times e ^ (mu / s) where the plan is shifted
   unfoldable pub swept : List Float → List Float

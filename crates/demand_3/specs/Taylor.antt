@@ -6,13 +6,13 @@ use Rattle.lists.specs.Loop.{stack}
 use Rattle.lists.specs.Window.{window}
 use Rattle.checks.specs.First.{Check, first, before}
 use Rattle.checks.specs.declared.Checked.TheVariants.{Sound}
-use Rattle.general_operator.specs.Csr.{row-sum-norm}
+use Rattle.general_operator.specs.Csr.{row_sum_norm}
 use Rattle.doubles.specs.F64.{if◌then◌else◌, ◌⊕◌, ◌⊗◌, ◌⊘◌, ◌⩽◌, ◌⋖◌, 1f, 2f, nat, at, is_finite}
 use Rattle.doubles.specs.Whole.{ceil}
 use Rattle.expmv.specs.Select.{degrees, thetas, admissible, sweeps, cost}
 use Rattle.phi_action_helpers.specs.Augmented.{Augmented}
 use Rattle.phi_action_helpers.specs.declared.SweepPlan.{SweepPlan}
-use Rattle.phi_shift.specs.Plan.{plan, sweep-plan, Chosen}
+use Rattle.phi_shift.specs.Plan.{plan, sweep_plan, Chosen}
 use Rattle.phi_shift.specs.declared.PlanAnswer.TheVariants.{Plan}
 use Rattle.combination.specs.Call.{Call}
 use Rattle.taylor_job.specs.declared.TaylorReport.{TaylorReport}
@@ -21,8 +21,8 @@ use Rattle.taylor_job.specs.declared.TaylorAnswer.TheVariants.{Refusal, Result}
 use Rattle.demand_3.specs.Products.{field_at, products}
 
 -- the norm of the generator
-abbrev pub norm-of : Augmented → Float
-norm-of b = row-sum-norm b.matrix
+abbrev pub norm_of : Augmented → Float
+norm_of b = row_sum_norm b.matrix
 
 -- the argument of its plan: (tau × norm + 2) × 2
 abbrev pub asked : Float → Float → Float
@@ -37,39 +37,39 @@ abbrev theta : ℕ → ℕ → Float
 theta m e = round binary64 false m (10 ^ e)
 
 -- s of row j: that ceiling, at least 1
-abbrev pub row-sweeps : Float → ℕ → ℕ
-row-sweeps arg j = if ceil (arg ⊘ get_or thetas j nan) ⋖ 1f then 1 else to_unsigned 32 (ceil (arg ⊘ get_or thetas j nan))
+abbrev pub row_sweeps : Float → ℕ → ℕ
+row_sweeps arg j = if ceil (arg ⊘ get_or thetas j nan) ⋖ 1f then 1 else to_unsigned 32 (ceil (arg ⊘ get_or thetas j nan))
 
 -- the rows that a plan is chosen of (expmv.rs, `THETA_M`): degree and theta of each, which are admissible, and what each costs
 pub record Rows : Type 0 where
-  pub degrees-are : degrees ≡ 1 ∷ 2 ∷ 3 ∷ 4 ∷ 5 ∷ 6 ∷ 7 ∷ 8 ∷ 9 ∷ 10 ∷ 11 ∷ 12 ∷ 13 ∷ 14 ∷ 15 ∷ 16 ∷ 17 ∷ 18 ∷ 19 ∷ 20 ∷ 25 ∷ 30 ∷ []
-  pub thetas-are :
+  pub degrees_are : degrees ≡ 1 ∷ 2 ∷ 3 ∷ 4 ∷ 5 ∷ 6 ∷ 7 ∷ 8 ∷ 9 ∷ 10 ∷ 11 ∷ 12 ∷ 13 ∷ 14 ∷ 15 ∷ 16 ∷ 17 ∷ 18 ∷ 19 ∷ 20 ∷ 25 ∷ 30 ∷ []
+  pub thetas_are :
       thetas ≡ theta 2220 19 ∷ theta 2581 11 ∷ theta 1386 8 ∷ theta 3397 7 ∷ theta 2401 6 ∷ theta 9066 6
       ∷ theta 2384 5 ∷ theta 4991 5 ∷ theta 8958 5 ∷ theta 1442 4 ∷ theta 2142 4 ∷ theta 2996 4
       ∷ theta 3998 4 ∷ theta 5139 4 ∷ theta 6411 4 ∷ theta 7803 4 ∷ theta 9305 4 ∷ theta 1091 3
       ∷ theta 1260 3 ∷ theta 1438 3 ∷ theta 2429 3 ∷ theta 3540 3 ∷ []
   pub fits : (cap : ℕ) (arg : Float) (j : ℕ) → admissible cap arg j ≡ row_fits cap arg j
-  pub all-at-30 : (j : ℕ) → j < 22 → get_or degrees j 0 ≤ 30
-  pub sweeps-are : (arg : Float) (j : ℕ) → sweeps arg j ≡ row-sweeps arg j
-  pub costs : (arg : Float) (j : ℕ) → cost arg j ≡ row-sweeps arg j * get_or degrees j 0
+  pub all_at_30 : (j : ℕ) → j < 22 → get_or degrees j 0 ≤ 30
+  pub sweeps_are : (arg : Float) (j : ℕ) → sweeps arg j ≡ row_sweeps arg j
+  pub costs : (arg : Float) (j : ℕ) → cost arg j ≡ row_sweeps arg j * get_or degrees j 0
 
 -- the plan that a report names
-abbrev pub plan-in : TaylorReport → SweepPlan
-plan-in r = plan r.s r.m r.mu
+abbrev pub plan_in : TaylorReport → SweepPlan
+plan_in r = plan r.s r.m r.mu
 
 -- an accepted job with the operator b, of as many functions as `runs`, each from its start, whose plan has no degree above the cap; r is its report, and
 -- output what it left
 pub record TaylorCost (tau : Float) (cap : ℕ) (b : Augmented) (runs : ℕ) (start : ℕ → List Float) (output : List Float) (r : TaylorReport) : Type 0 where
   -- s, m and mu are the plan's: the first row of least cost up to the cap, and no admissible row costs less
-  pub planned : sweep-plan cap tau b.matrix (norm-of b) ≡ Plan (plan-in r)
+  pub planned : sweep_plan cap tau b.matrix (norm_of b) ≡ Plan (plan_in r)
   pub capped : r.m ≤ cap
-  pub chosen : Chosen cap tau b.matrix (norm-of b) (plan-in r)
-  pub least : (j : ℕ) → j < 22 → row_fits cap (asked tau (norm-of b)) j ≡ true → r.s * r.m ≤ cost (asked tau (norm-of b)) j
+  pub chosen : Chosen cap tau b.matrix (norm_of b) (plan_in r)
+  pub least : (j : ℕ) → j < 22 → row_fits cap (asked tau (norm_of b)) j ≡ true → r.s * r.m ≤ cost (asked tau (norm_of b)) j
   -- the applications are the products that the sweeps of this plan make, and exactly s × m for each function
-  pub applications : r.applications ≡ length (stack runs (λ i. products b tau (plan-in r) (start i)))
+  pub applications : r.applications ≡ length (stack runs (λ i. products b tau (plan_in r) (start i)))
   pub counted : r.applications ≡ runs * (r.s * r.m)
   -- the output is what these sweeps give
-  pub fields : output ≡ stack runs (λ i. window 0 b.matrix.n (field_at b tau (plan-in r) (start i) r.s))
+  pub fields : output ≡ stack runs (λ i. window 0 b.matrix.n (field_at b tau (plan_in r) (start i) r.s))
 
 -- 25 refuses with x: no check in front of it holds, and no row of the unshifted plan up to the cap is admissible; x is the argument
 pub record NoRowFits (cs : List Check) (tau : Float) (cap : ℕ) (norm x : Float) : Type 0 where
@@ -96,7 +96,7 @@ pub record ValueRefused (cs : List Check) (values : List Float) (x : Float) : Ty
   pub place : ℕ
   pub below : place < length values
   pub not_finite : is_finite (at values place) ≡ false
-  pub finite-before : (j : ℕ) → j < place → is_finite (at values j) ≡ true
+  pub finite_before : (j : ℕ) → j < place → is_finite (at values j) ≡ true
   pub told : x ≡ at values place
 
 abbrev pub Exactly17 : Call TaylorAnswer → List Check → List Float → Type 0
@@ -105,7 +105,7 @@ Exactly17 c cs values = (x : Float) → (c.answer ≡ Refusal 17 x → ValueRefu
 -- a Taylor call on these vectors: what it did where it gave a result; 33, 17 and 25; and never 27, which is of Krylov runs
 pub record TaylorClaim (c : Call TaylorAnswer) (cs : List Check) (tau : Float) (cap : ℕ) (vectors : List Float) (b : Augmented) (runs : ℕ) (start : ℕ → List Float) : Type 0 where
   pub accepted : {r : TaylorReport} → c.answer ≡ Result r → TaylorCost tau cap b runs start c.output r
-  pub no-degree : Exactly33 c cs cap
+  pub no_degree : Exactly33 c cs cap
   pub no_value : Exactly17 c cs vectors
-  pub no-plan : Exactly25 c cs tau cap (norm-of b)
-  pub no-limit : (x : Float) → c.answer ≡ Refusal 27 x → ⊥
+  pub no_plan : Exactly25 c cs tau cap (norm_of b)
+  pub no_limit : (x : Float) → c.answer ≡ Refusal 27 x → ⊥

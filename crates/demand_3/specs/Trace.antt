@@ -2,17 +2,17 @@
 -- tau, vectors and tol of a paused run may change at each (document 02, N5); a whole call's run has the same for all. Definitions only.
 use Rattle.std.specs.Prelude.{List, [], ◌∷◌, ◌++◌, map, ℕ, zero, suc, ◌+◌, length, replicate, Float}
 use Rattle.lists.specs.Walk.{Turn, on, out}
-use Rattle.doubles.specs.F64.{◌⊕◌, ◌⊖◌, ◌⊗◌, ◌⊘◌, +0, 1f, minNum, maxNum}
+use Rattle.doubles.specs.F64.{◌⊕◌, ◌⊖◌, ◌⊗◌, ◌⊘◌, +0, 1f, min_num, max_num}
 use Rattle.sqrt.specs.Sqrt.{sqrt}
 use Rattle.vectors.specs.Vectors.{scale}
 use Rattle.dot.specs.Dot.{dot}
-use Rattle.pow2.specs.Pow2.{pow2-scale}
+use Rattle.pow2.specs.Pow2.{pow2_scale}
 use Rattle.pow2.specs.declared.Prescale.{Prescale}
 use Rattle.pow2.specs.declared.Prescale.TheVariants.{By, None}
 use Rattle.phi_action_helpers.specs.Augmented.{Augmented}
 use Rattle.gram_schmidt.specs.Basis.{Setting, Basis, breakdown, full, norm2, apply, arnoldi}
-use Rattle.trial_steps.specs.Trials.{Trying, Tried, accepted, stuck, try-step, trials}
-use Rattle.krylov_advance.specs.Run.{State, End, EPSILON, columns_of, combined, substep, started, setting, clamp-m}
+use Rattle.trial_steps.specs.Trials.{Trying, Tried, accepted, stuck, try_step, trials}
+use Rattle.krylov_advance.specs.Run.{State, End, EPSILON, columns_of, combined, substep, started, setting, clamp_m}
 
 -- a length tried, and the time at which it was
 pub record Attempt : Type 0 where
@@ -26,9 +26,9 @@ lengths step time (suc k) i (on s) = record { time = time; t = s.t } ∷ lengths
 lengths step time (suc k) i (out e) = []
 
 -- the lengths tried in the substep from s, on the basis that it built (trial_steps/specs/Trials: trials)
-unfoldable pub tried-on : Setting → State → Basis → List Attempt
-tried-on p s (breakdown b) = record { time = s.control.time; t = 1f ⊖ s.control.time } ∷ []
-tried-on p s (full b avnorm) = lengths (try-step p s.control.beta b.h avnorm) s.control.time 11 0 (on (record { rejections = 0; t = minNum s.control.next (1f ⊖ s.control.time) }))
+unfoldable pub tried_on : Setting → State → Basis → List Attempt
+tried_on p s (breakdown b) = record { time = s.control.time; t = 1f ⊖ s.control.time } ∷ []
+tried_on p s (full b avnorm) = lengths (try_step p s.control.beta b.h avnorm) s.control.time 11 0 (on (record { rejections = 0; t = min_num s.control.next (1f ⊖ s.control.time) }))
 
 -- an accepted substep: what it was made with; the field it starts from, and the norm taken for it; its basis, and the products made, one with each column; the
 -- lengths tried on it; the length accepted and its error; the field it gives
@@ -44,17 +44,17 @@ pub record Accepted : Type 0 where
   pub to : List Float
 
 -- of the outcome of its trials: nothing where none was accepted
-unfoldable pub accepted-in : Setting → State → Basis → Turn Trying Tried → List Accepted
-accepted-in p s b (on t) = []
-accepted-in p s b (out (stuck arg)) = []
-accepted-in p s b (out (accepted r t f err)) =
-    record { setting = p; from = s.y; norm = s.control.beta; basis = b; products = map (apply p) (columns_of b); tried = tried-on p s b; t = t; err = err; to = combined s.control.beta (columns_of b) f (length s.y) } ∷ []
+unfoldable pub accepted_in : Setting → State → Basis → Turn Trying Tried → List Accepted
+accepted_in p s b (on t) = []
+accepted_in p s b (out (stuck arg)) = []
+accepted_in p s b (out (accepted r t f err)) =
+    record { setting = p; from = s.y; norm = s.control.beta; basis = b; products = map (apply p) (columns_of b); tried = tried_on p s b; t = t; err = err; to = combined s.control.beta (columns_of b) f (length s.y) } ∷ []
 
 -- the substep from s, where it is accepted: the columns once, then lengths tried on them
 unfoldable pub made : Setting → State → List Accepted
 made p s =
     let b = arnoldi p s.y s.control.beta in
-    accepted-in p s b (trials p s.control.beta s.control.next (1f ⊖ s.control.time) b)
+    accepted_in p s b (trials p s.control.beta s.control.next (1f ⊖ s.control.time) b)
 
 -- substeps with these settings, one after the other, until the run ends
 unfoldable pub runs : List Setting → Turn State End → Turn State End
@@ -74,29 +74,29 @@ total f [] = 0
 total f (a ∷ l) = f a + total f l
 
 -- the time after the substeps: one rounded sum for each
-unfoldable pub time-after : Float → List Accepted → Float
-time-after time [] = time
-time-after time (a ∷ l) = time-after (time ⊕ a.t) l
+unfoldable pub time_after : Float → List Accepted → Float
+time_after time [] = time
+time_after time (a ∷ l) = time_after (time ⊕ a.t) l
 
 -- the last length of them (document 02, N10); t where there is none
-unfoldable pub last-after : Float → List Accepted → Float
-last-after t [] = t
-last-after t (a ∷ l) = last-after a.t l
+unfoldable pub last_after : Float → List Accepted → Float
+last_after t [] = t
+last_after t (a ∷ l) = last_after a.t l
 
 -- the field after them
-unfoldable pub field-after : List Float → List Accepted → List Float
-field-after y [] = y
-field-after y (a ∷ l) = field-after a.to l
+unfoldable pub field_after : List Float → List Accepted → List Float
+field_after y [] = y
+field_after y (a ∷ l) = field_after a.to l
 
 -- the estimate after them: each adds its error, or the round-off of its products where that is larger (phi_krylov_arnoldi.rs, `substeps`)
-unfoldable pub estimate-after : Float → List Accepted → Float
-estimate-after e [] = e
-estimate-after e (a ∷ l) = estimate-after (e ⊕ maxNum a.err (a.setting.anorm ⊗ EPSILON ⊗ norm2 a.from)) l
+unfoldable pub estimate_after : Float → List Accepted → Float
+estimate_after e [] = e
+estimate_after e (a ∷ l) = estimate_after (e ⊕ max_num a.err (a.setting.anorm ⊗ EPSILON ⊗ norm2 a.from)) l
 
 -- every length tried in substeps with these settings
 unfoldable pub attempts : List Setting → Turn State End → List Attempt
 attempts [] o = []
-attempts (p ∷ ps) (on s) = tried-on p s (arnoldi p s.y s.control.beta) ++ attempts ps (substep p s)
+attempts (p ∷ ps) (on s) = tried_on p s (arnoldi p s.y s.control.beta) ++ attempts ps (substep p s)
 attempts (p ∷ ps) (out e) = []
 
 -- a run: the setting by which its first length is proposed; those of its substeps, one for each that it may take, of a paused run for each so far; the field
@@ -132,34 +132,34 @@ allowed limit (By f) = limit
 -- its run by the factors (phi_krylov_arnoldi.rs, `expv`): tol times the first norm, M, the limit
 unfoldable pub run_by : Augmented → Float → Float → Float → ℕ → ℕ → List Float → Prescale → Run
 run_by b tau anorm tol m limit y f =
-    let p = setting b tau anorm (tol ⊗ norm2 (scaled y f)) (clamp-m m (length y)) in
+    let p = setting b tau anorm (tol ⊗ norm2 (scaled y f)) (clamp_m m (length y)) in
     record { first = p; settings = replicate (allowed limit f) p; field = scaled y f; prescale = f }
 
 unfoldable pub run_of : Augmented → Float → Float → Float → ℕ → ℕ → List Float → Run
-run_of b tau anorm tol m limit y = run_by b tau anorm tol m limit y (pow2-scale y)
+run_of b tau anorm tol m limit y = run_by b tau anorm tol m limit y (pow2_scale y)
 
 -- ---- what a run did
 -- where it stands: going on, or ended
-abbrev pub status-of : Run → Turn State End
-status-of u = runs u.settings (on (started u.first u.field))
+abbrev pub status_of : Run → Turn State End
+status_of u = runs u.settings (on (started u.first u.field))
 
 -- the substeps accepted, and the lengths tried
-abbrev pub accepted-by : Run → List Accepted
-accepted-by u = trace u.settings (on (started u.first u.field))
+abbrev pub accepted_by : Run → List Accepted
+accepted_by u = trace u.settings (on (started u.first u.field))
 
-abbrev pub tried-by : Run → List Attempt
-tried-by u = attempts u.settings (on (started u.first u.field))
+abbrev pub tried_by : Run → List Attempt
+tried_by u = attempts u.settings (on (started u.first u.field))
 
 -- the time and the field that it reached, and the estimate of its error
-abbrev pub time-of : Run → Float
-time-of u = time-after +0 (accepted-by u)
+abbrev pub time_of : Run → Float
+time_of u = time_after +0 (accepted_by u)
 
 abbrev pub field_of : Run → List Float
-field_of u = field-after u.field (accepted-by u)
+field_of u = field_after u.field (accepted_by u)
 
 -- its field scaled back
 abbrev pub left_by : Run → List Float
 left_by u = unscaled (field_of u) u.prescale
 
-abbrev pub estimate-of : Run → Float
-estimate-of u = estimate-after +0 (accepted-by u)
+abbrev pub estimate_of : Run → Float
+estimate_of u = estimate_after +0 (accepted_by u)

@@ -15,31 +15,31 @@ pub record Halved (norm : Float) (i : ℕ) (s : Float) : Type 0 where
   pub is : s ≡ scale i
   pub left : i + halvings (1100 - i) (above norm s) norm s ≡ squarings norm
 
-pub halved-start : (norm : Float) → Halved norm 0 1f
+pub halved_start : (norm : Float) → Halved norm 0 1f
 unfolding squarings scale iter
-halved-start norm = record { few = omega arith; is = refl; left = omega arith }
+halved_start norm = record { few = omega arith; is = refl; left = omega arith }
 
-halvings-more : (k : ℕ) (b : Bool) (norm s : Float) → b ≡ true → halvings (suc k) b norm s ≡ suc (halvings k (above norm (s ⊗ 1/2f)) norm (s ⊗ 1/2f))
+halvings_more : (k : ℕ) (b : Bool) (norm s : Float) → b ≡ true → halvings (suc k) b norm s ≡ suc (halvings k (above norm (s ⊗ 1/2f)) norm (s ⊗ 1/2f))
 unfolding halvings
-halvings-more k true norm s e = refl
-halvings-more k false norm s e = cc
+halvings_more k true norm s e = refl
+halvings_more k false norm s e = cc
 
-halvings-stop : (k : ℕ) (b : Bool) (norm s : Float) → b ≡ false → halvings k b norm s ≡ 0
+halvings_stop : (k : ℕ) (b : Bool) (norm s : Float) → b ≡ false → halvings k b norm s ≡ 0
 unfolding halvings
-halvings-stop zero b norm s e = refl
-halvings-stop (suc k) false norm s e = refl
-halvings-stop (suc k) true norm s e = cc
+halvings_stop zero b norm s e = refl
+halvings_stop (suc k) false norm s e = refl
+halvings_stop (suc k) true norm s e = cc
 
-halvings-none : (k : ℕ) (b : Bool) (norm s : Float) → k ≡ 0 → halvings k b norm s ≡ 0
+halvings_none : (k : ℕ) (b : Bool) (norm s : Float) → k ≡ 0 → halvings k b norm s ≡ 0
 unfolding halvings
-halvings-none zero b norm s e = refl
-halvings-none (suc k) b norm s e = absurd (omega arith)
+halvings_none zero b norm s e = refl
+halvings_none (suc k) b norm s e = absurd (omega arith)
 
-pub halved-turn : {norm : Float} {i : ℕ} {s : Float} → Halved norm i s → i < 1100 → above norm s ≡ true → Halved norm (i + 1) (s ⊗ 1/2f)
+pub halved_turn : {norm : Float} {i : ℕ} {s : Float} → Halved norm i s → i < 1100 → above norm s ≡ true → Halved norm (i + 1) (s ⊗ 1/2f)
 unfolding scale
-halved-turn {norm} {i} {s} h l e =
+halved_turn {norm} {i} {s} h l e =
     let k : 1100 - i ≡ suc (1100 - (i + 1)) = omega arith in
-    let d = halvings-more (1100 - (i + 1)) (above norm s) norm s e in
+    let d = halvings_more (1100 - (i + 1)) (above norm s) norm s e in
     let f = ap (λ (n : ℕ). halvings n (above norm s) norm s) k in
     record {
       few = omega arith;
@@ -48,11 +48,11 @@ halved-turn {norm} {i} {s} h l e =
     }
 
 -- the test fails, or 1100 are done
-pub halved-stop : {norm : Float} {i : ℕ} {s : Float} → Halved norm i s → above norm s ≡ false → i ≡ squarings norm
-halved-stop {norm} {i} {s} h e = omega (arith, h.left, halvings-stop (1100 - i) (above norm s) norm s e)
+pub halved_stop : {norm : Float} {i : ℕ} {s : Float} → Halved norm i s → above norm s ≡ false → i ≡ squarings norm
+halved_stop {norm} {i} {s} h e = omega (arith, h.left, halvings_stop (1100 - i) (above norm s) norm s e)
 
-pub halved-end : {norm : Float} {i : ℕ} {s : Float} → Halved norm i s → 1100 ≤ i → i ≡ squarings norm
-halved-end {norm} {i} {s} h l = omega (arith, h.left, halvings-none (1100 - i) (above norm s) norm s (omega arith))
+pub halved_end : {norm : Float} {i : ℕ} {s : Float} → Halved norm i s → 1100 ≤ i → i ≡ squarings norm
+halved_end {norm} {i} {s} h l = omega (arith, h.left, halvings_none (1100 - i) (above norm s) norm s (omega arith))
 
-pub halved-whole : {norm : Float} {i : ℕ} {s : Float} → Halved norm i s → i ≡ squarings norm → (i ≡ squarings norm) × (s ≡ scale (squarings norm))
-halved-whole h e = (e, h.is ∙ ap scale e)
+pub halved_whole : {norm : Float} {i : ℕ} {s : Float} → Halved norm i s → i ≡ squarings norm → (i ≡ squarings norm) × (s ≡ scale (squarings norm))
+halved_whole h e = (e, h.is ∙ ap scale e)

@@ -35,26 +35,26 @@ pub record Series : Type 0 where
   pub result : Float
 
 -- the turn of `for d in 1..=18` with d = k + 1
-unfoldable pub series-step : Float → ℕ → Series → Series
-series-step a k s =
+unfoldable pub series_step : Float → ℕ → Series → Series
+series_step a k s =
     let t = matmul s.term a ⊗ (1f ⊘ nat (k + 1)) in
     record { term = t; result = s.result ⊕ t }
 
 -- `term` and `result` after n turns of it, from the identity
 unfoldable pub series : Float → ℕ → Series
-series a n = iter (series-step a) n (record { term = 1f; result = 1f })
+series a n = iter (series_step a) n (record { term = 1f; result = 1f })
 
 -- `result` after n turns of `for _ in 0..squarings`
 unfoldable pub squared : ℕ → Float → Float
 squared n result = iter (λ _ y. matmul y y) n result
 
 -- `dense_exp` of a 1 × 1 matrix with h = 1: e ^ c
-unfoldable pub dense-exp : Float → Float
-dense-exp c =
+unfoldable pub dense_exp : Float → Float
+dense_exp c =
     let n = squarings (norm c) in
     squared n (series (c ⊗ 1f ⊗ scale n) 18).result
 
--- to compute: a line `unfolding open-DenseExp` opens every definition of this file and of those below it
-unfoldable pub open-DenseExp : Unit {0}
-unfolding norm halvings squarings scale series-step series squared dense-exp Rattle.doubles.specs.F64.open-F64 Rattle.lists.specs.Loop.open-Loop
-open-DenseExp = tt
+-- to compute: a line `unfolding open_dense_exp` opens every definition of this file and of those below it
+unfoldable pub open_dense_exp : Unit {0}
+unfolding norm halvings squarings scale series_step series squared dense_exp Rattle.doubles.specs.F64.open_f64 Rattle.lists.specs.Loop.open_loop
+open_dense_exp = tt

@@ -1,6 +1,6 @@
 // The exponential of a double by scaling and squaring, as `dense_exp` of the Rust's dense_la.rs computes it of a 1 × 1 matrix with h = 1.
 ghost use Rattle.std.specs.Prelude.{◌≡◌};
-ghost use Rattle.dense_la.specs.DenseExp.{matmul, norm, squarings, scale, series, squared, dense-exp};
+ghost use Rattle.dense_la.specs.DenseExp.{matmul, norm, squarings, scale, series, squared, dense_exp};
 
 // The product of two 1 × 1 matrices.
 fn matmul(a: f64, b: f64) -> f64
@@ -71,7 +71,7 @@ fn squared(n: u32, y: f64) -> f64
 
 // e ^ c
 pub fn dense_exp(c: f64) -> f64
-    ensures { result ≡ dense-exp c }
+    ensures { result ≡ dense_exp c }
 {
     let s = halvings(norm(c));
     let a = c * 1.0 * s.scale;

@@ -1,7 +1,7 @@
 -- The inner product of two vectors of doubles (phi_krylov.rs, `dot`). Definitions only.
 use Rattle.std.specs.Prelude.{List, ℕ, ◌+◌, ◌*◌, ◌/◌, ◌%◌, length, Float}
 use Rattle.doubles.specs.F64.{◌⊕◌, ◌⊗◌, at}
-use Rattle.doubles.specs.Sum.{sum, open-Sum}
+use Rattle.doubles.specs.Sum.{sum, open_sum}
 use Rattle.dot.specs.declared.Lanes.{Lanes}
 
 -- m products, every fourth from index l: the Rust's acc[l]
@@ -23,7 +23,7 @@ dot x y =
     let acc = lanes x y m in
     acc.acc0 ⊕ acc.acc1 ⊕ (acc.acc2 ⊕ acc.acc3) ⊕ tail (4 * m) x y (length x % 4)
 
--- to compute: a line `unfolding open-Dot` opens every definition of this file and of those below it
-unfoldable pub open-Dot : Unit {0}
-unfolding lane lanes tail dot open-Sum
-open-Dot = tt
+-- to compute: a line `unfolding open_dot` opens every definition of this file and of those below it
+unfoldable pub open_dot : Unit {0}
+unfolding lane lanes tail dot open_sum
+open_dot = tt

@@ -16,29 +16,29 @@ use lib.Ieee.Order.{round_mono, transfer}
 use Rattle.lists.proofs.Bounds.{pred_lt}
 use Rattle.doubles.specs.F64.{◌⩽◌, 1f, is_finite, nonneg}
 use Rattle.doubles.specs.Whole.{ceil, whole_above}
-use Rattle.doubles.proofs.Order.{nonneg-round, View, endless, number, le→cross}
-use Rattle.doubles.proofs.One.{round-one}
+use Rattle.doubles.proofs.Order.{nonneg_round, View, endless, number, le→cross}
+use Rattle.doubles.proofs.One.{round_one}
 
 -- of at least 1
-pub ceil-above-one : {w : Float} → View w → T (1f ⩽ w) → T (nonneg (ceil w)) × T (1f ⩽ ceil w)
+pub ceil_above_one : {w : Float} → View w → T (1f ⩽ w) → T (nonneg (ceil w)) × T (1f ⩽ ceil w)
 unfolding ceil of_bits
-ceil-above-one endless h = (tt, h)
-ceil-above-one (number m e) h =
+ceil_above_one endless h = (tt, h)
+ceil_above_one (number m e) h =
     let c = whole_above (m * up e) (down e) in
-    let l : 1 ≤ c = one-above (m * up e) (down e) (down_pos e) (le_trans (le_of_eq (sym (one-mul (down e)))) (le_trans (le→cross 1 (pos 0) m e h) (le_of_eq (mul-one (m * up e))))) in
-    (nonneg_of c, subst (λ (x : Float). T (x ⩽ round binary64 false c 1)) (round-one 1 (pow_pos 0)) (round_mono binary64 1 1 c 1 (pow_pos 0) (pow_pos 0) (le_trans (le_of_eq (mul-one 1)) (le_trans l (le_of_eq (sym (mul-one c)))))))
+    let l : 1 ≤ c = one_above (m * up e) (down e) (down_pos e) (le_trans (le_of_eq (sym (one-mul (down e)))) (le_trans (le→cross 1 (pos 0) m e h) (le_of_eq (mul-one (m * up e))))) in
+    (nonneg_of c, subst (λ (x : Float). T (x ⩽ round binary64 false c 1)) (round_one 1 (pow_pos 0)) (round_mono binary64 1 1 c 1 (pow_pos 0) (pow_pos 0) (le_trans (le_of_eq (mul-one 1)) (le_trans l (le_of_eq (sym (mul-one c)))))))
   where
-    one-above : (a d : ℕ) → 0 < d → d ≤ a → 1 ≤ (a + (d - 1)) / d
-    one-above a d p h = (le-div_iff_mul-le p).1 (le_trans (le_of_eq (one-mul d)) (le_trans h (le-add_right a (d - 1))))
+    one_above : (a d : ℕ) → 0 < d → d ≤ a → 1 ≤ (a + (d - 1)) / d
+    one_above a d p h = (le-div_iff_mul-le p).1 (le_trans (le_of_eq (one-mul d)) (le_trans h (le-add_right a (d - 1))))
 
     nonneg_of : (c : ℕ) → T (nonneg (round binary64 false c 1))
-    nonneg_of c = nonneg-round binary64 c 1
+    nonneg_of c = nonneg_round binary64 c 1
 
 -- of at most a whole number q
-pub ceil-under : {w : Float} (q : ℕ) (r : Float) → View w → q ≤ 9007199254740992 → HasValue r false q 1 → T (is_finite w) → T (le w r) → (c : ℕ) × HasValue (ceil w) false c 1 × (c ≤ q)
+pub ceil_under : {w : Float} (q : ℕ) (r : Float) → View w → q ≤ 9007199254740992 → HasValue r false q 1 → T (is_finite w) → T (le w r) → (c : ℕ) × HasValue (ceil w) false c 1 × (c ≤ q)
 unfolding ceil
-ceil-under q r endless b h n l = absurd n
-ceil-under q r (number m e) b h n l =
+ceil_under q r endless b h n l = absurd n
+ceil_under q r (number m e) b h n l =
     let c = whole_above (m * up e) (down e) in
     let a : m * up e ≤ q * down e = at_most q r h l in
     let l : c ≤ q = le_trans (div_mono (m * up e + (down e - 1)) (down e) (q * down e + (down e - 1)) (down e) (down_pos e) (down_pos e) (mul-le-mul_right (down e) (add-le-add a (le_refl (down e - 1))))) (le_of_eq (digits_div q (pred_lt (down e) (down_pos e)))) in

@@ -11,14 +11,14 @@ use lib.Ieee.Fits.{down_pos}
 use lib.Ieee.Scale.{round_same}
 use Rattle.doubles.specs.F64.{◌⊗◌, ◌⊘◌, ◌⩽◌, ◌⋖◌, +0, 1f, is_finite}
 use Rattle.doubles.proofs.Arithmetic.{mul_commutes}
-use Rattle.doubles.proofs.Compare.{Above, is-above, positive-size}
-use Rattle.doubles.proofs.Monotone.{mul_mono, mul-number, mul-one-is, finite_number}
+use Rattle.doubles.proofs.Compare.{Above, is_above, positive_size}
+use Rattle.doubles.proofs.Monotone.{mul_mono, mul_number, mul_one_is, finite_number}
 use Rattle.doubles.proofs.Order.{View, endless, number}
-use Rattle.doubles.proofs.Total.{⩽-refl, ⋖-⩽, ⋖-⩽-trans}
+use Rattle.doubles.proofs.Total.{⩽_refl, ⋖_⩽, ⋖_⩽_trans}
 
 -- ---- x / x
-pub round-one : (a : ℕ) → 0 < a → round binary64 false a a ≡ 1f
-round-one a h = round_same binary64 false a a 1 1 h (pow_pos 0) (mul-one a ∙ sym (one-mul a)) ∙ (unfold round of_bits in refl)
+pub round_one : (a : ℕ) → 0 < a → round binary64 false a a ≡ 1f
+round_one a h = round_same binary64 false a a 1 1 h (pow_pos 0) (mul-one a ∙ sym (one-mul a)) ∙ (unfold round of_bits in refl)
 
 pub div_self : (x : Float) → T (is_finite x) → Above x → x ⊘ x ≡ 1f
 unfolding div
@@ -28,20 +28,20 @@ div_self (fin s zero e) h a = absurd a
 div_self (fin true (suc m) e) h a = absurd (true≢false a)
 div_self (fin false (suc m) e) h a =
     ap (λ (b : Bool). cond b (cond (eqb (suc m) 0) nan (inf false)) (round binary64 false (suc m * up e * down e) (suc m * up e * down e))) (eqb-suc-zero m)
-    ∙ round-one (suc m * up e * down e) (mul-pos (positive-size m e) (down_pos e))
+    ∙ round_one (suc m * up e * down e) (mul-pos (positive_size m e) (down_pos e))
 
 -- ---- a product of at least 1 and a number above 0
-inf-mul-above : (t : Float) → T (is_finite t) → Above t → T (+0 ⋖ inf false ⊗ t)
+inf_mul_above : (t : Float) → T (is_finite t) → Above t → T (+0 ⋖ inf false ⊗ t)
 unfolding mul lt of_bits
-inf-mul-above nan n a = absurd a
-inf-mul-above (inf s) n a = absurd n
-inf-mul-above (fin s zero e) n a = absurd a
-inf-mul-above (fin s (suc m) e) n a = subst (λ (x : Float). T (+0 ⋖ x)) (sym (ap (λ (b : Bool). cond b nan (inf (unlike false s))) (eqb-suc-zero m) ∙ ap (λ (b : Bool). inf (unlike false b)) a)) tt
+inf_mul_above nan n a = absurd a
+inf_mul_above (inf s) n a = absurd n
+inf_mul_above (fin s zero e) n a = absurd a
+inf_mul_above (fin s (suc m) e) n a = subst (λ (x : Float). T (+0 ⋖ x)) (sym (ap (λ (b : Bool). cond b nan (inf (unlike false s))) (eqb-suc-zero m) ∙ ap (λ (b : Bool). inf (unlike false b)) a)) tt
 
-pub mul-above : {c : Float} (t : Float) → View c → T (1f ⩽ c) → T (fits binary64 t) → T (is_finite t) → T (+0 ⋖ t) → T (+0 ⋖ c ⊗ t)
-mul-above t endless h f n a = inf-mul-above t n (is-above t (is_true (+0 ⋖ t) a))
-mul-above t (number m e) h f n a =
+pub mul_above : {c : Float} (t : Float) → View c → T (1f ⩽ c) → T (fits binary64 t) → T (is_finite t) → T (+0 ⋖ t) → T (+0 ⋖ c ⊗ t)
+mul_above t endless h f n a = inf_mul_above t n (is_above t (is_true (+0 ⋖ t) a))
+mul_above t (number m e) h f n a =
     let c = fin false m e in
-    ⋖-⩽-trans +0 t (c ⊗ t) a
-    (subst (λ (x : Float). T (x ⩽ c ⊗ t)) (mul_commutes 1f t ∙ mul-one-is t f)
-    (mul_mono 1f c t t (unfold le of_bits in tt) (⋖-⩽ +0 t a) h (⩽-refl t (finite_number t n)) (mul-number 1f t (unfold of_bits in tt) n) (mul-number c t tt n)))
+    ⋖_⩽_trans +0 t (c ⊗ t) a
+    (subst (λ (x : Float). T (x ⩽ c ⊗ t)) (mul_commutes 1f t ∙ mul_one_is t f)
+    (mul_mono 1f c t t (unfold le of_bits in tt) (⋖_⩽ +0 t a) h (⩽_refl t (finite_number t n)) (mul_number 1f t (unfold of_bits in tt) n) (mul_number c t tt n)))

@@ -19,13 +19,13 @@ use Rattle.doubles.specs.Units.{signed, units, NotTiny}
 use Rattle.doubles.specs.Clean.{Clean⊗, Clean⊕}
 use Rattle.doubles.proofs.Total.{sign}
 use Rattle.doubles.proofs.Monotone.{zero_of}
-use Rattle.doubles.proofs.OneRounding.{sum-sign, sum-size, sign-times, size-times, add-by, mul-signed}
-use Rattle.doubles.proofs.Finite.{holds, mul-finite}
-use Rattle.doubles.proofs.Signed.{size-signed, times-signed}
-use Rattle.doubles.proofs.Units.{units-by, size, own, neg_value}
-use Rattle.doubles.proofs.RelativeError.{round-value}
-use Rattle.doubles.proofs.ProductError.{zero_is, normal-size}
-use Rattle.doubles.proofs.KeptDigits.{units-scaled}
+use Rattle.doubles.proofs.OneRounding.{sum_sign, sum_size, sign_times, size_times, add_by, mul_signed}
+use Rattle.doubles.proofs.Finite.{holds, mul_finite}
+use Rattle.doubles.proofs.Signed.{size_signed, times_signed}
+use Rattle.doubles.proofs.Units.{units_by, size, own, neg_value}
+use Rattle.doubles.proofs.RelativeError.{round_value}
+use Rattle.doubles.proofs.ProductError.{zero_is, normal_size}
+use Rattle.doubles.proofs.KeptDigits.{units_scaled}
 
 -- x is ±a and x' is ±a' units of 2 ^ -1074, of one sign, and a' is a * 2 ^ u / 2 ^ v
 pub record Scaled (u v : ℕ) (x x' : Float) : Type 0 where
@@ -39,16 +39,16 @@ pub record Scaled (u v : ℕ) (x x' : Float) : Type 0 where
   pub fit' : T (fits binary64 x')
 
 -- ---- +0, a double as it is, and a factor written otherwise
-pub zero-scaled : (u v : ℕ) → Scaled u v +0 +0
+pub zero_scaled : (u v : ℕ) → Scaled u v +0 +0
 unfolding of_bits
-zero-scaled u v =
+zero_scaled u v =
     record { sign = false; a = 0; a' = 0; value = (refl, refl); value' = (refl, refl); scaled = zero-mul (2 ^ v) ∙ sym (zero-mul (2 ^ u)); fit = of_bits-fits binary64 0; fit' = of_bits-fits binary64 0 }
 
 pub unscaled : (x : Float) → T (fits binary64 x) → T (is_finite x) → Scaled 0 0 x x
 unscaled x f h = record { sign = sign x; a = size x; a' = size x; value = own x f h; value' = own x f h; scaled = refl; fit = f; fit' = f }
 
-pub scaled-as : (u v s t : ℕ) (x x' : Float) → u + t ≡ s + v → Scaled u v x x' → Scaled s t x x'
-scaled-as u v s t x x' e p = record { sign = p.sign; a = p.a; a' = p.a'; value = p.value; value' = p.value'; scaled = other p.a p.a' p.scaled; fit = p.fit; fit' = p.fit' }
+pub scaled_as : (u v s t : ℕ) (x x' : Float) → u + t ≡ s + v → Scaled u v x x' → Scaled s t x x'
+scaled_as u v s t x x' e p = record { sign = p.sign; a = p.a; a' = p.a'; value = p.value; value' = p.value'; scaled = other p.a p.a' p.scaled; fit = p.fit; fit' = p.fit' }
   where
     other : (a a' : ℕ) → a' * 2 ^ v ≡ a * 2 ^ u → a' * 2 ^ t ≡ a * 2 ^ s
     other a a' f =
@@ -56,8 +56,8 @@ scaled-as u v s t x x' e p = record { sign = p.sign; a = p.a; a' = p.a'; value =
         (mul_right_comm a' (2 ^ t) (2 ^ v) ∙ ap (λ (z : ℕ). z * 2 ^ t) f ∙ mul_assoc a (2 ^ u) (2 ^ t) ∙ ap (λ (z : ℕ). a * z) (sym (pow-add 2 u t) ∙ ap (λ (z : ℕ). 2 ^ z) e ∙ pow-add 2 s v) ∙ sym (mul_assoc a (2 ^ s) (2 ^ v)))
 
 -- ---- negation
-pub neg-scaled : (u v : ℕ) (x x' : Float) → Scaled u v x x' → Scaled u v (neg x) (neg x')
-neg-scaled u v x x' p =
+pub neg_scaled : (u v : ℕ) (x x' : Float) → Scaled u v x x' → Scaled u v (neg x) (neg x')
+neg_scaled u v x x' p =
     record {
       sign = not p.sign;
       a = p.a;
@@ -70,45 +70,45 @@ neg-scaled u v x x' p =
     }
 
 -- ---- sums
-sum-scaled : (s t : Bool) (a b a' b' u v : ℕ) → a' * 2 ^ v ≡ a * 2 ^ u → b' * 2 ^ v ≡ b * 2 ^ u → (sum-sign s a' t b' ≡ sum-sign s a t b) × (sum-size s a' t b' * 2 ^ v ≡ sum-size s a t b * 2 ^ u)
-sum-scaled s t a b a' b' u v e f = (
-  sym (sign-times s a' t b' (2 ^ v) (pow_pos v)) ∙ ap (λ (z : ℕ). sum-sign s z t (b' * 2 ^ v)) e ∙ ap (λ (z : ℕ). sum-sign s (a * 2 ^ u) t z) f ∙ sign-times s a t b (2 ^ u) (pow_pos u),
-  sym (size-times s a' t b' (2 ^ v) (pow_pos v)) ∙ ap (λ (z : ℕ). sum-size s z t (b' * 2 ^ v)) e ∙ ap (λ (z : ℕ). sum-size s (a * 2 ^ u) t z) f ∙ size-times s a t b (2 ^ u) (pow_pos u),
+sum_scaled : (s t : Bool) (a b a' b' u v : ℕ) → a' * 2 ^ v ≡ a * 2 ^ u → b' * 2 ^ v ≡ b * 2 ^ u → (sum_sign s a' t b' ≡ sum_sign s a t b) × (sum_size s a' t b' * 2 ^ v ≡ sum_size s a t b * 2 ^ u)
+sum_scaled s t a b a' b' u v e f = (
+  sym (sign_times s a' t b' (2 ^ v) (pow_pos v)) ∙ ap (λ (z : ℕ). sum_sign s z t (b' * 2 ^ v)) e ∙ ap (λ (z : ℕ). sum_sign s (a * 2 ^ u) t z) f ∙ sign_times s a t b (2 ^ u) (pow_pos u),
+  sym (size_times s a' t b' (2 ^ v) (pow_pos v)) ∙ ap (λ (z : ℕ). sum_size s z t (b' * 2 ^ v)) e ∙ ap (λ (z : ℕ). sum_size s (a * 2 ^ u) t z) f ∙ size_times s a t b (2 ^ u) (pow_pos u),
 )
 
 -- a sum of doubles is a whole number of units, so that nothing is lost below 2 ^ -1022
-pub add-scaled : (u v : ℕ) (x x' y y' : Float) → Scaled u v x x' → Scaled u v y y' → Clean⊕ x y → Clean⊕ x' y' → Scaled u v (x ⊕ y) (x' ⊕ y')
-add-scaled u v x x' y y' p q h h' =
+pub add_scaled : (u v : ℕ) (x x' y y' : Float) → Scaled u v x x' → Scaled u v y y' → Clean⊕ x y → Clean⊕ x' y' → Scaled u v (x ⊕ y) (x' ⊕ y')
+add_scaled u v x x' y y' p q h h' =
     let X = 2 ^ 1074 in
-    let w = sum-sign p.sign p.a q.sign q.a in
-    let m = sum-size p.sign p.a q.sign q.a in
-    let m' = sum-size p.sign p.a' q.sign q.a' in
-    let is : x ⊕ y ≡ round binary64 w m X = add-by x y p.sign q.sign p.a q.a X (pow_pos 1074) p.value q.value in
-    let e = sum-scaled p.sign q.sign p.a q.a p.a' q.a' u v p.scaled q.scaled in
-    let is' : x' ⊕ y' ≡ round binary64 w m' X = add-by x' y' p.sign q.sign p.a' q.a' X (pow_pos 1074) p.value' q.value' ∙ ap (λ (z : Bool). round binary64 z m' X) e.0 in
+    let w = sum_sign p.sign p.a q.sign q.a in
+    let m = sum_size p.sign p.a q.sign q.a in
+    let m' = sum_size p.sign p.a' q.sign q.a' in
+    let is : x ⊕ y ≡ round binary64 w m X = add_by x y p.sign q.sign p.a q.a X (pow_pos 1074) p.value q.value in
+    let e = sum_scaled p.sign q.sign p.a q.a p.a' q.a' u v p.scaled q.scaled in
+    let is' : x' ⊕ y' ≡ round binary64 w m' X = add_by x' y' p.sign q.sign p.a' q.a' X (pow_pos 1074) p.value' q.value' ∙ ap (λ (z : Bool). round binary64 z m' X) e.0 in
     record {
       sign = w;
       a = grid binary64 m X;
       a' = grid binary64 m' X;
-      value = subst (λ (z : Float). HasValue z w (grid binary64 m X) X) (sym is) (round-value w m X (subst (λ (z : Float). T (is_finite z)) is (holds h)));
-      value' = subst (λ (z : Float). HasValue z w (grid binary64 m' X) X) (sym is') (round-value w m' X (subst (λ (z : Float). T (is_finite z)) is' (holds h')));
-      scaled = units-scaled m m' u v e.1;
+      value = subst (λ (z : Float). HasValue z w (grid binary64 m X) X) (sym is) (round_value w m X (subst (λ (z : Float). T (is_finite z)) is (holds h)));
+      value' = subst (λ (z : Float). HasValue z w (grid binary64 m' X) X) (sym is') (round_value w m' X (subst (λ (z : Float). T (is_finite z)) is' (holds h')));
+      scaled = units_scaled m m' u v e.1;
       fit = add-fits binary64 x y;
       fit' = add-fits binary64 x' y';
     }
 
-pub sub-scaled : (u v : ℕ) (x x' y y' : Float) → Scaled u v x x' → Scaled u v y y' → Clean⊕ x (neg y) → Clean⊕ x' (neg y') → Scaled u v (x ⊖ y) (x' ⊖ y')
+pub sub_scaled : (u v : ℕ) (x x' y y' : Float) → Scaled u v x x' → Scaled u v y y' → Clean⊕ x (neg y) → Clean⊕ x' (neg y') → Scaled u v (x ⊖ y) (x' ⊖ y')
 unfolding lib.Ieee.sub
-sub-scaled u v x x' y y' p q c c' = add-scaled u v x x' (neg y) (neg y') p (neg-scaled u v y y' q) c c'
+sub_scaled u v x x' y y' p q c c' = add_scaled u v x x' (neg y) (neg y') p (neg_scaled u v y y' q) c c'
 
 -- ---- products
 -- m units of 2 ^ -2148 are 0 or at least 2 ^ -1022
 abbrev Large : ℕ → Type 0
 Large m = (m ≡ 0) ⊎ (2 ^ 1126 ≤ m)
 
-round-scaled : (w : Bool) (m m' u v : ℕ) → m' * 2 ^ v ≡ m * 2 ^ u → Large m → Large m' → T (is_finite (round binary64 w m (2 ^ 2148))) → T (is_finite (round binary64 w m' (2 ^ 2148)))
+round_scaled : (w : Bool) (m m' u v : ℕ) → m' * 2 ^ v ≡ m * 2 ^ u → Large m → Large m' → T (is_finite (round binary64 w m (2 ^ 2148))) → T (is_finite (round binary64 w m' (2 ^ 2148)))
     → Scaled u v (round binary64 w m (2 ^ 2148)) (round binary64 w m' (2 ^ 2148))
-round-scaled w m m' u v e l l' h h' = go l l'
+round_scaled w m m' u v e l l' h h' = go l l'
   where
     C : 0 < 2 ^ 2148
     C = pow_pos 2148
@@ -134,54 +134,54 @@ round-scaled w m m' u v e l l' h h' = go l l'
           sign = w;
           a = grid binary64 m (2 ^ 2148);
           a' = grid binary64 m' (2 ^ 2148);
-          value = round-value w m (2 ^ 2148) h;
-          value' = round-value w m' (2 ^ 2148) h';
+          value = round_value w m (2 ^ 2148) h;
+          value' = round_value w m' (2 ^ 2148) h';
           scaled =
-              sym (grid_scale binary64 m' (2 ^ 2148) v C (normal_of_fraction binary64 m' (2 ^ 2148) C (normal-size m' k')))
+              sym (grid_scale binary64 m' (2 ^ 2148) v C (normal_of_fraction binary64 m' (2 ^ 2148) C (normal_size m' k')))
               ∙ ap (λ (z : ℕ). grid binary64 z (2 ^ 2148)) e
-              ∙ grid_scale binary64 m (2 ^ 2148) u C (normal_of_fraction binary64 m (2 ^ 2148) C (normal-size m k));
+              ∙ grid_scale binary64 m (2 ^ 2148) u C (normal_of_fraction binary64 m (2 ^ 2148) C (normal_size m k));
           fit = round-fits binary64 w m (2 ^ 2148);
           fit' = round-fits binary64 w m' (2 ^ 2148);
         }
 
-product-scaled : (a b a' b' u v s t : ℕ) → a' * 2 ^ v ≡ a * 2 ^ u → b' * 2 ^ t ≡ b * 2 ^ s → a' * b' * 2 ^ (v + t) ≡ a * b * 2 ^ (u + s)
-product-scaled a b a' b' u v s t e f =
+product_scaled : (a b a' b' u v s t : ℕ) → a' * 2 ^ v ≡ a * 2 ^ u → b' * 2 ^ t ≡ b * 2 ^ s → a' * b' * 2 ^ (v + t) ≡ a * b * 2 ^ (u + s)
+product_scaled a b a' b' u v s t e f =
     ap (λ (z : ℕ). a' * b' * z) (pow-add 2 v t) ∙ mul-mul-mul_comm a' b' (2 ^ v) (2 ^ t) ∙ ap (λ (z : ℕ). z * (b' * 2 ^ t)) e ∙ ap (λ (z : ℕ). a * 2 ^ u * z) f
     ∙ mul-mul-mul_comm a (2 ^ u) b (2 ^ s) ∙ ap (λ (z : ℕ). a * b * z) (sym (pow-add 2 u s))
 
-product-size : (x y : Float) (s t : Bool) (a b : ℕ) → HasValue x s a (2 ^ 1074) → HasValue y t b (2 ^ 1074) → nat_abs (units x *ℤ units y) ≡ a * b
-product-size x y s t a b h k =
-    ap (λ (z : ℤ). nat_abs (z *ℤ units y)) (units-by x s a h) ∙ ap (λ (z : ℤ). nat_abs (signed s a *ℤ z)) (units-by y t b k) ∙ ap nat_abs (times-signed s t a b) ∙ size-signed (unlike s t) (a * b)
+product_size : (x y : Float) (s t : Bool) (a b : ℕ) → HasValue x s a (2 ^ 1074) → HasValue y t b (2 ^ 1074) → nat_abs (units x *ℤ units y) ≡ a * b
+product_size x y s t a b h k =
+    ap (λ (z : ℤ). nat_abs (z *ℤ units y)) (units_by x s a h) ∙ ap (λ (z : ℤ). nat_abs (signed s a *ℤ z)) (units_by y t b k) ∙ ap nat_abs (times_signed s t a b) ∙ size_signed (unlike s t) (a * b)
 
-product-large : (x y : Float) (s t : Bool) (a b : ℕ) → HasValue x s a (2 ^ 1074) → HasValue y t b (2 ^ 1074) → NotTiny (2 ^ 1126) (units x *ℤ units y) → Large (a * b)
-product-large x y s t a b h k n = subst Large (product-size x y s t a b h k) n
+product_large : (x y : Float) (s t : Bool) (a b : ℕ) → HasValue x s a (2 ^ 1074) → HasValue y t b (2 ^ 1074) → NotTiny (2 ^ 1126) (units x *ℤ units y) → Large (a * b)
+product_large x y s t a b h k n = subst Large (product_size x y s t a b h k) n
 
-pub mul-scaled : (u v s t : ℕ) (x x' y y' : Float) → Scaled u v x x' → Scaled s t y y' → Clean⊗ x y → Clean⊗ x' y' → Scaled (u + s) (v + t) (x ⊗ y) (x' ⊗ y')
-mul-scaled u v s t x x' y y' p q c c' =
+pub mul_scaled : (u v s t : ℕ) (x x' y y' : Float) → Scaled u v x x' → Scaled s t y y' → Clean⊗ x y → Clean⊗ x' y' → Scaled (u + s) (v + t) (x ⊗ y) (x' ⊗ y')
+mul_scaled u v s t x x' y y' p q c c' =
     let w = unlike p.sign q.sign in
-    let is : x ⊗ y ≡ round binary64 w (p.a * q.a) (2 ^ 2148) = mul-signed x y p.sign q.sign p.a (2 ^ 1074) q.a (2 ^ 1074) (pow_pos 1074) (pow_pos 1074) p.value q.value in
-    let is' : x' ⊗ y' ≡ round binary64 w (p.a' * q.a') (2 ^ 2148) = mul-signed x' y' p.sign q.sign p.a' (2 ^ 1074) q.a' (2 ^ 1074) (pow_pos 1074) (pow_pos 1074) p.value' q.value' in
+    let is : x ⊗ y ≡ round binary64 w (p.a * q.a) (2 ^ 2148) = mul_signed x y p.sign q.sign p.a (2 ^ 1074) q.a (2 ^ 1074) (pow_pos 1074) (pow_pos 1074) p.value q.value in
+    let is' : x' ⊗ y' ≡ round binary64 w (p.a' * q.a') (2 ^ 2148) = mul_signed x' y' p.sign q.sign p.a' (2 ^ 1074) q.a' (2 ^ 1074) (pow_pos 1074) (pow_pos 1074) p.value' q.value' in
     subst (λ (z : Float). Scaled (u + s) (v + t) z (x' ⊗ y')) (sym is)
     (subst (λ (z : Float). Scaled (u + s) (v + t) (round binary64 w (p.a * q.a) (2 ^ 2148)) z) (sym is')
-    (round-scaled w (p.a * q.a) (p.a' * q.a') (u + s) (v + t) (product-scaled p.a q.a p.a' q.a' u v s t p.scaled q.scaled)
-    (product-large x y p.sign q.sign p.a q.a p.value q.value c.not-tiny)
-    (product-large x' y' p.sign q.sign p.a' q.a' p.value' q.value' c'.not-tiny)
+    (round_scaled w (p.a * q.a) (p.a' * q.a') (u + s) (v + t) (product_scaled p.a q.a p.a' q.a' u v s t p.scaled q.scaled)
+    (product_large x y p.sign q.sign p.a q.a p.value q.value c.not_tiny)
+    (product_large x' y' p.sign q.sign p.a' q.a' p.value' q.value' c'.not_tiny)
     (subst (λ (z : Float). T (is_finite z)) is (holds c.finite))
     (subst (λ (z : Float). T (is_finite z)) is' (holds c'.finite))))
 
 -- factors that are scaled the other way round have one product, whatever it is
-pub mul-undone : (s t : ℕ) (x x' y y' : Float) → Scaled t s x x' → Scaled s t y y' → x ⊗ y ≡ x' ⊗ y'
-mul-undone s t x x' y y' p q =
+pub mul_undone : (s t : ℕ) (x x' y y' : Float) → Scaled t s x x' → Scaled s t y y' → x ⊗ y ≡ x' ⊗ y'
+mul_undone s t x x' y y' p q =
     let w = unlike p.sign q.sign in
     let e : p.a' * q.a' ≡ p.a * q.a =
-    eq_of_mul-eq-mul_right (2 ^ (s + t)) (pow_pos (s + t)) _ _ (product-scaled p.a q.a p.a' q.a' t s s t p.scaled q.scaled ∙ ap (λ (k : ℕ). p.a * q.a * 2 ^ k) (add_comm t s)) in
-    mul-signed x y p.sign q.sign p.a (2 ^ 1074) q.a (2 ^ 1074) (pow_pos 1074) (pow_pos 1074) p.value q.value
+    eq_of_mul-eq-mul_right (2 ^ (s + t)) (pow_pos (s + t)) _ _ (product_scaled p.a q.a p.a' q.a' t s s t p.scaled q.scaled ∙ ap (λ (k : ℕ). p.a * q.a * 2 ^ k) (add_comm t s)) in
+    mul_signed x y p.sign q.sign p.a (2 ^ 1074) q.a (2 ^ 1074) (pow_pos 1074) (pow_pos 1074) p.value q.value
     ∙ ap (λ (z : ℕ). round binary64 w z (2 ^ 2148)) (sym e)
-    ∙ sym (mul-signed x' y' p.sign q.sign p.a' (2 ^ 1074) q.a' (2 ^ 1074) (pow_pos 1074) (pow_pos 1074) p.value' q.value')
+    ∙ sym (mul_signed x' y' p.sign q.sign p.a' (2 ^ 1074) q.a' (2 ^ 1074) (pow_pos 1074) (pow_pos 1074) p.value' q.value')
 
 -- a factor that both have, in front or behind; it is finite, since the product is
-pub by-scaled : (u v : ℕ) (k y y' : Float) → T (fits binary64 k) → Scaled u v y y' → Clean⊗ k y → Clean⊗ k y' → Scaled u v (k ⊗ y) (k ⊗ y')
-by-scaled u v k y y' f q c c' = scaled-as (0 + u) (0 + v) u v (k ⊗ y) (k ⊗ y') (omega arith) (mul-scaled 0 0 u v k k y y' (unscaled k f (mul-finite k y (holds c.finite)).0) q c c')
+pub by_scaled : (u v : ℕ) (k y y' : Float) → T (fits binary64 k) → Scaled u v y y' → Clean⊗ k y → Clean⊗ k y' → Scaled u v (k ⊗ y) (k ⊗ y')
+by_scaled u v k y y' f q c c' = scaled_as (0 + u) (0 + v) u v (k ⊗ y) (k ⊗ y') (omega arith) (mul_scaled 0 0 u v k k y y' (unscaled k f (mul_finite k y (holds c.finite)).0) q c c')
 
-pub scaled-by : (u v : ℕ) (y y' k : Float) → T (fits binary64 k) → Scaled u v y y' → Clean⊗ y k → Clean⊗ y' k → Scaled u v (y ⊗ k) (y' ⊗ k)
-scaled-by u v y y' k f q c c' = scaled-as (u + 0) (v + 0) u v (y ⊗ k) (y' ⊗ k) (omega arith) (mul-scaled u v 0 0 y y' k k q (unscaled k f (mul-finite y k (holds c.finite)).1) c c')
+pub scaled_by : (u v : ℕ) (y y' k : Float) → T (fits binary64 k) → Scaled u v y y' → Clean⊗ y k → Clean⊗ y' k → Scaled u v (y ⊗ k) (y' ⊗ k)
+scaled_by u v y y' k f q c c' = scaled_as (u + 0) (v + 0) u v (y ⊗ k) (y' ⊗ k) (omega arith) (mul_scaled u v 0 0 y y' k k q (unscaled k f (mul_finite y k (holds c.finite)).1) c c')

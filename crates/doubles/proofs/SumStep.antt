@@ -13,27 +13,27 @@ abbrev pub Apart : ℕ → ℕ → ℕ → ℕ → ℕ → ℕ → Type 0
 Apart K p q n m B = (K * (p + m) ≤ K * (q + n) + B) × (K * (q + n) ≤ K * (p + m) + B)
 
 -- ---- `Close` with a sign, and with a common factor
-pub close-signed : (s : Bool) (p n : ℕ) → Close p n → Apart 9007199254740992 (over s p) (under s p) (over s n) (under s n) n
-close-signed false p n c =
+pub close_signed : (s : Bool) (p n : ℕ) → Close p n → Apart 9007199254740992 (over s p) (under s p) (over s n) (under s n) n
+close_signed false p n c =
     let a = c.0 in
     let b = c.1 in
     (omega arith, omega arith)
-close-signed true p n c =
+close_signed true p n c =
     let a = c.0 in
     let b = c.1 in
     (omega arith, omega arith)
 
-times-out : (K n x : ℕ) → (K * n + n) * x ≡ K * (n * x) + n * x
-times-out K n x = add-mul (K * n) n x ∙ ap (λ (z : ℕ). z + n * x) (mul_assoc K n x)
+times_out : (K n x : ℕ) → (K * n + n) * x ≡ K * (n * x) + n * x
+times_out K n x = add-mul (K * n) n x ∙ ap (λ (z : ℕ). z + n * x) (mul_assoc K n x)
 
-pub close-times : (p n x : ℕ) → Close p n → Close (p * x) (n * x)
-close-times p n x c =
+pub close_times : (p n x : ℕ) → Close p n → Close (p * x) (n * x)
+close_times p n x c =
     let a = mul-le-mul_right x c.0 in
     let b = mul-le-mul_right x c.1 in
     (omega arith, omega arith)
 
-pub close-cancel : (p n x : ℕ) → 0 < x → Close (p * x) (n * x) → Close p n
-close-cancel p n x X c =
+pub close_cancel : (p n x : ℕ) → 0 < x → Close (p * x) (n * x) → Close p n
+close_cancel p n x X c =
     let a = c.0 in
     let b = c.1 in
     (le_of_mul-le-mul_right (omega arith) X, le_of_mul-le-mul_right (omega arith) X)
@@ -48,53 +48,53 @@ module _
     (hP : Apart 9007199254740992 PP PN ep en (ep + en))
     (hS : Apart 4503599627370496 SP SN EP EN B)
     (small : B ≤ 4503599627370496 * (EP + EN)) where
-  before-near : (SP + EN ≤ SN + EP + (EP + EN)) × (SN + EP ≤ SP + EN + (EP + EN))
-  before-near =
+  before_near : (SP + EN ≤ SN + EP + (EP + EN)) × (SN + EP ≤ SP + EN + (EP + EN))
+  before_near =
       let a = hS.0 in
       let b = hS.1 in
       (omega arith, omega arith)
 
-  term-near : (PP + en ≤ PN + ep + (ep + en)) × (PN + ep ≤ PP + en + (ep + en))
-  term-near =
+  term_near : (PP + en ≤ PN + ep + (ep + en)) × (PN + ep ≤ PP + en + (ep + en))
+  term_near =
       let a = hP.0 in
       let b = hP.1 in
       (omega arith, omega arith)
 
   -- |S + P| is at most 2 (A + a)
-  total-near : MP + MN ≤ 2 * (EP + EN) + 2 * (ep + en)
-  total-near =
-      let a = before-near.0 in
-      let b = before-near.1 in
-      let c = term-near.0 in
-      let d = term-near.1 in
+  total_near : MP + MN ≤ 2 * (EP + EN) + 2 * (ep + en)
+  total_near =
+      let a = before_near.0 in
+      let b = before_near.1 in
+      let c = term_near.0 in
+      let d = term_near.1 in
       elim one [ inl z ↦ omega arith | inr z ↦ omega arith ]
 
-  result-near : Apart 4503599627370496 TP TN MP MN ((EP + EN) + (ep + en))
-  result-near =
+  result_near : Apart 4503599627370496 TP TN MP MN ((EP + EN) + (ep + en))
+  result_near =
       let a = hT.0 in
       let b = hT.1 in
-      let c = total-near in
+      let c = total_near in
       (omega arith, omega arith)
 
-  rounded-near : Apart 4503599627370496 PP PN ep en (ep + en)
-  rounded-near =
+  rounded_near : Apart 4503599627370496 PP PN ep en (ep + en)
+  rounded_near =
       let a = hP.0 in
       let b = hP.1 in
       (omega arith, omega arith)
 
   pub added : Apart 4503599627370496 TP TN (EP + ep) (EN + en) (B + (EP + EN) + 2 * (ep + en))
   added =
-      let a = result-near.0 in
-      let b = result-near.1 in
-      let c = rounded-near.0 in
-      let d = rounded-near.1 in
+      let a = result_near.0 in
+      let b = result_near.1 in
+      let c = rounded_near.0 in
+      let d = rounded_near.1 in
       let e = hS.0 in
       let f = hS.1 in
       (omega arith, omega arith)
 
 -- the bound of k + 1 terms, from that of k, for k from 1
-pub bound-more : (k A a : ℕ) → 0 < k → k * A + A + 2 * a ≤ suc k * (A + a)
-bound-more k A a h = let b = mul-le-mul_right a h in omega arith
+pub bound_more : (k A a : ℕ) → 0 < k → k * A + A + 2 * a ≤ suc k * (A + a)
+bound_more k A a h = let b = mul-le-mul_right a h in omega arith
 
 pub widened : (K p q n m B B' : ℕ) → B ≤ B' → Apart K p q n m B → Apart K p q n m B'
 widened K p q n m B B' h e =

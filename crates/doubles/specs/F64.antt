@@ -51,11 +51,11 @@ abbrev pub 1/2f : Float
 1/2f = bits 0x3fe0_0000_0000_0000
 
 -- +infinity, and its pattern: those below it are the finite numbers whose sign is clear
-abbrev pub INF-BITS : ℕ
-INF-BITS = 0x7ff0_0000_0000_0000
+abbrev pub INF_BITS : ℕ
+INF_BITS = 0x7ff0_0000_0000_0000
 
 abbrev pub +∞ : Float
-+∞ = bits INF-BITS
++∞ = bits INF_BITS
 
 -- element i; a read past the end gives NaN, and no code makes one
 abbrev pub at : List Float → ℕ → Float
@@ -85,14 +85,14 @@ replaced nan y b = y
 replaced (inf s) y b = if b then y else inf s
 replaced (fin s m e) y b = if b then y else fin s m e
 
--- Rust's `f64::max` and `f64::min` (IEEE 754-2008, 5.3.1: maxNum, minNum): a NaN operand is dropped; of two equal operands the first is given
-unfoldable pub maxNum : Float → Float → Float
-maxNum x y = replaced x y (x ⋖ y)
+-- Rust's `f64::max` and `f64::min` (IEEE 754-2008, 5.3.1: max_num, min_num): a NaN operand is dropped; of two equal operands the first is given
+unfoldable pub max_num : Float → Float → Float
+max_num x y = replaced x y (x ⋖ y)
 
-unfoldable pub minNum : Float → Float → Float
-minNum x y = replaced x y (y ⋖ x)
+unfoldable pub min_num : Float → Float → Float
+min_num x y = replaced x y (y ⋖ x)
 
--- to compute: a line `unfolding open-F64` opens every definition of this file and of `lib.Ieee`
-unfoldable pub open-F64 : Unit {0}
-unfolding replaced maxNum minNum lib.Ieee.round lib.Ieee.add lib.Ieee.sub lib.Ieee.mul lib.Ieee.div lib.Ieee.neg lib.Ieee.lt lib.Ieee.le lib.Ieee.eq lib.Ieee.of_int lib.Ieee.of_bits lib.Ieee.to_bits lib.Ieee.to_unsigned lib.Ieee.size
-open-F64 = tt
+-- to compute: a line `unfolding open_f64` opens every definition of this file and of `lib.Ieee`
+unfoldable pub open_f64 : Unit {0}
+unfolding replaced max_num min_num lib.Ieee.round lib.Ieee.add lib.Ieee.sub lib.Ieee.mul lib.Ieee.div lib.Ieee.neg lib.Ieee.lt lib.Ieee.le lib.Ieee.eq lib.Ieee.of_int lib.Ieee.of_bits lib.Ieee.to_bits lib.Ieee.to_unsigned lib.Ieee.size
+open_f64 = tt

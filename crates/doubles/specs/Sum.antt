@@ -7,7 +7,7 @@ use Rattle.doubles.specs.F64.{◌⊕◌, +0}
 unfoldable pub sum : ℕ → (ℕ → Float) → Float
 sum n f = iter (λ k s. s ⊕ f k) n +0
 
--- to compute: a line `unfolding open-Sum` opens every definition of this file and of those below it
-unfoldable pub open-Sum : Unit {0}
-unfolding sum Rattle.lists.specs.Loop.open-Loop Rattle.doubles.specs.F64.open-F64
-open-Sum = tt
+-- to compute: a line `unfolding open_sum` opens every definition of this file and of those below it
+unfoldable pub open_sum : Unit {0}
+unfolding sum Rattle.lists.specs.Loop.open_loop Rattle.doubles.specs.F64.open_f64
+open_sum = tt

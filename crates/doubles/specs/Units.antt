@@ -23,7 +23,7 @@ Doubles x = (k : ℕ) → T (fits binary64 (at x k))
 abbrev pub NotTiny : ℕ → ℤ → Type 0
 NotTiny k z = (nat_abs z ≡ 0) ⊎ (k ≤ nat_abs z)
 
--- to compute: a line `unfolding open-Units` opens every definition of this file and of those below it
-unfoldable pub open-Units : Unit {0}
-unfolding units Rattle.doubles.specs.F64.open-F64
-open-Units = tt
+-- to compute: a line `unfolding open_units` opens every definition of this file and of those below it
+unfoldable pub open_units : Unit {0}
+unfolding units Rattle.doubles.specs.F64.open_f64
+open_units = tt

@@ -23,7 +23,7 @@ floor (inf s) = inf s
 floor (fin false m e) = round binary64 false (whole_below (m * up e) (down e)) 1
 floor (fin true m e) = round binary64 true (whole_above (m * up e) (down e)) 1
 
--- to compute: a line `unfolding open-Whole` opens every definition of this file
-unfoldable pub open-Whole : Unit {0}
+-- to compute: a line `unfolding open_whole` opens every definition of this file
+unfoldable pub open_whole : Unit {0}
 unfolding ceil floor
-open-Whole = tt
+open_whole = tt

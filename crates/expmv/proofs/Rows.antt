@@ -18,14 +18,14 @@ abbrev within : ℕ → ℕ → List ℕ → Bool
 within a b [] = true
 within a b (x ∷ xs) = leb a x && (leb x b && within a b xs)
 
-within-at : (a b : ℕ) (xs : List ℕ) → T (within a b xs) → (i : ℕ) → i < length xs → (a ≤ get_or xs i 0) × (get_or xs i 0 ≤ b)
-within-at a b [] t i h = absurd (not-suc-le-zero h)
-within-at a b (x ∷ xs) t zero h = (leb→le a x (and_l (leb a x) _ t), leb→le x b (and_l (leb x b) (within a b xs) (and_r (leb a x) _ t)))
-within-at a b (x ∷ xs) t (suc i) h = within-at a b xs (and_r (leb x b) (within a b xs) (and_r (leb a x) _ t)) i (le_of_suc-le-suc h)
+within_at : (a b : ℕ) (xs : List ℕ) → T (within a b xs) → (i : ℕ) → i < length xs → (a ≤ get_or xs i 0) × (get_or xs i 0 ≤ b)
+within_at a b [] t i h = absurd (not-suc-le-zero h)
+within_at a b (x ∷ xs) t zero h = (leb→le a x (and_l (leb a x) _ t), leb→le x b (and_l (leb x b) (within a b xs) (and_r (leb a x) _ t)))
+within_at a b (x ∷ xs) t (suc i) h = within_at a b xs (and_r (leb x b) (within a b xs) (and_r (leb a x) _ t)) i (le_of_suc-le-suc h)
 
-pub degree-bounds : (i : ℕ) → i < 22 → (1 ≤ degree i) × (degree i ≤ 30)
+pub degree_bounds : (i : ℕ) → i < 22 → (1 ≤ degree i) × (degree i ≤ 30)
 unfolding degree degrees
-degree-bounds i h = within-at 1 30 degrees tt i h
+degree_bounds i h = within_at 1 30 degrees tt i h
 
 -- what the two tests of an admissible row say
 split : (a b : Bool) → a && b ≡ true → (a ≡ true) × (b ≡ true)
@@ -33,16 +33,16 @@ split true true e = (refl, refl)
 split true false e = absurd (true≢false (sym e))
 split false b e = absurd (true≢false (sym e))
 
-pub degree-most : (m-max : ℕ) (arg : Float) (i : ℕ) → admissible m-max arg i ≡ true → degree i ≤ m-max
+pub degree_most : (m_max : ℕ) (arg : Float) (i : ℕ) → admissible m_max arg i ≡ true → degree i ≤ m_max
 unfolding admissible
-degree-most m-max arg i a = leb-true (degree i) m-max (split (leb (degree i) m-max) (quotient arg i ⩽ nat 4294967295) a).0
+degree_most m_max arg i a = leb-true (degree i) m_max (split (leb (degree i) m_max) (quotient arg i ⩽ nat 4294967295) a).0
 
 chosen : (t : Bool) (k : ℕ) → (t ≡ false → (1 ≤ k) × (k ≤ 4294967295)) → (1 ≤ cond t 1 k) × (cond t 1 k ≤ 4294967295)
 chosen true k h = (le_refl 1, lit≤ tt)
 chosen false k h = h refl
 
-pub sweeps-bounds : (m-max : ℕ) (arg : Float) (i : ℕ) → admissible m-max arg i ≡ true → (1 ≤ sweeps arg i) × (sweeps arg i ≤ 4294967295)
+pub sweeps_bounds : (m_max : ℕ) (arg : Float) (i : ℕ) → admissible m_max arg i ≡ true → (1 ≤ sweeps arg i) × (sweeps arg i ≤ 4294967295)
 unfolding admissible sweeps quotient
-sweeps-bounds m-max arg i a =
-    let most = (split (leb (degree i) m-max) (quotient arg i ⩽ nat 4294967295) a).1 in
+sweeps_bounds m_max arg i a =
+    let most = (split (leb (degree i) m_max) (quotient arg i ⩽ nat 4294967295) a).1 in
     chosen (quotient arg i ⋖ 1f) _ (λ e. let k = counted (arg ⊘ get_or thetas i nan) most e in (k.some, k.most))

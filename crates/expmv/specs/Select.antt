@@ -2,9 +2,9 @@
 use Rattle.std.specs.Prelude.{Bool, true, false, not, ◌&&◌, ◌≡◌, List, [], ◌∷◌, ℕ, ◌*◌, ◌^◌, ◌≤◌, ◌<◌, leb, ltb, get_or, Float}
 use Rattle.std.specs.Float.{nan, binary64}
 use Rattle.std.specs.Float.Ieee.{round, to_unsigned}
-use Rattle.lists.specs.Loop.{iter, open-Loop}
-use Rattle.doubles.specs.F64.{if◌then◌else◌, ◌⊘◌, ◌⋖◌, ◌⩽◌, nat, +0, 1f, is_finite, open-F64}
-use Rattle.doubles.specs.Whole.{ceil, open-Whole}
+use Rattle.lists.specs.Loop.{iter, open_loop}
+use Rattle.doubles.specs.F64.{if◌then◌else◌, ◌⊘◌, ◌⋖◌, ◌⩽◌, nat, +0, 1f, is_finite, open_f64}
+use Rattle.doubles.specs.Whole.{ceil, open_whole}
 use Rattle.expmv.specs.declared.Selected.{Selected}
 use Rattle.expmv.specs.declared.Selected.TheVariants.{NoRow, Row}
 
@@ -26,8 +26,8 @@ thetas =
     ∷ []
 
 -- `M_MAX`: the highest degree
-abbrev pub M-MAX : ℕ
-M-MAX = 30
+abbrev pub M_MAX : ℕ
+M_MAX = 30
 
 unfoldable pub degree : ℕ → ℕ
 degree i = get_or degrees i 0
@@ -38,7 +38,7 @@ quotient arg i = ceil (arg ⊘ get_or thetas i nan)
 
 -- a row is admissible if its degree is at most the highest, and the ceiling at most 4,294,967,295
 unfoldable pub admissible : ℕ → Float → ℕ → Bool
-admissible m-max arg i = leb (degree i) m-max && quotient arg i ⩽ nat 4294967295
+admissible m_max arg i = leb (degree i) m_max && quotient arg i ⩽ nat 4294967295
 
 -- s is that ceiling, at least 1
 unfoldable pub sweeps : Float → ℕ → ℕ
@@ -54,30 +54,30 @@ cheaper s m NoRow = Row s m
 cheaper s m (Row s₀ m₀) = if ltb (s * m) (s₀ * m₀) then Row s m else Row s₀ m₀
 
 unfoldable pub consider : ℕ → Float → ℕ → Selected → Selected
-consider m-max arg i best = if admissible m-max arg i then cheaper (sweeps arg i) (degree i) best else best
+consider m_max arg i best = if admissible m_max arg i then cheaper (sweeps arg i) (degree i) best else best
 
 -- the first admissible row of least cost; none for an argument that is negative or not finite
-unfoldable pub select-s-m : ℕ → Float → Selected
-select-s-m m-max arg = if is_finite arg && not (arg ⋖ +0) then iter (consider m-max arg) 22 NoRow else NoRow
+unfoldable pub select_s_m : ℕ → Float → Selected
+select_s_m m_max arg = if is_finite arg && not (arg ⋖ +0) then iter (consider m_max arg) 22 NoRow else NoRow
 
 -- row i is the first of least cost among the admissible rows below n, and s and m are its
-pub record Least (m-max : ℕ) (arg : Float) (n s m i : ℕ) : Type 0 where
+pub record Least (m_max : ℕ) (arg : Float) (n s m i : ℕ) : Type 0 where
   pub row : i < n
-  pub fits : admissible m-max arg i ≡ true
-  pub s-is : s ≡ sweeps arg i
-  pub m-is : m ≡ degree i
-  pub least : (j : ℕ) → j < n → admissible m-max arg j ≡ true → cost arg i ≤ cost arg j
-  pub first : (j : ℕ) → j < i → admissible m-max arg j ≡ true → cost arg i < cost arg j
+  pub fits : admissible m_max arg i ≡ true
+  pub s_is : s ≡ sweeps arg i
+  pub m_is : m ≡ degree i
+  pub least : (j : ℕ) → j < n → admissible m_max arg j ≡ true → cost arg i ≤ cost arg j
+  pub first : (j : ℕ) → j < i → admissible m_max arg j ≡ true → cost arg i < cost arg j
 
 -- what s and m of a row chosen lie within
-pub record Bounds (m-max s m : ℕ) : Type 0 where
-  pub s-some : 1 ≤ s
-  pub s-most : s ≤ 4294967295
-  pub m-some : 1 ≤ m
-  pub m-most : m ≤ 30
-  pub m-allowed : m ≤ m-max
+pub record Bounds (m_max s m : ℕ) : Type 0 where
+  pub s_some : 1 ≤ s
+  pub s_most : s ≤ 4294967295
+  pub m_some : 1 ≤ m
+  pub m_most : m ≤ 30
+  pub m_allowed : m ≤ m_max
 
--- to compute: a line `unfolding open-Select` opens every definition of this file and of those below it
-unfoldable pub open-Select : Unit {0}
-unfolding degrees decimal thetas degree quotient admissible sweeps cost cheaper consider select-s-m open-Whole open-F64 open-Loop
-open-Select = tt
+-- to compute: a line `unfolding open_select` opens every definition of this file and of those below it
+unfoldable pub open_select : Unit {0}
+unfolding degrees decimal thetas degree quotient admissible sweeps cost cheaper consider select_s_m open_whole open_f64 open_loop
+open_select = tt

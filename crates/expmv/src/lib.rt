@@ -3,7 +3,7 @@ ghost use Rattle.std.specs.Prelude.{◌≡◌, ◌*◌, ◌<◌, ◌≤◌, get_
 ghost use Rattle.std.specs.Float.{nan};
 ghost use Rattle.doubles.specs.F64.{◌⊘◌};
 ghost use Rattle.doubles.specs.Whole.{ceil};
-ghost use Rattle.expmv.specs.Select.{M-MAX, thetas, degree, cheaper, consider, select-s-m};
+ghost use Rattle.expmv.specs.Select.{M_MAX, thetas, degree, cheaper, consider, select_s_m};
 
 // No admissible row, or s sweeps of degree m.
 #[derive(Drop)]
@@ -27,7 +27,7 @@ const THETAS: [f64; 22] = [
 
 fn degree(i: usize) -> u32
     requires { i < 22 }
-    ensures { (result ≡ degree i) × (1 ≤ result) × (result ≤ M-MAX) }
+    ensures { (result ≡ degree i) × (1 ≤ result) × (result ≤ M_MAX) }
 {
     DEGREES[i]
 }
@@ -89,7 +89,7 @@ fn consider(m_max: u32, arg: f64, i: usize, best: Selected) -> Selected
 
 // The first row of least cost s * m; none for an argument that is negative or not finite.
 pub fn select_s_m(m_max: u32, arg: f64) -> Selected
-    ensures { result ≡ select-s-m m_max arg }
+    ensures { result ≡ select_s_m m_max arg }
 {
     if !float::is_finite(arg) {
         return Selected::NoRow;

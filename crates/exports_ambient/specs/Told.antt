@@ -10,16 +10,16 @@ use Rattle.ambient_turns.specs.Ambient.{Results, Logging}
 pub record AmbientNumbers : Type 0 where
   pub number : ℕ
   pub value : Float
-  pub record-number : ℕ
+  pub record_number : ℕ
 
-abbrev pub ambient-numbers : ℕ → Float → ℕ → AmbientNumbers
-ambient-numbers k x i = record { number = k; value = x; record-number = i }
+abbrev pub ambient_numbers : ℕ → Float → ℕ → AmbientNumbers
+ambient_numbers k x i = record { number = k; value = x; record_number = i }
 
 -- a refusal with its record, 0 before any; a NaN temperature, which has no number, with NaN and its record; all done
-unfoldable pub ambient-told : AmbientAnswer → AmbientNumbers
-ambient-told (Refusal k x i) = ambient-numbers k x i
-ambient-told (NotANumber i) = ambient-numbers 0 nan i
-ambient-told Logged = ambient-numbers 0 +0 0
+unfoldable pub ambient_told : AmbientAnswer → AmbientNumbers
+ambient_told (Refusal k x i) = ambient_numbers k x i
+ambient_told (NotANumber i) = ambient_numbers 0 nan i
+ambient_told Logged = ambient_numbers 0 +0 0
 
 -- what the call hands back, with the output, the working memory and the three slices for the results
 pub record AmbientCall : Type 0 where
@@ -28,8 +28,8 @@ pub record AmbientCall : Type 0 where
   pub memory : List Float
   pub results : Results
 
-abbrev pub ambient-call : AmbientNumbers → List Float → List Float → Results → AmbientCall
-ambient-call t output memory r = record { numbers = t; output = output; memory = memory; results = r }
+abbrev pub ambient_call : AmbientNumbers → List Float → List Float → Results → AmbientCall
+ambient_call t output memory r = record { numbers = t; output = output; memory = memory; results = r }
 
 unfoldable pub telling : Logging → AmbientCall
-telling l = ambient-call (ambient-told l.call.answer) l.call.output l.call.memory l.results
+telling l = ambient_call (ambient_told l.call.answer) l.call.output l.call.memory l.results

@@ -3,16 +3,16 @@ ghost use Rattle.std.specs.Prelude.{◌≡◌};
 ghost use Rattle.general_operator.specs.Csr.{csr};
 ghost use Rattle.generator_action.specs.Mass.{given};
 ghost use Rattle.generator_action.specs.Generator.{forward};
-ghost use Rattle.ambient_checks.specs.Inner.{log-of};
+ghost use Rattle.ambient_checks.specs.Inner.{log_of};
 ghost use Rattle.ambient_turns.specs.Ambient.{ambient};
 ghost use Rattle.ambient_turns.specs.Inner.{results};
-ghost use Rattle.exports_ambient.specs.Told.{ambient-numbers, ambient-told, ambient-call, telling};
+ghost use Rattle.exports_ambient.specs.Told.{ambient_numbers, ambient_told, ambient_call, telling};
 
 use ambient_turns::AmbientAnswer;
 
 // The result is 0 or the refusal's number; `value` is the refusal's double, NaN where a temperature is, else 0; `record` is 0 where none is named.
 fn ambient_told(answer: AmbientAnswer, value: &mut f64, record: &mut u32) -> u32
-    ensures { ambient-numbers result value.new «record».new ≡ ambient-told answer }
+    ensures { ambient_numbers result value.new «record».new ≡ ambient_told answer }
 {
     match answer {
         AmbientAnswer::Refusal(k, x, i) => {
@@ -56,7 +56,7 @@ pub extern "C" fn hazhendu_ambient(
     value: &mut f64,
     record: &mut u32,
 ) -> u32
-    ensures { ambient-call (ambient-numbers result value.new «record».new) out.new work.new (results temperatures.new largest.new smallest.new) ≡ telling (ambient (forward (csr n starts.now cols.now vals.now) (given with_mass mass.now)) (log-of durations.now levels.now) field.now load.now window node out.old work.old (results temperatures.old largest.old smallest.old)) }
+    ensures { ambient_call (ambient_numbers result value.new «record».new) out.new work.new (results temperatures.new largest.new smallest.new) ≡ telling (ambient (forward (csr n starts.now cols.now vals.now) (given with_mass mass.now)) (log_of durations.now levels.now) field.now load.now window node out.old work.old (results temperatures.old largest.old smallest.old)) }
 {
     let answer = ambient::ambient(
         n,

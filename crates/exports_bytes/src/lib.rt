@@ -3,11 +3,11 @@ ghost use Rattle.std.specs.Prelude.{◌≡◌, ◌/◌, ◌≤◌, length};
 ghost use Rattle.general_operator.specs.Csr.{csr};
 ghost use Rattle.generator_action.specs.Mass.{given};
 ghost use Rattle.generator_action.specs.Generator.{forward};
-ghost use Rattle.taylor_job.specs.Calls.{phi-combination, phi-action, phi-action-batched};
-ghost use Rattle.krylov_job.specs.KrylovCall.{phi-combination-krylov};
+ghost use Rattle.taylor_job.specs.Calls.{phi_combination, phi_action, phi_action_batched};
+ghost use Rattle.krylov_job.specs.KrylovCall.{phi_combination_krylov};
 ghost use Rattle.phi_solver.specs.Combine.{answering};
-ghost use Rattle.le_bytes.specs.Bytes.{numbers_of, doubles-of};
-ghost use Rattle.answers.specs.Told.{numbers, run-numbers, taylor-numbers, krylov-numbers, options};
+ghost use Rattle.le_bytes.specs.Bytes.{numbers_of, doubles_of};
+ghost use Rattle.answers.specs.Told.{numbers, run_numbers, taylor_numbers, krylov_numbers, options};
 ghost use Rattle.byte_arrays.specs.Large.{large};
 ghost use Rattle.byte_calls.specs.Inner.{told, called};
 ghost use Rattle.array_calls.specs.Replies.{replies, packed, replied};
@@ -31,7 +31,7 @@ fn answer(
     work: &mut [u8],
 ) -> Told
     requires { (n ≤ 64) × (length vals.now / 8 ≤ 512) × (length work.old / 8 ≤ 4096) }
-    ensures { replies (told call result) out.new work.new ≡ packed (called call (forward (csr n (numbers_of starts.now) (numbers_of cols.now) (doubles-of vals.now)) (given with_mass (doubles-of mass.now))) tau k (doubles-of v.now) (doubles-of out.old) (doubles-of work.old)) out.old work.old }
+    ensures { replies (told call result) out.new work.new ≡ packed (called call (forward (csr n (numbers_of starts.now) (numbers_of cols.now) (doubles_of vals.now)) (given with_mass (doubles_of mass.now))) tau k (doubles_of v.now) (doubles_of out.old) (doubles_of work.old)) out.old work.old }
 {
     let starts_len = starts.len();
     let mass_len = byte_arrays::used(with_mass, mass.len());
@@ -79,7 +79,7 @@ pub extern "C" fn hazhendu_phi_combination_bytes(
     m: &mut u32,
     applications: &mut u64,
 ) -> u32
-    ensures { replies (numbers result value.new s.new m.new applications.new) out.new work.new ≡ replied (large n (length vals.now) (length work.old)) (replies (numbers 255 value.old s.old m.old applications.old) out.old work.old) (answering taylor-numbers (phi-combination (forward (csr n (numbers_of starts.now) (numbers_of cols.now) (doubles-of vals.now)) (given with_mass (doubles-of mass.now))) tau degree count (doubles-of w.now) (doubles-of out.old) (doubles-of work.old))) }
+    ensures { replies (numbers result value.new s.new m.new applications.new) out.new work.new ≡ replied (large n (length vals.now) (length work.old)) (replies (numbers 255 value.old s.old m.old applications.old) out.old work.old) (answering taylor_numbers (phi_combination (forward (csr n (numbers_of starts.now) (numbers_of cols.now) (doubles_of vals.now)) (given with_mass (doubles_of mass.now))) tau degree count (doubles_of w.now) (doubles_of out.old) (doubles_of work.old))) }
 {
     if byte_arrays::large(n, vals.len(), work.len()) {
         return 255;
@@ -121,7 +121,7 @@ pub extern "C" fn hazhendu_phi_action_bytes(
     m: &mut u32,
     applications: &mut u64,
 ) -> u32
-    ensures { replies (numbers result value.new s.new m.new applications.new) out.new work.new ≡ replied (large n (length vals.now) (length work.old)) (replies (numbers 255 value.old s.old m.old applications.old) out.old work.old) (answering taylor-numbers (phi-action (forward (csr n (numbers_of starts.now) (numbers_of cols.now) (doubles-of vals.now)) (given with_mass (doubles-of mass.now))) tau degree k (doubles-of v.now) (doubles-of out.old) (doubles-of work.old))) }
+    ensures { replies (numbers result value.new s.new m.new applications.new) out.new work.new ≡ replied (large n (length vals.now) (length work.old)) (replies (numbers 255 value.old s.old m.old applications.old) out.old work.old) (answering taylor_numbers (phi_action (forward (csr n (numbers_of starts.now) (numbers_of cols.now) (doubles_of vals.now)) (given with_mass (doubles_of mass.now))) tau degree k (doubles_of v.now) (doubles_of out.old) (doubles_of work.old))) }
 {
     if byte_arrays::large(n, vals.len(), work.len()) {
         return 255;
@@ -163,7 +163,7 @@ pub extern "C" fn hazhendu_phi_action_batched_bytes(
     m: &mut u32,
     applications: &mut u64,
 ) -> u32
-    ensures { replies (numbers result value.new s.new m.new applications.new) out.new work.new ≡ replied (large n (length vals.now) (length work.old)) (replies (numbers 255 value.old s.old m.old applications.old) out.old work.old) (answering taylor-numbers (phi-action-batched (forward (csr n (numbers_of starts.now) (numbers_of cols.now) (doubles-of vals.now)) (given with_mass (doubles-of mass.now))) tau degree p (doubles-of v.now) (doubles-of out.old) (doubles-of work.old))) }
+    ensures { replies (numbers result value.new s.new m.new applications.new) out.new work.new ≡ replied (large n (length vals.now) (length work.old)) (replies (numbers 255 value.old s.old m.old applications.old) out.old work.old) (answering taylor_numbers (phi_action_batched (forward (csr n (numbers_of starts.now) (numbers_of cols.now) (doubles_of vals.now)) (given with_mass (doubles_of mass.now))) tau degree p (doubles_of v.now) (doubles_of out.old) (doubles_of work.old))) }
 {
     if byte_arrays::large(n, vals.len(), work.len()) {
         return 255;
@@ -209,7 +209,7 @@ pub extern "C" fn hazhendu_phi_combination_krylov_bytes(
     shortest: &mut f64,
     last: &mut f64,
 ) -> u32
-    ensures { replies (run-numbers result value.new substeps.new matvecs.new rejected.new shortest.new last.new) out.new work.new ≡ replied (large n (length vals.now) (length work.old)) (replies (run-numbers 255 value.old substeps.old matvecs.old rejected.old shortest.old last.old) out.old work.old) (answering krylov-numbers (phi-combination-krylov (forward (csr n (numbers_of starts.now) (numbers_of cols.now) (doubles-of vals.now)) (given with_mass (doubles-of mass.now))) tau count (doubles-of w.now) (options tol m max_substeps) (doubles-of out.old) (doubles-of work.old))) }
+    ensures { replies (run_numbers result value.new substeps.new matvecs.new rejected.new shortest.new last.new) out.new work.new ≡ replied (large n (length vals.now) (length work.old)) (replies (run_numbers 255 value.old substeps.old matvecs.old rejected.old shortest.old last.old) out.old work.old) (answering krylov_numbers (phi_combination_krylov (forward (csr n (numbers_of starts.now) (numbers_of cols.now) (doubles_of vals.now)) (given with_mass (doubles_of mass.now))) tau count (doubles_of w.now) (options tol m max_substeps) (doubles_of out.old) (doubles_of work.old))) }
 {
     if byte_arrays::large(n, vals.len(), work.len()) {
         return 255;

@@ -5,7 +5,7 @@ ghost use Rattle.general_operator.specs.Csr.{csr};
 ghost use Rattle.generator_action.specs.Mass.{given};
 ghost use Rattle.generator_action.specs.Generator.{forward};
 ghost use Rattle.phi_solver.specs.Combine.{answering, combine};
-ghost use Rattle.answers.specs.Told.{phi_numbers, run-numbers, options, solver};
+ghost use Rattle.answers.specs.Told.{phi_numbers, run_numbers, options, solver};
 
 // `phi_solver::combine`, told by `phi_numbers`.
 #[unsafe(no_mangle)]
@@ -33,7 +33,7 @@ pub extern "C" fn hazhendu_combine(
     shortest: &mut f64,
     last: &mut f64,
 ) -> u32
-    ensures { ends (run-numbers result value.new first.new second.new third.new shortest.new last.new) out.new work.new ≡ answering phi_numbers (combine (solver krylov degree (options tol m max_substeps)) (forward (csr n starts.now cols.now vals.now) (given with_mass mass.now)) tau count w.now out.old work.old) }
+    ensures { ends (run_numbers result value.new first.new second.new third.new shortest.new last.new) out.new work.new ≡ answering phi_numbers (combine (solver krylov degree (options tol m max_substeps)) (forward (csr n starts.now cols.now vals.now) (given with_mass mass.now)) tau count w.now out.old work.old) }
 {
     let o = answers::options(tol, m, max_substeps);
     let chosen = answers::solver(krylov, degree, o);

@@ -4,9 +4,9 @@ ghost use Rattle.combination.specs.Call.{ends};
 ghost use Rattle.general_operator.specs.Csr.{csr};
 ghost use Rattle.generator_action.specs.Mass.{given};
 ghost use Rattle.generator_action.specs.Generator.{forward};
-ghost use Rattle.krylov_job.specs.KrylovCall.{phi-combination-krylov};
+ghost use Rattle.krylov_job.specs.KrylovCall.{phi_combination_krylov};
 ghost use Rattle.phi_solver.specs.Combine.{answering};
-ghost use Rattle.answers.specs.Told.{krylov-numbers, run-numbers, options};
+ghost use Rattle.answers.specs.Told.{krylov_numbers, run_numbers, options};
 
 // `phi_krylov::phi_combination_krylov`, told by `krylov_numbers`.
 #[unsafe(no_mangle)]
@@ -32,7 +32,7 @@ pub extern "C" fn hazhendu_phi_combination_krylov(
     shortest: &mut f64,
     last: &mut f64,
 ) -> u32
-    ensures { ends (run-numbers result value.new substeps.new matvecs.new rejected.new shortest.new last.new) out.new work.new ≡ answering krylov-numbers (phi-combination-krylov (forward (csr n starts.now cols.now vals.now) (given with_mass mass.now)) tau count w.now (options tol m max_substeps) out.old work.old) }
+    ensures { ends (run_numbers result value.new substeps.new matvecs.new rejected.new shortest.new last.new) out.new work.new ≡ answering krylov_numbers (phi_combination_krylov (forward (csr n starts.now cols.now vals.now) (given with_mass mass.now)) tau count w.now (options tol m max_substeps) out.old work.old) }
 {
     let o = answers::options(tol, m, max_substeps);
     let answer = phi_krylov::phi_combination_krylov(

@@ -2,9 +2,9 @@
 ghost use Rattle.std.specs.Prelude.{◌≡◌};
 ghost use Rattle.general_operator.specs.Csr.{csr};
 ghost use Rattle.generator_action.specs.Mass.{given};
-ghost use Rattle.generator_action.specs.Answer.{matrix-answer};
-ghost use Rattle.join_rows.specs.Join.{join-call};
-ghost use Rattle.answers.specs.Told.{numbers, matrix-numbers, join-told, telling-join};
+ghost use Rattle.generator_action.specs.Answer.{matrix_answer};
+ghost use Rattle.join_rows.specs.Join.{join_call};
+ghost use Rattle.answers.specs.Told.{numbers, matrix_numbers, join_told, telling_join};
 
 // `generator_checks::check_generator`, told by `matrix_numbers`.
 #[unsafe(no_mangle)]
@@ -18,7 +18,7 @@ pub extern "C" fn hazhendu_check_generator(
     value: &mut f64,
     row: &mut usize,
 ) -> u32
-    ensures { numbers result value.new row.new 0 0 ≡ matrix-numbers (matrix-answer (csr n starts.now cols.now vals.now) (given with_mass mass.now)) }
+    ensures { numbers result value.new row.new 0 0 ≡ matrix_numbers (matrix_answer (csr n starts.now cols.now vals.now) (given with_mass mass.now)) }
 {
     let answer = generator_checks::check_generator(n, starts, cols, vals, with_mass, mass);
     answers::matrix_numbers(answer, value, row)
@@ -41,7 +41,7 @@ pub extern "C" fn hazhendu_join(
     value: &mut f64,
     entries: &mut usize,
 ) -> u32
-    ensures { join-told (numbers result value.new entries.new 0 0) starts.new cols.new vals.new ≡ telling-join (join-call (csr n_a starts_a.now cols_a.now vals_a.now) (csr n_b starts_b.now cols_b.now vals_b.now) starts.old cols.old vals.old) }
+    ensures { join_told (numbers result value.new entries.new 0 0) starts.new cols.new vals.new ≡ telling_join (join_call (csr n_a starts_a.now cols_a.now vals_a.now) (csr n_b starts_b.now cols_b.now vals_b.now) starts.old cols.old vals.old) }
 {
     let answer = join::join(
         n_a, starts_a, cols_a, vals_a, n_b, starts_b, cols_b, vals_b, starts, cols, vals,

@@ -3,9 +3,9 @@ use Rattle.std.specs.Prelude.{Bool, true, false, not, ◌&&◌, List, [], ◌∷
 use Rattle.std.specs.Float.{nan}
 use Rattle.doubles.specs.F64.{if◌then◌else◌, +0, 1f, at}
 use Rattle.checks.specs.First.{Check, refuse, first}
-use Rattle.krylov_advance.specs.Run.{empty-report}
+use Rattle.krylov_advance.specs.Run.{empty_report}
 use Rattle.krylov_job.specs.declared.KrylovPhiOptions.{KrylovPhiOptions}
-use Rattle.paused_run.specs.Paused.{Job, Input, PausedCall, start-checks, start-unless, step}
+use Rattle.paused_run.specs.Paused.{Job, Input, PausedCall, start_checks, start_unless, step}
 use Rattle.paused_run.specs.declared.PausedRun.{PausedRun}
 use Rattle.paused_run.specs.declared.Tolerance.{Tolerance}
 use Rattle.paused_run.specs.declared.Tolerance.TheVariants.{Same, New}
@@ -72,7 +72,7 @@ no_run =
     record {
       time = +0;
       next = +0;
-      report = empty-report;
+      report = empty_report;
       eta = 1f;
       factors = record { down = 1f; up = 1f };
       norm = +0;
@@ -102,17 +102,17 @@ unfoldable pub written : ℕ → Float → PausedRun → List Float → List ℕ
 written k x s numbers counts = if fits numbers counts then state k x (numbers_of s) (counts_of s) else state k x numbers counts
 
 -- a refused start writes no state; the estimate of a run that began is +0
-unfoldable pub start-state : StartAnswer → List Float → List ℕ → State
-start-state (started.Refusal k x) numbers counts = state k x numbers counts
-start-state (started.Started s) numbers counts = written 0 s.report.est_error s numbers counts
+unfoldable pub start_state : StartAnswer → List Float → List ℕ → State
+start_state (started.Refusal k x) numbers counts = state k x numbers counts
+start_state (started.Started s) numbers counts = written 0 s.report.est_error s numbers counts
 
 -- 27 to 29 come with a substep, every other refusal before it: that writes no state
 abbrev pub ran : ℕ → Bool
 ran k = ltb 26 k && ltb k 30
 
-unfoldable pub step-state : StepAnswer → List Float → List ℕ → State
-step-state (stepped.Refusal k x s) numbers counts = if ran k then written k x s numbers counts else state k x numbers counts
-step-state (stepped.Stepped s) numbers counts = written 0 s.report.est_error s numbers counts
+unfoldable pub step_state : StepAnswer → List Float → List ℕ → State
+step_state (stepped.Refusal k x s) numbers counts = if ran k then written k x s numbers counts else state k x numbers counts
+step_state (stepped.Stepped s) numbers counts = written 0 s.report.est_error s numbers counts
 
 -- with what the three lent slices of doubles hold
 pub record Told : Type 0 where
@@ -125,20 +125,20 @@ abbrev pub told : State → List Float → List Float → List Float → Told
 told s output memory field = record { state = s; output = output; memory = memory; field = field }
 
 -- 26 also where the state's slices do not fit it
-unfoldable pub state-checks : List Float → List ℕ → List Check
-state-checks numbers counts = refuse 26 (not (fits numbers counts)) nan ∷ []
+unfoldable pub state_checks : List Float → List ℕ → List Check
+state_checks numbers counts = refuse 26 (not (fits numbers counts)) nan ∷ []
 
-unfoldable pub start-told : KrylovPhiOptions → Job → List Float → List Float → List Float → List Float → List ℕ → Told
-start-told o j output memory field numbers counts =
-    let c = start-unless (first (start-checks o j (length output) (length memory) (length field) ++ state-checks numbers counts)) o j output memory field in
-    told (start-state c.answer numbers counts) c.output c.memory c.field
+unfoldable pub start_told : KrylovPhiOptions → Job → List Float → List Float → List Float → List Float → List ℕ → Told
+start_told o j output memory field numbers counts =
+    let c = start_unless (first (start_checks o j (length output) (length memory) (length field) ++ state_checks numbers counts)) o j output memory field in
+    told (start_state c.answer numbers counts) c.output c.memory c.field
 
 -- a new tol or none
 abbrev pub tolerance : Bool → Float → Tolerance
 tolerance true tol = New tol
 tolerance false tol = Same
 
-unfoldable pub step-told : Input → List Float → List Float → List ℕ → Told
-step-told i field numbers counts =
+unfoldable pub step_told : Input → List Float → List Float → List ℕ → Told
+step_told i field numbers counts =
     let c = step (run_of numbers counts) field i in
-    told (step-state c.answer numbers counts) c.output c.memory c.field
+    told (step_state c.answer numbers counts) c.output c.memory c.field

@@ -5,7 +5,7 @@ ghost use Rattle.general_operator.specs.Csr.{csr};
 ghost use Rattle.generator_action.specs.Mass.{given};
 ghost use Rattle.generator_action.specs.Generator.{forward};
 ghost use Rattle.answers.specs.Told.{options};
-ghost use Rattle.exports_paused.specs.Told.{numbers_of, flag, counts_of, fits, held, no_run, run_of, state, written, start-state, ran, step-state, told, start-told, tolerance, step-told};
+ghost use Rattle.exports_paused.specs.Told.{numbers_of, flag, counts_of, fits, held, no_run, run_of, state, written, start_state, ran, step_state, told, start_told, tolerance, step_told};
 
 use krylov_advance::KrylovPhiReport;
 use paused_run::{PausedRun, StartAnswer, StepAnswer, Tolerance};
@@ -141,7 +141,7 @@ pub fn start_state(
     counts: &mut [usize],
     value: &mut f64,
 ) -> u32
-    ensures { state result value.new numbers.new counts.new ≡ start-state answer numbers.old counts.old }
+    ensures { state result value.new numbers.new counts.new ≡ start_state answer numbers.old counts.old }
 {
     match answer {
         StartAnswer::Refusal(k, x) => {
@@ -170,7 +170,7 @@ pub fn step_state(
     counts: &mut [usize],
     value: &mut f64,
 ) -> u32
-    ensures { state result value.new numbers.new counts.new ≡ step-state answer numbers.old counts.old }
+    ensures { state result value.new numbers.new counts.new ≡ step_state answer numbers.old counts.old }
 {
     match answer {
         StepAnswer::Refusal(k, x, run) => {
@@ -220,7 +220,7 @@ pub extern "C" fn hazhendu_krylov_start(
     counts: &mut [usize],
     value: &mut f64,
 ) -> u32
-    ensures { told (state result value.new numbers.new counts.new) out.new work.new field.new ≡ start-told (options tol m max_substeps) (record { g = forward (csr n starts.now cols.now vals.now) (given with_mass mass.now); tau = tau; count = count; w = w.now }) out.old work.old field.old numbers.old counts.old }
+    ensures { told (state result value.new numbers.new counts.new) out.new work.new field.new ≡ start_told (options tol m max_substeps) (record { g = forward (csr n starts.now cols.now vals.now) (given with_mass mass.now); tau = tau; count = count; w = w.now }) out.old work.old field.old numbers.old counts.old }
 {
     let o = answers::options(tol, m, max_substeps);
     let to = field_end(numbers, counts, field.len());
@@ -272,7 +272,7 @@ pub extern "C" fn hazhendu_krylov_step(
     counts: &mut [usize],
     value: &mut f64,
 ) -> u32
-    ensures { told (state result value.new numbers.new counts.new) out.new work.new field.new ≡ step-told (record { tolerance = tolerance with_tol tol; job = record { g = forward (csr n starts.now cols.now vals.now) (given with_mass mass.now); tau = tau; count = count; w = w.now }; output = out.old; memory = work.old }) field.old numbers.old counts.old }
+    ensures { told (state result value.new numbers.new counts.new) out.new work.new field.new ≡ step_told (record { tolerance = tolerance with_tol tol; job = record { g = forward (csr n starts.now cols.now vals.now) (given with_mass mass.now); tau = tau; count = count; w = w.now }; output = out.old; memory = work.old }) field.old numbers.old counts.old }
 {
     let run = read_run(numbers, counts);
     let t = tolerance(with_tol, tol);

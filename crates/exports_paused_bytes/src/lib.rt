@@ -3,12 +3,12 @@ ghost use Rattle.std.specs.Prelude.{◌≡◌, ◌/◌, ◌≤◌, length};
 ghost use Rattle.general_operator.specs.Csr.{csr};
 ghost use Rattle.generator_action.specs.Mass.{given};
 ghost use Rattle.generator_action.specs.Generator.{forward};
-ghost use Rattle.le_bytes.specs.Bytes.{numbers_of, doubles-of, words_of};
+ghost use Rattle.le_bytes.specs.Bytes.{numbers_of, doubles_of, words_of};
 ghost use Rattle.answers.specs.Told.{options};
-ghost use Rattle.exports_paused.specs.Told.{tolerance, start-told, step-told};
+ghost use Rattle.exports_paused.specs.Told.{tolerance, start_told, step_told};
 ghost use Rattle.byte_arrays.specs.Large.{large};
 ghost use Rattle.paused_byte_calls.specs.Replies.{slices, replies, packs, replied};
-ghost use Rattle.paused_byte_calls.specs.Inner.{job, called-run};
+ghost use Rattle.paused_byte_calls.specs.Inner.{job, called_run};
 
 use paused_byte_calls::{Reported, RunCall};
 
@@ -32,7 +32,7 @@ fn answer(
     counts: &mut [u8],
 ) -> Reported
     requires { (n ≤ 64) × (length vals.now / 8 ≤ 512) × (length work.old / 8 ≤ 4096) }
-    ensures { replies result.number result.value (slices out.new work.new field.new numbers.new counts.new) ≡ packs (called-run call (job (csr n (numbers_of starts.now) (numbers_of cols.now) (doubles-of vals.now)) (given with_mass (doubles-of mass.now)) tau count (doubles-of w.now)) (doubles-of out.old) (doubles-of work.old) (doubles-of field.old) (doubles-of numbers.old) (words_of counts.old)) (slices out.old work.old field.old numbers.old counts.old) }
+    ensures { replies result.number result.value (slices out.new work.new field.new numbers.new counts.new) ≡ packs (called_run call (job (csr n (numbers_of starts.now) (numbers_of cols.now) (doubles_of vals.now)) (given with_mass (doubles_of mass.now)) tau count (doubles_of w.now)) (doubles_of out.old) (doubles_of work.old) (doubles_of field.old) (doubles_of numbers.old) (words_of counts.old)) (slices out.old work.old field.old numbers.old counts.old) }
 {
     let mass_len = byte_arrays::used(with_mass, mass.len());
     let starts_part = byte_arrays::part(starts.len(), 2051);
@@ -94,7 +94,7 @@ pub extern "C" fn hazhendu_krylov_start_bytes(
     counts: &mut [u8],
     value: &mut f64,
 ) -> u32
-    ensures { replies result value.new (slices out.new work.new field.new numbers.new counts.new) ≡ replied (large n (length vals.now) (length work.old)) (replies 255 value.old (slices out.old work.old field.old numbers.old counts.old)) (start-told (options tol m max_substeps) (record { g = forward (csr n (numbers_of starts.now) (numbers_of cols.now) (doubles-of vals.now)) (given with_mass (doubles-of mass.now)); tau = tau; count = count; w = doubles-of w.now }) (doubles-of out.old) (doubles-of work.old) (doubles-of field.old) (doubles-of numbers.old) (words_of counts.old)) }
+    ensures { replies result value.new (slices out.new work.new field.new numbers.new counts.new) ≡ replied (large n (length vals.now) (length work.old)) (replies 255 value.old (slices out.old work.old field.old numbers.old counts.old)) (start_told (options tol m max_substeps) (record { g = forward (csr n (numbers_of starts.now) (numbers_of cols.now) (doubles_of vals.now)) (given with_mass (doubles_of mass.now)); tau = tau; count = count; w = doubles_of w.now }) (doubles_of out.old) (doubles_of work.old) (doubles_of field.old) (doubles_of numbers.old) (words_of counts.old)) }
 {
     if byte_arrays::large(n, vals.len(), work.len()) {
         return 255;
@@ -141,7 +141,7 @@ pub extern "C" fn hazhendu_krylov_step_bytes(
     counts: &mut [u8],
     value: &mut f64,
 ) -> u32
-    ensures { replies result value.new (slices out.new work.new field.new numbers.new counts.new) ≡ replied (large n (length vals.now) (length work.old)) (replies 255 value.old (slices out.old work.old field.old numbers.old counts.old)) (step-told (record { tolerance = tolerance with_tol tol; job = record { g = forward (csr n (numbers_of starts.now) (numbers_of cols.now) (doubles-of vals.now)) (given with_mass (doubles-of mass.now)); tau = tau; count = count; w = doubles-of w.now }; output = doubles-of out.old; memory = doubles-of work.old }) (doubles-of field.old) (doubles-of numbers.old) (words_of counts.old)) }
+    ensures { replies result value.new (slices out.new work.new field.new numbers.new counts.new) ≡ replied (large n (length vals.now) (length work.old)) (replies 255 value.old (slices out.old work.old field.old numbers.old counts.old)) (step_told (record { tolerance = tolerance with_tol tol; job = record { g = forward (csr n (numbers_of starts.now) (numbers_of cols.now) (doubles_of vals.now)) (given with_mass (doubles_of mass.now)); tau = tau; count = count; w = doubles_of w.now }; output = doubles_of out.old; memory = doubles_of work.old }) (doubles_of field.old) (doubles_of numbers.old) (words_of counts.old)) }
 {
     if byte_arrays::large(n, vals.len(), work.len()) {
         return 255;

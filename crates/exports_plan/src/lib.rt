@@ -5,8 +5,8 @@ ghost use Rattle.general_operator.specs.Csr.{csr};
 ghost use Rattle.generator_action.specs.Mass.{given};
 ghost use Rattle.generator_action.specs.Generator.{forward};
 ghost use Rattle.phi_solver.specs.Combine.{answering};
-ghost use Rattle.taylor_plan.specs.TaylorPlan.{taylor-plan};
-ghost use Rattle.answers.specs.Told.{numbers, taylor-numbers};
+ghost use Rattle.taylor_plan.specs.TaylorPlan.{taylor_plan};
+ghost use Rattle.answers.specs.Told.{numbers, taylor_numbers};
 
 // `taylor_plan::taylor_plan`, told by `taylor_numbers`.
 #[unsafe(no_mangle)]
@@ -25,7 +25,7 @@ pub extern "C" fn hazhendu_taylor_plan(
     m: &mut u32,
     applications: &mut u64,
 ) -> u32
-    ensures { ends (numbers result value.new s.new m.new applications.new) [] work.new ≡ answering taylor-numbers (taylor-plan (forward (csr n starts.now cols.now vals.now) (given with_mass mass.now)) tau degree work.old) }
+    ensures { ends (numbers result value.new s.new m.new applications.new) [] work.new ≡ answering taylor_numbers (taylor_plan (forward (csr n starts.now cols.now vals.now) (given with_mass mass.now)) tau degree work.old) }
 {
     let answer = taylor_plan::taylor_plan(
         n, starts, cols, vals, with_mass, mass, tau, degree, work,

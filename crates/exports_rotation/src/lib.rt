@@ -8,7 +8,7 @@ ghost use Rattle.generator_action.specs.Generator.{forward};
 ghost use Rattle.rotation.specs.Unit.{unread, run_at};
 ghost use Rattle.answers.specs.Told.{options};
 ghost use Rattle.exports_paused.specs.Told.{numbers_of, counts_of, held, state, told, tolerance};
-ghost use Rattle.exports_rotation.specs.Told.{unit-numbers, unit-counts, unit-fits, no-unit, unit-of, unit-told, kept-or, join-told, turn-told, next-told, cleared, clear_told};
+ghost use Rattle.exports_rotation.specs.Told.{unit_numbers, unit_counts, unit_fits, no_unit, unit_of, unit_told, kept_or, join_told, turn_told, next_told, cleared, clear_told};
 
 use krylov_advance::KrylovPhiReport;
 use paused_run::PausedRun;
@@ -17,7 +17,7 @@ use rotation::Rotation;
 
 // Whether the slices of a unit have its lengths.
 fn unit_fits(numbers: &[f64], counts: &[usize]) -> bool
-    ensures { result ≡ unit-fits numbers.now counts.now }
+    ensures { result ≡ unit_fits numbers.now counts.now }
 {
     numbers.len() == 160 && counts.len() == 144
 }
@@ -88,7 +88,7 @@ fn unread() -> PausedRun
 }
 
 fn no_unit() -> Rotation
-    ensures { result ≡ no-unit }
+    ensures { result ≡ no_unit }
 {
     let run = unread();
     Rotation {
@@ -98,7 +98,7 @@ fn no_unit() -> Rotation
 }
 
 fn read_unit(numbers: &[f64], counts: &[usize]) -> Rotation
-    ensures { result ≡ unit-of numbers.now counts.now }
+    ensures { result ≡ unit_of numbers.now counts.now }
 {
     if unit_fits(numbers, counts) {
         return Rotation {
@@ -121,7 +121,7 @@ fn write_at(run: PausedRun, p: usize, numbers: &mut [f64], counts: &mut [usize])
 
 fn write_places(unit: Rotation, numbers: &mut [f64], counts: &mut [usize])
     requires { (length numbers.old ≡ 160) × (length counts.old ≡ 144) }
-    ensures numbers_after { numbers.new ≡ unit-numbers unit }
+    ensures numbers_after { numbers.new ≡ unit_numbers unit }
     ensures counts_after { counts.new ≡ splice 0 (stack 16 (λ p. counts_of (run_at unit p))) counts.old }
 {
     let mut p = 0;
@@ -145,8 +145,8 @@ fn write_queue(queue: [usize; 16], counts: &mut [usize])
 
 // A unit that took a run or had a turn, to slices that fit it.
 fn keep_unit(unit: Rotation, place: usize, numbers: &mut [f64], counts: &mut [usize])
-    ensures numbers_after { numbers.new ≡ kept-or (ltb place 16 && unit-fits numbers.old counts.old) (unit-numbers unit) numbers.old }
-    ensures counts_after { counts.new ≡ kept-or (ltb place 16 && unit-fits numbers.old counts.old) (unit-counts unit) counts.old }
+    ensures numbers_after { numbers.new ≡ kept_or (ltb place 16 && unit_fits numbers.old counts.old) (unit_numbers unit) numbers.old }
+    ensures counts_after { counts.new ≡ kept_or (ltb place 16 && unit_fits numbers.old counts.old) (unit_counts unit) counts.old }
 {
     if place < 16 {
         if unit_fits(numbers, counts) {
@@ -173,7 +173,7 @@ pub extern "C" fn hazhendu_rotation_clear(units: &mut [f64], queues: &mut [usize
 // The place whose turn is next, 16 if no run waits.
 #[unsafe(no_mangle)]
 pub extern "C" fn hazhendu_rotation_next(queues: &[usize]) -> usize
-    ensures { result ≡ next-told queues.now }
+    ensures { result ≡ next_told queues.now }
 {
     if queues.len() == 144 {
         let run = rotation::vacant();
@@ -211,7 +211,7 @@ pub extern "C" fn hazhendu_rotation_join(
     place: &mut usize,
     value: &mut f64,
 ) -> u32
-    ensures { unit-told (told (state result value.new numbers.new counts.new) out.new work.new field.new) place.new units.new queues.new ≡ join-told (options tol m max_substeps) (record { g = forward (csr n starts.now cols.now vals.now) (given with_mass mass.now); tau = tau; count = count; w = w.now }) out.old work.old field.old units.old queues.old numbers.old counts.old }
+    ensures { unit_told (told (state result value.new numbers.new counts.new) out.new work.new field.new) place.new units.new queues.new ≡ join_told (options tol m max_substeps) (record { g = forward (csr n starts.now cols.now vals.now) (given with_mass mass.now); tau = tau; count = count; w = w.now }) out.old work.old field.old units.old queues.old numbers.old counts.old }
 {
     let o = answers::options(tol, m, max_substeps);
     let unit = read_unit(units, queues);
@@ -263,7 +263,7 @@ pub extern "C" fn hazhendu_rotation_turn(
     place: &mut usize,
     value: &mut f64,
 ) -> u32
-    ensures { unit-told (told (state result value.new numbers.new counts.new) out.new work.new field.new) place.new units.new queues.new ≡ turn-told (record { tolerance = tolerance with_tol tol; job = record { g = forward (csr n starts.now cols.now vals.now) (given with_mass mass.now); tau = tau; count = count; w = w.now }; output = out.old; memory = work.old }) field.old units.old queues.old numbers.old counts.old }
+    ensures { unit_told (told (state result value.new numbers.new counts.new) out.new work.new field.new) place.new units.new queues.new ≡ turn_told (record { tolerance = tolerance with_tol tol; job = record { g = forward (csr n starts.now cols.now vals.now) (given with_mass mass.now); tau = tau; count = count; w = w.now }; output = out.old; memory = work.old }) field.old units.old queues.old numbers.old counts.old }
 {
     let unit = read_unit(units, queues);
     let t = exports_paused::tolerance(with_tol, tol);

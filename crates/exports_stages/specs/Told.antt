@@ -13,10 +13,10 @@ pub record StagedNumbers : Type 0 where
   pub substeps : ℕ
   pub rejected : ℕ
 
-abbrev pub staged-numbers : ℕ → Float → ℕ → ℕ → ℕ → ℕ → StagedNumbers
-staged-numbers k x i a b c = record { number = k; value = x; stage = i; applications = a; substeps = b; rejected = c }
+abbrev pub staged_numbers : ℕ → Float → ℕ → ℕ → ℕ → ℕ → StagedNumbers
+staged_numbers k x i a b c = record { number = k; value = x; stage = i; applications = a; substeps = b; rejected = c }
 
 -- a refused soak has no counts, an accepted one no stage and no double
-unfoldable pub staged-told : StagedAnswer → StagedNumbers
-staged-told (Refusal k x i) = staged-numbers k x i 0 0 0
-staged-told (Staged r) = staged-numbers 0 +0 0 r.applications r.substeps r.rejected
+unfoldable pub staged_told : StagedAnswer → StagedNumbers
+staged_told (Refusal k x i) = staged_numbers k x i 0 0 0
+staged_told (Staged r) = staged_numbers 0 +0 0 r.applications r.substeps r.rejected

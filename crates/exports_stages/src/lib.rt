@@ -5,9 +5,9 @@ ghost use Rattle.general_operator.specs.Csr.{csr};
 ghost use Rattle.generator_action.specs.Mass.{given};
 ghost use Rattle.generator_action.specs.Generator.{forward};
 ghost use Rattle.phi_solver.specs.Combine.{answering};
-ghost use Rattle.schedule_checks.specs.Inner.{schedule-of};
+ghost use Rattle.schedule_checks.specs.Inner.{schedule_of};
 ghost use Rattle.stage_calls.specs.Stages.{staged};
-ghost use Rattle.exports_stages.specs.Told.{staged-numbers, staged-told};
+ghost use Rattle.exports_stages.specs.Told.{staged_numbers, staged_told};
 
 use schedule_checks::StagedAnswer;
 
@@ -20,7 +20,7 @@ fn staged_told(
     substeps: &mut u64,
     rejected: &mut u64,
 ) -> u32
-    ensures { staged-numbers result value.new stage.new applications.new substeps.new rejected.new ≡ staged-told answer }
+    ensures { staged_numbers result value.new stage.new applications.new substeps.new rejected.new ≡ staged_told answer }
 {
     match answer {
         StagedAnswer::Refusal(k, x, i) => {
@@ -68,7 +68,7 @@ pub extern "C" fn hazhendu_stages(
     substeps: &mut u64,
     rejected: &mut u64,
 ) -> u32
-    ensures { ends (staged-numbers result value.new stage.new applications.new substeps.new rejected.new) out.new work.new ≡ answering staged-told (staged (forward (csr n starts.now cols.now vals.now) (given with_mass mass.now)) (schedule-of taus.now counts.now solvers.now degrees.now tols.now ms.now limits.now) start.now further.now out.old work.old) }
+    ensures { ends (staged_numbers result value.new stage.new applications.new substeps.new rejected.new) out.new work.new ≡ answering staged_told (staged (forward (csr n starts.now cols.now vals.now) (given with_mass mass.now)) (schedule_of taus.now counts.now solvers.now degrees.now tols.now ms.now limits.now) start.now further.now out.old work.old) }
 {
     let answer = stages::stages(
         n, starts, cols, vals, with_mass, mass, taus, counts, solvers, degrees, tols, ms, limits,

@@ -4,8 +4,8 @@ ghost use Rattle.general_operator.specs.Csr.{csr};
 ghost use Rattle.generator_action.specs.Mass.{given};
 ghost use Rattle.combination.specs.Call.{ends};
 ghost use Rattle.transpose.specs.Transpose.{buffers};
-ghost use Rattle.transposed.specs.Transposed.{lends, phi-action-batched-transposed};
-ghost use Rattle.answers.specs.Told.{numbers, taylor-numbers};
+ghost use Rattle.transposed.specs.Transposed.{lends, phi_action_batched_transposed};
+ghost use Rattle.answers.specs.Told.{numbers, taylor_numbers};
 ghost use Rattle.transposed_told.specs.Telling.{telling};
 
 // `transposed_batch::phi_action_batched_transposed`, told by `taylor_numbers`.
@@ -31,7 +31,7 @@ pub extern "C" fn hazhendu_phi_action_batched_transposed(
     m: &mut u32,
     applications: &mut u64,
 ) -> u32
-    ensures { lends (ends (numbers result value.new s.new m.new applications.new) out.new work.new) (buffers t_starts.new t_cols.new t_vals.new) ≡ telling taylor-numbers (phi-action-batched-transposed (csr n starts.now cols.now vals.now) (given with_mass mass.now) (buffers t_starts.old t_cols.old t_vals.old) tau degree p v.now out.old work.old) }
+    ensures { lends (ends (numbers result value.new s.new m.new applications.new) out.new work.new) (buffers t_starts.new t_cols.new t_vals.new) ≡ telling taylor_numbers (phi_action_batched_transposed (csr n starts.now cols.now vals.now) (given with_mass mass.now) (buffers t_starts.old t_cols.old t_vals.old) tau degree p v.now out.old work.old) }
 {
     let answer = transposed_batch::phi_action_batched_transposed(
         n, starts, cols, vals, with_mass, mass, t_starts, t_cols, t_vals, tau, degree, p, v, out,

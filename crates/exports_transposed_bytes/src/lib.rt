@@ -2,15 +2,15 @@
 ghost use Rattle.std.specs.Prelude.{◌≡◌, ◌/◌, ◌≤◌, length};
 ghost use Rattle.general_operator.specs.Csr.{csr};
 ghost use Rattle.generator_action.specs.Mass.{given};
-ghost use Rattle.transpose.specs.Transpose.{lengths, buffers-after, transposed-answer};
-ghost use Rattle.transposed.specs.Transposed.{phi-combination-transposed, phi-action-transposed, phi-action-batched-transposed, phi-combination-krylov-transposed};
-ghost use Rattle.le_bytes.specs.Bytes.{numbers_of, doubles-of};
-ghost use Rattle.answers.specs.Told.{numbers, run-numbers, matrix-numbers, taylor-numbers, krylov-numbers, options};
-ghost use Rattle.transposed_told.specs.Telling.{telling, matrix-told};
+ghost use Rattle.transpose.specs.Transpose.{lengths, buffers_after, transposed_answer};
+ghost use Rattle.transposed.specs.Transposed.{phi_combination_transposed, phi_action_transposed, phi_action_batched_transposed, phi_combination_krylov_transposed};
+ghost use Rattle.le_bytes.specs.Bytes.{numbers_of, doubles_of};
+ghost use Rattle.answers.specs.Told.{numbers, run_numbers, matrix_numbers, taylor_numbers, krylov_numbers, options};
+ghost use Rattle.transposed_told.specs.Telling.{telling, matrix_told};
 ghost use Rattle.byte_arrays.specs.Large.{large};
 ghost use Rattle.byte_calls.specs.Inner.{told};
-ghost use Rattle.transposed_byte_calls.specs.Replies.{lent, unpacked, replies, packs, replied, matrix-replies, matrix-packs, matrix-replied};
-ghost use Rattle.transposed_byte_calls.specs.Inner.{called-transposed, checked-transposed};
+ghost use Rattle.transposed_byte_calls.specs.Replies.{lent, unpacked, replies, packs, replied, matrix_replies, matrix_packs, matrix_replied};
+ghost use Rattle.transposed_byte_calls.specs.Inner.{called_transposed, checked_transposed};
 
 use byte_calls::{PhiCall, Told};
 
@@ -34,7 +34,7 @@ fn answer(
     work: &mut [u8],
 ) -> Told
     requires { (n ≤ 64) × (length vals.now / 8 ≤ 512) × (length work.old / 8 ≤ 4096) }
-    ensures { replies (told call result) out.new work.new (lent t_starts.new t_cols.new t_vals.new) ≡ packs (called-transposed call (csr n (numbers_of starts.now) (numbers_of cols.now) (doubles-of vals.now)) (given with_mass (doubles-of mass.now)) (unpacked (lent t_starts.old t_cols.old t_vals.old)) tau k (doubles-of v.now) (doubles-of out.old) (doubles-of work.old)) out.old work.old (lent t_starts.old t_cols.old t_vals.old) }
+    ensures { replies (told call result) out.new work.new (lent t_starts.new t_cols.new t_vals.new) ≡ packs (called_transposed call (csr n (numbers_of starts.now) (numbers_of cols.now) (doubles_of vals.now)) (given with_mass (doubles_of mass.now)) (unpacked (lent t_starts.old t_cols.old t_vals.old)) tau k (doubles_of v.now) (doubles_of out.old) (doubles_of work.old)) out.old work.old (lent t_starts.old t_cols.old t_vals.old) }
 {
     let mass_len = byte_arrays::used(with_mass, mass.len());
     let starts_part = byte_arrays::part(starts.len(), 2051);
@@ -89,7 +89,7 @@ pub extern "C" fn hazhendu_phi_combination_transposed_bytes(
     m: &mut u32,
     applications: &mut u64,
 ) -> u32
-    ensures { replies (numbers result value.new s.new m.new applications.new) out.new work.new (lent t_starts.new t_cols.new t_vals.new) ≡ replied (large n (length vals.now) (length work.old)) (replies (numbers 255 value.old s.old m.old applications.old) out.old work.old (lent t_starts.old t_cols.old t_vals.old)) (telling taylor-numbers (phi-combination-transposed (csr n (numbers_of starts.now) (numbers_of cols.now) (doubles-of vals.now)) (given with_mass (doubles-of mass.now)) (unpacked (lent t_starts.old t_cols.old t_vals.old)) tau degree count (doubles-of w.now) (doubles-of out.old) (doubles-of work.old))) }
+    ensures { replies (numbers result value.new s.new m.new applications.new) out.new work.new (lent t_starts.new t_cols.new t_vals.new) ≡ replied (large n (length vals.now) (length work.old)) (replies (numbers 255 value.old s.old m.old applications.old) out.old work.old (lent t_starts.old t_cols.old t_vals.old)) (telling taylor_numbers (phi_combination_transposed (csr n (numbers_of starts.now) (numbers_of cols.now) (doubles_of vals.now)) (given with_mass (doubles_of mass.now)) (unpacked (lent t_starts.old t_cols.old t_vals.old)) tau degree count (doubles_of w.now) (doubles_of out.old) (doubles_of work.old))) }
 {
     if byte_arrays::large(n, vals.len(), work.len()) {
         return 255;
@@ -137,7 +137,7 @@ pub extern "C" fn hazhendu_phi_action_transposed_bytes(
     m: &mut u32,
     applications: &mut u64,
 ) -> u32
-    ensures { replies (numbers result value.new s.new m.new applications.new) out.new work.new (lent t_starts.new t_cols.new t_vals.new) ≡ replied (large n (length vals.now) (length work.old)) (replies (numbers 255 value.old s.old m.old applications.old) out.old work.old (lent t_starts.old t_cols.old t_vals.old)) (telling taylor-numbers (phi-action-transposed (csr n (numbers_of starts.now) (numbers_of cols.now) (doubles-of vals.now)) (given with_mass (doubles-of mass.now)) (unpacked (lent t_starts.old t_cols.old t_vals.old)) tau degree k (doubles-of v.now) (doubles-of out.old) (doubles-of work.old))) }
+    ensures { replies (numbers result value.new s.new m.new applications.new) out.new work.new (lent t_starts.new t_cols.new t_vals.new) ≡ replied (large n (length vals.now) (length work.old)) (replies (numbers 255 value.old s.old m.old applications.old) out.old work.old (lent t_starts.old t_cols.old t_vals.old)) (telling taylor_numbers (phi_action_transposed (csr n (numbers_of starts.now) (numbers_of cols.now) (doubles_of vals.now)) (given with_mass (doubles_of mass.now)) (unpacked (lent t_starts.old t_cols.old t_vals.old)) tau degree k (doubles_of v.now) (doubles_of out.old) (doubles_of work.old))) }
 {
     if byte_arrays::large(n, vals.len(), work.len()) {
         return 255;
@@ -185,7 +185,7 @@ pub extern "C" fn hazhendu_phi_action_batched_transposed_bytes(
     m: &mut u32,
     applications: &mut u64,
 ) -> u32
-    ensures { replies (numbers result value.new s.new m.new applications.new) out.new work.new (lent t_starts.new t_cols.new t_vals.new) ≡ replied (large n (length vals.now) (length work.old)) (replies (numbers 255 value.old s.old m.old applications.old) out.old work.old (lent t_starts.old t_cols.old t_vals.old)) (telling taylor-numbers (phi-action-batched-transposed (csr n (numbers_of starts.now) (numbers_of cols.now) (doubles-of vals.now)) (given with_mass (doubles-of mass.now)) (unpacked (lent t_starts.old t_cols.old t_vals.old)) tau degree p (doubles-of v.now) (doubles-of out.old) (doubles-of work.old))) }
+    ensures { replies (numbers result value.new s.new m.new applications.new) out.new work.new (lent t_starts.new t_cols.new t_vals.new) ≡ replied (large n (length vals.now) (length work.old)) (replies (numbers 255 value.old s.old m.old applications.old) out.old work.old (lent t_starts.old t_cols.old t_vals.old)) (telling taylor_numbers (phi_action_batched_transposed (csr n (numbers_of starts.now) (numbers_of cols.now) (doubles_of vals.now)) (given with_mass (doubles_of mass.now)) (unpacked (lent t_starts.old t_cols.old t_vals.old)) tau degree p (doubles_of v.now) (doubles_of out.old) (doubles_of work.old))) }
 {
     if byte_arrays::large(n, vals.len(), work.len()) {
         return 255;
@@ -237,7 +237,7 @@ pub extern "C" fn hazhendu_phi_combination_krylov_transposed_bytes(
     shortest: &mut f64,
     last: &mut f64,
 ) -> u32
-    ensures { replies (run-numbers result value.new substeps.new matvecs.new rejected.new shortest.new last.new) out.new work.new (lent t_starts.new t_cols.new t_vals.new) ≡ replied (large n (length vals.now) (length work.old)) (replies (run-numbers 255 value.old substeps.old matvecs.old rejected.old shortest.old last.old) out.old work.old (lent t_starts.old t_cols.old t_vals.old)) (telling krylov-numbers (phi-combination-krylov-transposed (csr n (numbers_of starts.now) (numbers_of cols.now) (doubles-of vals.now)) (given with_mass (doubles-of mass.now)) (unpacked (lent t_starts.old t_cols.old t_vals.old)) tau count (doubles-of w.now) (options tol m max_substeps) (doubles-of out.old) (doubles-of work.old))) }
+    ensures { replies (run_numbers result value.new substeps.new matvecs.new rejected.new shortest.new last.new) out.new work.new (lent t_starts.new t_cols.new t_vals.new) ≡ replied (large n (length vals.now) (length work.old)) (replies (run_numbers 255 value.old substeps.old matvecs.old rejected.old shortest.old last.old) out.old work.old (lent t_starts.old t_cols.old t_vals.old)) (telling krylov_numbers (phi_combination_krylov_transposed (csr n (numbers_of starts.now) (numbers_of cols.now) (doubles_of vals.now)) (given with_mass (doubles_of mass.now)) (unpacked (lent t_starts.old t_cols.old t_vals.old)) tau count (doubles_of w.now) (options tol m max_substeps) (doubles_of out.old) (doubles_of work.old))) }
 {
     if byte_arrays::large(n, vals.len(), work.len()) {
         return 255;
@@ -283,7 +283,7 @@ fn check_answer(
     t_vals: &mut [u8],
 ) -> RowTold
     requires { (n ≤ 64) × (length vals.now / 8 ≤ 512) }
-    ensures { matrix-replies (numbers result.number result.value result.row 0 0) (lent t_starts.new t_cols.new t_vals.new) ≡ matrix-packs (checked-transposed (csr n (numbers_of starts.now) (numbers_of cols.now) (doubles-of vals.now)) (given with_mass (doubles-of mass.now)) (unpacked (lent t_starts.old t_cols.old t_vals.old))) (lent t_starts.old t_cols.old t_vals.old) }
+    ensures { matrix_replies (numbers result.number result.value result.row 0 0) (lent t_starts.new t_cols.new t_vals.new) ≡ matrix_packs (checked_transposed (csr n (numbers_of starts.now) (numbers_of cols.now) (doubles_of vals.now)) (given with_mass (doubles_of mass.now)) (unpacked (lent t_starts.old t_cols.old t_vals.old))) (lent t_starts.old t_cols.old t_vals.old) }
 {
     let mass_len = byte_arrays::used(with_mass, mass.len());
     let starts_part = byte_arrays::part(starts.len(), 2051);
@@ -329,7 +329,7 @@ pub extern "C" fn hazhendu_check_transposed_bytes(
     value: &mut f64,
     row: &mut usize,
 ) -> u32
-    ensures { matrix-replies (numbers result value.new row.new 0 0) (lent t_starts.new t_cols.new t_vals.new) ≡ matrix-replied (large n (length vals.now) 0) (matrix-replies (numbers 255 value.old row.old 0 0) (lent t_starts.old t_cols.old t_vals.old)) (matrix-told (matrix-numbers (transposed-answer (csr n (numbers_of starts.now) (numbers_of cols.now) (doubles-of vals.now)) (given with_mass (doubles-of mass.now)) (lengths (unpacked (lent t_starts.old t_cols.old t_vals.old))))) (buffers-after (csr n (numbers_of starts.now) (numbers_of cols.now) (doubles-of vals.now)) (given with_mass (doubles-of mass.now)) (unpacked (lent t_starts.old t_cols.old t_vals.old)))) }
+    ensures { matrix_replies (numbers result value.new row.new 0 0) (lent t_starts.new t_cols.new t_vals.new) ≡ matrix_replied (large n (length vals.now) 0) (matrix_replies (numbers 255 value.old row.old 0 0) (lent t_starts.old t_cols.old t_vals.old)) (matrix_told (matrix_numbers (transposed_answer (csr n (numbers_of starts.now) (numbers_of cols.now) (doubles_of vals.now)) (given with_mass (doubles_of mass.now)) (lengths (unpacked (lent t_starts.old t_cols.old t_vals.old))))) (buffers_after (csr n (numbers_of starts.now) (numbers_of cols.now) (doubles_of vals.now)) (given with_mass (doubles_of mass.now)) (unpacked (lent t_starts.old t_cols.old t_vals.old)))) }
 {
     if byte_arrays::large(n, vals.len(), 0) {
         return 255;

@@ -4,8 +4,8 @@ ghost use Rattle.general_operator.specs.Csr.{csr};
 ghost use Rattle.generator_action.specs.Mass.{given};
 ghost use Rattle.combination.specs.Call.{ends};
 ghost use Rattle.transpose.specs.Transpose.{buffers};
-ghost use Rattle.transposed.specs.Transposed.{lends, phi-combination-krylov-transposed};
-ghost use Rattle.answers.specs.Told.{run-numbers, krylov-numbers, options};
+ghost use Rattle.transposed.specs.Transposed.{lends, phi_combination_krylov_transposed};
+ghost use Rattle.answers.specs.Told.{run_numbers, krylov_numbers, options};
 ghost use Rattle.transposed_told.specs.Telling.{telling};
 
 // `transposed_krylov::phi_combination_krylov_transposed`, told by `krylov_numbers`.
@@ -35,7 +35,7 @@ pub extern "C" fn hazhendu_phi_combination_krylov_transposed(
     shortest: &mut f64,
     last: &mut f64,
 ) -> u32
-    ensures { lends (ends (run-numbers result value.new substeps.new matvecs.new rejected.new shortest.new last.new) out.new work.new) (buffers t_starts.new t_cols.new t_vals.new) ≡ telling krylov-numbers (phi-combination-krylov-transposed (csr n starts.now cols.now vals.now) (given with_mass mass.now) (buffers t_starts.old t_cols.old t_vals.old) tau count w.now (options tol m max_substeps) out.old work.old) }
+    ensures { lends (ends (run_numbers result value.new substeps.new matvecs.new rejected.new shortest.new last.new) out.new work.new) (buffers t_starts.new t_cols.new t_vals.new) ≡ telling krylov_numbers (phi_combination_krylov_transposed (csr n starts.now cols.now vals.now) (given with_mass mass.now) (buffers t_starts.old t_cols.old t_vals.old) tau count w.now (options tol m max_substeps) out.old work.old) }
 {
     let o = answers::options(tol, m, max_substeps);
     let answer = transposed_krylov::phi_combination_krylov_transposed(

@@ -8,11 +8,11 @@ ghost use Rattle.vectors.specs.Vectors.{scale};
 ghost use Rattle.pow2.specs.declared.Prescale.TheVariants.{By};
 ghost use Rattle.phi_action_helpers.specs.declared.Coupling.{Coupling};
 ghost use Rattle.phi_action_helpers.specs.declared.Layout.{Layout};
-ghost use Rattle.phi_action_helpers.specs.Laid.{matrix-at, operator-at};
-ghost use Rattle.gram_schmidt.specs.Memory.{setting-at, Room};
-ghost use Rattle.krylov_advance.specs.Run.{substep, spent, started, run, back, clamp-m, expv, expv-by};
+ghost use Rattle.phi_action_helpers.specs.Laid.{matrix_at, operator_at};
+ghost use Rattle.gram_schmidt.specs.Memory.{setting_at, Room};
+ghost use Rattle.krylov_advance.specs.Run.{substep, spent, started, run, back, clamp_m, expv, expv_by};
 ghost use Rattle.krylov_advance.specs.declared.KrylovPhiReport.{KrylovPhiReport};
-ghost use Rattle.krylov_advance.specs.Memory.{state-at, progress-at, end-at};
+ghost use Rattle.krylov_advance.specs.Memory.{state_at, progress_at, end_at};
 
 use gram_schmidt::Krylov;
 use krylov_advance::{Control, KrylovPhiReport, Progress, RunAnswer};
@@ -33,9 +33,9 @@ fn run_substeps(
     c: Control,
     r: KrylovPhiReport,
 ) -> Progress
-    requires room { Room l b k (matrix-at l starts.now cols.now vals.now work.old) (length vals.now) (length vectors.now) (length work.old) }
+    requires room { Room l b k (matrix_at l starts.now cols.now vals.now work.old) (length vals.now) (length vectors.now) (length work.old) }
     requires m_bound { (k.m ≤ 128) × (limit ≤ 1000000) × (r.matvecs ≡ 0) × (r.substeps ≡ 0) × (r.rejected ≡ 0) }
-    ensures work_after { progress-at l k result work.new ≡ walk (λ _. substep (setting-at l b k (matrix-at l starts.now cols.now vals.now work.old) vectors.now)) limit 0 (on (state-at l k c r work.old)) }
+    ensures work_after { progress_at l k result work.new ≡ walk (λ _. substep (setting_at l b k (matrix_at l starts.now cols.now vals.now work.old) vectors.now)) limit 0 (on (state_at l k c r work.old)) }
     ensures kept { Kept 0 l.q +0 work.old work.new }
 {
     let mut o = Progress::On(c, r);
@@ -52,7 +52,7 @@ fn run_substeps(
 
 // 27 for a run that has not ended.
 fn spent(o: Progress) -> RunAnswer
-    ensures { (l : Layout) (k : Krylov) (w : List Float) → end-at l k result w ≡ spent (progress-at l k o w) }
+    ensures { (l : Layout) (k : Krylov) (w : List Float) → end_at l k result w ≡ spent (progress_at l k o w) }
 {
     match o {
         Progress::On(c, r) => RunAnswer::Refused(27, r.est_error, c, r),
@@ -73,9 +73,9 @@ fn substeps(
     k: Krylov,
     limit: usize,
 ) -> RunAnswer
-    requires room { Room l b k (matrix-at l starts.now cols.now vals.now work.old) (length vals.now) (length vectors.now) (length work.old) }
+    requires room { Room l b k (matrix_at l starts.now cols.now vals.now work.old) (length vals.now) (length vectors.now) (length work.old) }
     requires m_bound { (k.m ≤ 128) × (limit ≤ 1000000) }
-    ensures work_after { end-at l k result work.new ≡ run (setting-at l b k (matrix-at l starts.now cols.now vals.now work.old) vectors.now) limit (started (setting-at l b k (matrix-at l starts.now cols.now vals.now work.old) vectors.now) (window k.y (l.n + l.d) work.old)) }
+    ensures work_after { end_at l k result work.new ≡ run (setting_at l b k (matrix_at l starts.now cols.now vals.now work.old) vectors.now) limit (started (setting_at l b k (matrix_at l starts.now cols.now vals.now work.old) vectors.now) (window k.y (l.n + l.d) work.old)) }
     ensures kept { Kept 0 l.q +0 work.old work.new }
 {
     let y = k.y;
@@ -99,7 +99,7 @@ fn substeps(
 
 // The estimate relative to the first norm; the field is scaled back by the caller.
 fn relative(o: RunAnswer, beta: f64) -> RunAnswer
-    ensures { (l : Layout) (k : Krylov) (up : Float) (w w₁ : List Float) → window k.y (l.n + l.d) w₁ ≡ scale up (window k.y (l.n + l.d) w) → end-at l k result w₁ ≡ back up beta (end-at l k o w) }
+    ensures { (l : Layout) (k : Krylov) (up : Float) (w w₁ : List Float) → window k.y (l.n + l.d) w₁ ≡ scale up (window k.y (l.n + l.d) w) → end_at l k result w₁ ≡ back up beta (end_at l k o w) }
 {
     match o {
         RunAnswer::Finished(c, r) => RunAnswer::Finished(
@@ -128,9 +128,9 @@ fn scaled_run(
     limit: usize,
     f: Scale,
 ) -> RunAnswer
-    requires room { Room l b k (matrix-at l starts.now cols.now vals.now work.old) (length vals.now) (length vectors.now) (length work.old) }
-    requires m_bound { (k.m ≤ 128) × (limit ≤ 1000000) × (clamp-m k.m (l.n + l.d) ≡ k.m) }
-    ensures work_after { end-at l k result work.new ≡ expv-by (operator-at l b starts.now cols.now vals.now vectors.now work.old) k.tau k.anorm k.tol k.m limit (window k.y (l.n + l.d) work.old) (By f) }
+    requires room { Room l b k (matrix_at l starts.now cols.now vals.now work.old) (length vals.now) (length vectors.now) (length work.old) }
+    requires m_bound { (k.m ≤ 128) × (limit ≤ 1000000) × (clamp_m k.m (l.n + l.d) ≡ k.m) }
+    ensures work_after { end_at l k result work.new ≡ expv_by (operator_at l b starts.now cols.now vals.now vectors.now work.old) k.tau k.anorm k.tol k.m limit (window k.y (l.n + l.d) work.old) (By f) }
     ensures kept { Kept 0 l.q +0 work.old work.new }
 {
     let y = k.y;
@@ -162,9 +162,9 @@ pub fn expv(
     k: Krylov,
     limit: usize,
 ) -> RunAnswer
-    requires room { Room l b k (matrix-at l starts.now cols.now vals.now work.old) (length vals.now) (length vectors.now) (length work.old) }
-    requires m_bound { (k.m ≤ 128) × (limit ≤ 1000000) × (clamp-m k.m (l.n + l.d) ≡ k.m) }
-    ensures work_after { end-at l k result work.new ≡ expv (operator-at l b starts.now cols.now vals.now vectors.now work.old) k.tau k.anorm k.tol k.m limit (window k.y (l.n + l.d) work.old) }
+    requires room { Room l b k (matrix_at l starts.now cols.now vals.now work.old) (length vals.now) (length vectors.now) (length work.old) }
+    requires m_bound { (k.m ≤ 128) × (limit ≤ 1000000) × (clamp_m k.m (l.n + l.d) ≡ k.m) }
+    ensures work_after { end_at l k result work.new ≡ expv (operator_at l b starts.now cols.now vals.now vectors.now work.old) k.tau k.anorm k.tol k.m limit (window k.y (l.n + l.d) work.old) }
     ensures kept { Kept 0 l.q +0 work.old work.new }
 {
     let y = k.y;

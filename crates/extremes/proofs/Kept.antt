@@ -9,47 +9,47 @@ use lib.Dec.{T}
 use lib.Ieee.{Float, nan, inf, fin, eq, lt, le, is_nan}
 use lib.Ieee.Bits.{is_true}
 use Rattle.lists.specs.Loop.{iter}
-use Rattle.lists.proofs.Bounds.{lt-or-le}
-use Rattle.doubles.specs.F64.{if◌then◌else◌, ◌⩽◌, ◌⋖◌, +0, at, replaced, maxNum, minNum}
-use Rattle.doubles.proofs.Total.{⩽-refl, ⩽-trans, ⩽-or-⋖, ⋖-⩽, ⋖-apart, le-number-right}
-use Rattle.doubles.proofs.Extremes.{replaced-number, min-of-two}
-use Rattle.extremes.specs.Extremes.{unsigned-zero, window-start, extreme, largest, smallest}
-use Rattle.extremes.proofs.Windows.{start-within}
+use Rattle.lists.proofs.Bounds.{lt_or_le}
+use Rattle.doubles.specs.F64.{if◌then◌else◌, ◌⩽◌, ◌⋖◌, +0, at, replaced, max_num, min_num}
+use Rattle.doubles.proofs.Total.{⩽_refl, ⩽_trans, ⩽_or_⋖, ⋖_⩽, ⋖_apart, le_number_right}
+use Rattle.doubles.proofs.Extremes.{replaced_number, min_of_two}
+use Rattle.extremes.specs.Extremes.{unsigned_zero, window_start, extreme, largest, smallest}
+use Rattle.extremes.proofs.Windows.{start_within}
 
 -- the maximum of two numbers is the one that is at least the other
-pub max-of-two : (x y : Float) → T (not (is_nan x)) → T (not (is_nan y)) → ((maxNum x y ≡ x) × T (y ⩽ x)) ⊎ ((maxNum x y ≡ y) × T (x ⩽ y))
-unfolding maxNum
-max-of-two x y p q = rw (replaced-number x y (x ⋖ y) p) (go (x ⋖ y) refl (⩽-or-⋖ y x q p))
+pub max_of_two : (x y : Float) → T (not (is_nan x)) → T (not (is_nan y)) → ((max_num x y ≡ x) × T (y ⩽ x)) ⊎ ((max_num x y ≡ y) × T (x ⩽ y))
+unfolding max_num
+max_of_two x y p q = rw (replaced_number x y (x ⋖ y) p) (go (x ⋖ y) refl (⩽_or_⋖ y x q p))
   where
     go : (b : Bool) → (x ⋖ y) ≡ b → T (y ⩽ x) ⊎ T (x ⋖ y) → (((if b then y else x) ≡ x) × T (y ⩽ x)) ⊎ (((if b then y else x) ≡ y) × T (x ⩽ y))
-    go true e h = inr (refl, ⋖-⩽ x y (subst T (sym e) tt))
+    go true e h = inr (refl, ⋖_⩽ x y (subst T (sym e) tt))
     go false e (inl l) = inl (refl, l)
     go false e (inr g) = absurd (true≢false (sym (is_true (x ⋖ y) g) ∙ e))
 
 -- ---- zeros of either sign are equal
-or-true : (b : Bool) → T (b || true)
-or-true true = tt
-or-true false = tt
+or_true : (b : Bool) → T (b || true)
+or_true true = tt
+or_true false = tt
 
-zero-under : (x : Float) → eq x +0 ≡ true → T (x ⩽ +0)
+zero_under : (x : Float) → eq x +0 ≡ true → T (x ⩽ +0)
 unfolding le
-zero-under x e = rw e (or-true (lt x +0))
+zero_under x e = rw e (or_true (lt x +0))
 
-zero-over : (x : Float) → T (not (is_nan x)) → eq x +0 ≡ true → T (+0 ⩽ x)
-zero-over x n e = ⊎_elim (λ (l : T (+0 ⩽ x)). l) (λ (l : T (x ⋖ +0)). absurd (⋖-apart x +0 l (subst T (sym e) tt))) (⩽-or-⋖ +0 x (le-number-right x +0 (zero-under x e)) n)
+zero_over : (x : Float) → T (not (is_nan x)) → eq x +0 ≡ true → T (+0 ⩽ x)
+zero_over x n e = ⊎_elim (λ (l : T (+0 ⩽ x)). l) (λ (l : T (x ⋖ +0)). absurd (⋖_apart x +0 l (subst T (sym e) tt))) (⩽_or_⋖ +0 x (le_number_right x +0 (zero_under x e)) n)
 
 -- +0 for a zero, any other as it is
-zero_or_not : (x : Float) → (unsigned-zero x ≡ x) ⊎ ((eq x +0 ≡ true) × (unsigned-zero x ≡ +0))
-unfolding unsigned-zero
+zero_or_not : (x : Float) → (unsigned_zero x ≡ x) ⊎ ((eq x +0 ≡ true) × (unsigned_zero x ≡ +0))
+unfolding unsigned_zero
 zero_or_not x = go (eq x +0) refl
   where
     go : (b : Bool) → eq x +0 ≡ b → ((if b then +0 else x) ≡ x) ⊎ ((eq x +0 ≡ true) × ((if b then +0 else x) ≡ +0))
     go true e = inr (e, refl)
     go false e = inl refl
 
-pub zero-unsigned : (x : Float) → eq (unsigned-zero x) +0 ≡ true → unsigned-zero x ≡ +0
-unfolding unsigned-zero
-zero-unsigned x = go (eq x +0) refl
+pub zero_unsigned : (x : Float) → eq (unsigned_zero x) +0 ≡ true → unsigned_zero x ≡ +0
+unfolding unsigned_zero
+zero_unsigned x = go (eq x +0) refl
   where
     go : (b : Bool) → eq x +0 ≡ b → eq (if b then +0 else x) +0 ≡ true → (if b then +0 else x) ≡ +0
     go true e h = refl
@@ -87,14 +87,14 @@ module _ (op : Float → Float → Float) (R : Float → Float → Type 0) (pick
                 place = b.place;
                 within = omega (arith, b.within);
                 is = c.0 ∙ b.is;
-                all = λ k l. subst (λ (y : Float). R y (f k)) (sym c.0) (⊎_elim (λ (a : n < k). subst (λ (j : ℕ). R (iter (λ k m. op m (f (k + 1))) n (f 0)) (f j)) (last k a l) c.1) (λ (a : k ≤ n). b.all k a) (lt-or-le n k));
+                all = λ k l. subst (λ (y : Float). R y (f k)) (sym c.0) (⊎_elim (λ (a : n < k). subst (λ (j : ℕ). R (iter (λ k m. op m (f (k + 1))) n (f 0)) (f j)) (last k a l) c.1) (λ (a : k ≤ n). b.all k a) (lt_or_le n k));
               }
           by (inr c) =
               record {
                 place = n + 1;
                 within = omega arith;
                 is = c.0;
-                all = λ k l. subst (λ (y : Float). R y (f k)) (sym c.0) (⊎_elim (λ (a : n < k). subst (λ (j : ℕ). R (f (n + 1)) (f j)) (last k a l) (itself (f (n + 1)) (h (n + 1) (omega arith)))) (λ (a : k ≤ n). on (f (n + 1)) _ (f k) c.1 (b.all k a)) (lt-or-le n k));
+                all = λ k l. subst (λ (y : Float). R y (f k)) (sym c.0) (⊎_elim (λ (a : n < k). subst (λ (j : ℕ). R (f (n + 1)) (f j)) (last k a l) (itself (f (n + 1)) (h (n + 1) (omega arith)))) (λ (a : k ≤ n). on (f (n + 1)) _ (f k) c.1 (b.all k a)) (lt_or_le n k));
               }
 
   -- ---- the extreme of a window: place j is in it where j ≤ i < j + W
@@ -106,17 +106,17 @@ module _ (op : Float → Float → Float) (R : Float → Float → Type 0) (pick
     pub beyond : (j : ℕ) → j ≤ i → i < j + W → R e (at x j)
     pub unsigned : eq e +0 ≡ true → e ≡ +0
 
-  pub extreme-known : ((x y : Float) → T (not (is_nan x)) → eq x +0 ≡ true → R x y → R +0 y) → (W : ℕ) (x : List Float) (i : ℕ) → 1 ≤ W → ((j : ℕ) → j ≤ i → i < j + W → T (not (is_nan (at x j)))) → Extreme W x i (extreme op W x i)
-  unfolding extreme window-start
-  extreme-known zeros W x i h n =
-      let s = window-start W i in
-      let l = start-within W i h in
+  pub extreme_known : ((x y : Float) → T (not (is_nan x)) → eq x +0 ≡ true → R x y → R +0 y) → (W : ℕ) (x : List Float) (i : ℕ) → 1 ≤ W → ((j : ℕ) → j ≤ i → i < j + W → T (not (is_nan (at x j)))) → Extreme W x i (extreme op W x i)
+  unfolding extreme window_start
+  extreme_known zeros W x i h n =
+      let s = window_start W i in
+      let l = start_within W i h in
       let b = best (λ k. at x (s + k)) (i - s) (λ k c. n (s + k) (omega (arith, l, c)) (omega arith)) in
       let z : s + 0 ≡ s = omega arith in
       let f = rw z at b in
       go s l (omega arith) (λ j c. omega (arith, c)) _ f (zero_or_not _)
     where
-      go : (s : ℕ) → s ≤ i → i < s + W → ((j : ℕ) → i < j + W → s ≤ j) → (e : Float) → Best (λ k. at x (s + k)) (i - s) e → ((unsigned-zero e ≡ e) ⊎ ((eq e +0 ≡ true) × (unsigned-zero e ≡ +0))) → Extreme W x i (unsigned-zero e)
+      go : (s : ℕ) → s ≤ i → i < s + W → ((j : ℕ) → i < j + W → s ≤ j) → (e : Float) → Best (λ k. at x (s + k)) (i - s) e → ((unsigned_zero e ≡ e) ⊎ ((eq e +0 ≡ true) × (unsigned_zero e ≡ +0))) → Extreme W x i (unsigned_zero e)
       go s l lo hi e b t =
           record {
             place = s + b.place;
@@ -124,10 +124,10 @@ module _ (op : Float → Float → Float) (R : Float → Float → Type 0) (pick
             within = omega (arith, lo);
             one = told t;
             beyond = λ j a c. kept t j a c;
-            unsigned = zero-unsigned e;
+            unsigned = zero_unsigned e;
           }
         where
-          told : ((unsigned-zero e ≡ e) ⊎ ((eq e +0 ≡ true) × (unsigned-zero e ≡ +0))) → (unsigned-zero e ≡ at x (s + b.place)) ⊎ ((eq (at x (s + b.place)) +0 ≡ true) × (unsigned-zero e ≡ +0))
+          told : ((unsigned_zero e ≡ e) ⊎ ((eq e +0 ≡ true) × (unsigned_zero e ≡ +0))) → (unsigned_zero e ≡ at x (s + b.place)) ⊎ ((eq (at x (s + b.place)) +0 ≡ true) × (unsigned_zero e ≡ +0))
           told (inl u) = inl (u ∙ b.is)
           told (inr u) = inr (subst (λ (y : Float). eq y +0 ≡ true) b.is u.0, u.1)
 
@@ -140,7 +140,7 @@ module _ (op : Float → Float → Float) (R : Float → Float → Type 0) (pick
               let k : s + (j - s) ≡ j = omega (arith, d) in
               subst (λ (p : ℕ). R e (at x p)) k (b.all (j - s) (omega (arith, a, d)))
 
-          kept : ((unsigned-zero e ≡ e) ⊎ ((eq e +0 ≡ true) × (unsigned-zero e ≡ +0))) → (j : ℕ) → j ≤ i → i < j + W → R (unsigned-zero e) (at x j)
+          kept : ((unsigned_zero e ≡ e) ⊎ ((eq e +0 ≡ true) × (unsigned_zero e ≡ +0))) → (j : ℕ) → j ≤ i → i < j + W → R (unsigned_zero e) (at x j)
           kept (inl u) j a c = subst (λ (y : Float). R y (at x j)) (sym u) (reached j a c)
           kept (inr u) j a c = subst (λ (y : Float). R y (at x j)) (sym u.1) (zeros e (at x j) number u.0 (reached j a c))
 
@@ -151,10 +151,10 @@ Above e x = T (x ⩽ e)
 abbrev pub Below : Float → Float → Type 0
 Below e x = T (e ⩽ x)
 
-pub largest-known : (W : ℕ) (x : List Float) (i : ℕ) → 1 ≤ W → ((j : ℕ) → j ≤ i → i < j + W → T (not (is_nan (at x j)))) → Extreme maxNum Above max-of-two ⩽-refl (λ a b c p q. ⩽-trans c b a q p) W x i (largest W x i)
+pub largest_known : (W : ℕ) (x : List Float) (i : ℕ) → 1 ≤ W → ((j : ℕ) → j ≤ i → i < j + W → T (not (is_nan (at x j)))) → Extreme max_num Above max_of_two ⩽_refl (λ a b c p q. ⩽_trans c b a q p) W x i (largest W x i)
 unfolding largest
-largest-known W x i h n = extreme-known maxNum Above max-of-two ⩽-refl (λ a b c p q. ⩽-trans c b a q p) (λ a b c e p. ⩽-trans b a +0 p (zero-under a e)) W x i h n
+largest_known W x i h n = extreme_known max_num Above max_of_two ⩽_refl (λ a b c p q. ⩽_trans c b a q p) (λ a b c e p. ⩽_trans b a +0 p (zero_under a e)) W x i h n
 
-pub smallest-known : (W : ℕ) (x : List Float) (i : ℕ) → 1 ≤ W → ((j : ℕ) → j ≤ i → i < j + W → T (not (is_nan (at x j)))) → Extreme minNum Below min-of-two ⩽-refl ⩽-trans W x i (smallest W x i)
+pub smallest_known : (W : ℕ) (x : List Float) (i : ℕ) → 1 ≤ W → ((j : ℕ) → j ≤ i → i < j + W → T (not (is_nan (at x j)))) → Extreme min_num Below min_of_two ⩽_refl ⩽_trans W x i (smallest W x i)
 unfolding smallest
-smallest-known W x i h n = extreme-known minNum Below min-of-two ⩽-refl ⩽-trans (λ a b c e p. ⩽-trans +0 a b (zero-over a c e) p) W x i h n
+smallest_known W x i h n = extreme_known min_num Below min_of_two ⩽_refl ⩽_trans (λ a b c e p. ⩽_trans +0 a b (zero_over a c e) p) W x i h n

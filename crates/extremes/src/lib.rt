@@ -2,11 +2,11 @@
 ghost use Rattle.std.specs.Prelude.{◌≡◌, ◌≤◌, ◌<◌, length};
 ghost use Rattle.lists.specs.Loop.{tabulate};
 ghost use Rattle.lists.specs.Window.{splice};
-ghost use Rattle.extremes.specs.Extremes.{unsigned-zero, window-start, largest, smallest};
+ghost use Rattle.extremes.specs.Extremes.{unsigned_zero, window_start, largest, smallest};
 
 // An extreme of 0 is given as +0.
 fn unsigned_zero(x: f64) -> f64
-    ensures { result ≡ unsigned-zero x }
+    ensures { result ≡ unsigned_zero x }
 {
     if x == 0.0 {
         return 0.0;
@@ -17,7 +17,7 @@ fn unsigned_zero(x: f64) -> f64
 // Where the window that ends with place i begins.
 fn window_start(width: usize, i: usize) -> usize
     requires { (1 ≤ width) × (i < 1000000) }
-    ensures value { result ≡ window-start width i }
+    ensures value { result ≡ window_start width i }
     ensures upper_bound { result ≤ i }
 {
     if i < width {

@@ -1,7 +1,7 @@
 // Exact functions of a double, each total: NaN, infinities, zeros of both signs and subnormals included.
 ghost use Rattle.std.specs.Prelude.{◌≡◌, ◌*◌, ◌/◌, ◌^◌, ◌<◌, ◌≤◌};
 ghost use Rattle.std.specs.Float.{nan};
-ghost use Rattle.doubles.specs.F64.{INF-BITS, abs, is_finite, maxNum, minNum, nat};
+ghost use Rattle.doubles.specs.F64.{INF_BITS, abs, is_finite, max_num, min_num, nat};
 ghost use Rattle.doubles.specs.Value.{val};
 ghost use Rattle.doubles.specs.Whole.{ceil, floor};
 
@@ -41,7 +41,7 @@ pub fn count(n: usize) -> f64
 
 // f64::max: a NaN operand is dropped.
 pub fn max(x: f64, y: f64) -> f64
-    ensures { result ≡ maxNum x y }
+    ensures { result ≡ max_num x y }
 {
     if x != x {
         return y;
@@ -54,7 +54,7 @@ pub fn max(x: f64, y: f64) -> f64
 
 // f64::min: a NaN operand is dropped.
 pub fn min(x: f64, y: f64) -> f64
-    ensures { result ≡ minNum x y }
+    ensures { result ≡ min_num x y }
 {
     if x != x {
         return y;
@@ -67,7 +67,7 @@ pub fn min(x: f64, y: f64) -> f64
 
 // The pattern of the whole part of the number that the pattern a stands for.
 fn whole_bits(a: u64) -> u64
-    requires { a < INF-BITS }
+    requires { a < INF_BITS }
     ensures { (result ≤ a) × (val result ≡ val a / 2 ^ 1074 * 2 ^ 1074) }
 {
     let field = a / 0x10_0000_0000_0000;

@@ -2,7 +2,7 @@
 use Rattle.std.specs.Prelude.{List, ◌≡◌, ℕ, ◌+◌, ◌-◌, ◌≤◌, ◌<◌, length, get_or, Float}
 use Rattle.std.specs.Float.Ieee.{neg}
 use Rattle.lists.specs.Loop.{iter, tabulate}
-use Rattle.doubles.specs.F64.{◌⊗◌, +0, at, abs, maxNum}
+use Rattle.doubles.specs.F64.{◌⊗◌, +0, at, abs, max_num}
 use Rattle.doubles.specs.Sum.{sum}
 
 -- n rows; the entries of row i are those from start i up to start (i + 1), each with its column
@@ -19,23 +19,23 @@ abbrev pub start : Csr → ℕ → ℕ
 start q i = get_or q.starts i 0
 
 -- the sum of the sizes of the entries from `from` up to `to`
-unfoldable pub size-sum : List Float → ℕ → ℕ → Float
-size-sum entries from to = sum (to - from) (λ k. abs (at entries (from + k)))
+unfoldable pub size_sum : List Float → ℕ → ℕ → Float
+size_sum entries from to = sum (to - from) (λ k. abs (at entries (from + k)))
 
-unfoldable pub row-sum : Csr → ℕ → Float
-row-sum q i = size-sum q.entries (start q i) (start q (i + 1))
+unfoldable pub row_sum : Csr → ℕ → Float
+row_sum q i = size_sum q.entries (start q i) (start q (i + 1))
 
 -- `row_sum_norm`: the largest row sum, from +0
-unfoldable pub row-sum-norm : Csr → Float
-row-sum-norm q = iter (λ i m. maxNum m (row-sum q i)) q.n +0
+unfoldable pub row_sum_norm : Csr → Float
+row_sum_norm q = iter (λ i m. max_num m (row_sum q i)) q.n +0
 
 -- minus the products of a row's entries with what x has at their columns, summed in stored order from +0
-unfoldable pub row-product : List ℕ → List Float → List Float → ℕ → ℕ → Float
-row-product columns entries x from to = neg (sum (to - from) (λ k. at entries (from + k) ⊗ at x (get_or columns (from + k) 0)))
+unfoldable pub row_product : List ℕ → List Float → List Float → ℕ → ℕ → Float
+row_product columns entries x from to = neg (sum (to - from) (λ k. at entries (from + k) ⊗ at x (get_or columns (from + k) 0)))
 
 -- `apply_generator`: G x for G = -Q
-unfoldable pub apply-generator : Csr → List Float → List Float
-apply-generator q x = tabulate q.n (λ i. row-product q.columns q.entries x (start q i) (start q (i + 1)))
+unfoldable pub apply_generator : Csr → List Float → List Float
+apply_generator q x = tabulate q.n (λ i. row_product q.columns q.entries x (start q i) (start q (i + 1)))
 
 -- what a matrix is known to have that passes the checks 1 to 6
 pub record Valid (q : Csr) : Type 0 where
@@ -48,7 +48,7 @@ pub record Valid (q : Csr) : Type 0 where
   pub paired : length q.columns ≡ length q.entries
   pub below : (k : ℕ) → k < length q.columns → get_or q.columns k 0 < q.n
 
--- to compute: a line `unfolding open-Csr` opens every definition of this file and of those below it
-unfoldable pub open-Csr : Unit {0}
-unfolding size-sum row-sum row-sum-norm row-product apply-generator Rattle.doubles.specs.Sum.open-Sum
-open-Csr = tt
+-- to compute: a line `unfolding open_csr` opens every definition of this file and of those below it
+unfoldable pub open_csr : Unit {0}
+unfolding size_sum row_sum row_sum_norm row_product apply_generator Rattle.doubles.specs.Sum.open_sum
+open_csr = tt

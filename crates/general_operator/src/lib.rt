@@ -3,13 +3,13 @@ ghost use Rattle.std.specs.Prelude.{◌≡◌, ◌+◌, ◌<◌, length};
 ghost use Rattle.lists.specs.Find.{find};
 ghost use Rattle.checks.specs.First.{first};
 ghost use Rattle.general_operator.specs.Csr.{csr};
-ghost use Rattle.general_operator.specs.Checks.{wrong-rows, wrong-entries, too_large, falls, bad-entry, shape-checks, row-checks, entry-checks, matrix-checks};
+ghost use Rattle.general_operator.specs.Checks.{wrong_rows, wrong_entries, too_large, falls, bad_entry, shape_checks, row_checks, entry_checks, matrix_checks};
 
 use checks::Checked;
 
 // n + 1 is not formed: n may be the largest number.
 fn wrong_rows(n: usize, len: usize) -> bool
-    ensures { result ≡ wrong-rows n len }
+    ensures { result ≡ wrong_rows n len }
 {
     if n == 0 {
         return true;
@@ -25,7 +25,7 @@ fn wrong_rows(n: usize, len: usize) -> bool
 
 fn wrong_entries(n: usize, starts: &[u32], columns: usize, entries: usize) -> bool
     requires { n < length starts.now }
-    ensures { result ≡ wrong-entries n starts.now columns entries }
+    ensures { result ≡ wrong_entries n starts.now columns entries }
 {
     if columns != entries {
         return true;
@@ -45,7 +45,7 @@ fn too_large(n: usize, entries: usize) -> bool
 
 // 1 to 3.
 fn check_shape(n: usize, starts: &[u32], columns: usize, entries: usize) -> Checked
-    ensures { result ≡ first (shape-checks n starts.now columns entries) }
+    ensures { result ≡ first (shape_checks n starts.now columns entries) }
 {
     if wrong_rows(n, starts.len()) {
         return Checked::Refused(1, float::count(starts.len()));
@@ -75,7 +75,7 @@ fn first_fall(starts: &[u32], n: usize) -> usize
 // 4.
 fn check_rows(n: usize, starts: &[u32]) -> Checked
     requires { n < length starts.now }
-    ensures { result ≡ first (row-checks n starts.now) }
+    ensures { result ≡ first (row_checks n starts.now) }
 {
     let i = first_fall(starts, n);
     if i < n {
@@ -86,7 +86,7 @@ fn check_rows(n: usize, starts: &[u32]) -> Checked
 
 fn is_bad_entry(n: usize, cols: &[u32], vals: &[f64], k: usize) -> bool
     requires { (k < length cols.now) × (k < length vals.now) }
-    ensures { result ≡ bad-entry n cols.now vals.now k }
+    ensures { result ≡ bad_entry n cols.now vals.now k }
 {
     let c = cols[k] as usize;
     if n <= c {
@@ -98,7 +98,7 @@ fn is_bad_entry(n: usize, cols: &[u32], vals: &[f64], k: usize) -> bool
 // Entries before the first row start are tested like all others.
 fn first_bad_entry(n: usize, cols: &[u32], vals: &[f64]) -> usize
     requires { length cols.now ≡ length vals.now }
-    ensures { result ≡ find (bad-entry n cols.now vals.now) (length vals.now) }
+    ensures { result ≡ find (bad_entry n cols.now vals.now) (length vals.now) }
 {
     for k in 0..vals.len() {
         if is_bad_entry(n, cols, vals, k) {
@@ -111,7 +111,7 @@ fn first_bad_entry(n: usize, cols: &[u32], vals: &[f64]) -> usize
 // 5 and 6.
 fn check_entries(n: usize, cols: &[u32], vals: &[f64]) -> Checked
     requires { length cols.now ≡ length vals.now }
-    ensures { result ≡ first (entry-checks n cols.now vals.now) }
+    ensures { result ≡ first (entry_checks n cols.now vals.now) }
 {
     let k = first_bad_entry(n, cols, vals);
     if k < vals.len() {
@@ -126,7 +126,7 @@ fn check_entries(n: usize, cols: &[u32], vals: &[f64]) -> Checked
 
 // 1 to 6.
 pub fn validate_csr(n: usize, starts: &[u32], cols: &[u32], vals: &[f64]) -> Checked
-    ensures { result ≡ first (matrix-checks (csr n starts.now cols.now vals.now)) }
+    ensures { result ≡ first (matrix_checks (csr n starts.now cols.now vals.now)) }
 {
     let shape = check_shape(n, starts, cols.len(), vals.len());
     let Checked::Sound = shape else {

@@ -5,22 +5,22 @@ use Rattle.lists.specs.Find.{find}
 use Rattle.checks.specs.First.{first}
 use Rattle.checks.specs.declared.Checked.{Checked}
 use Rattle.checks.specs.declared.Checked.TheVariants.{Sound, Refused}
-use Rattle.general_operator.specs.Csr.{Csr, row-sum, row-sum-norm}
+use Rattle.general_operator.specs.Csr.{Csr, row_sum, row_sum_norm}
 use Rattle.generator_action.specs.declared.MatrixAnswer.{MatrixAnswer}
 use Rattle.generator_action.specs.declared.MatrixAnswer.TheVariants.{Refusal, Norm}
-use Rattle.generator_action.specs.Mass.{Mass, quotients, generator-checks, open-Mass}
+use Rattle.generator_action.specs.Mass.{Mass, quotients, generator_checks, open_mass}
 
 -- the first row whose sum equals the norm (document 02, N1)
-unfoldable pub largest-row : Csr → ℕ
-largest-row q = find (λ i. eq (row-sum q i) (row-sum-norm q)) q.n
+unfoldable pub largest_row : Csr → ℕ
+largest_row q = find (λ i. eq (row_sum q i) (row_sum_norm q)) q.n
 
-unfoldable pub unless-refused : Checked → Csr → MatrixAnswer
-unless-refused (Refused k x) q = Refusal k x
-unless-refused Sound q = Norm (row-sum-norm q) (largest-row q)
+unfoldable pub unless_refused : Checked → Csr → MatrixAnswer
+unless_refused (Refused k x) q = Refusal k x
+unless_refused Sound q = Norm (row_sum_norm q) (largest_row q)
 
 -- the first refusal that holds, or the norm of the quotients and the first row that has it
-unfoldable pub matrix-answer : Csr → Mass → MatrixAnswer
-matrix-answer a mass = unless-refused (first (generator-checks a mass)) (quotients a mass)
+unfoldable pub matrix_answer : Csr → Mass → MatrixAnswer
+matrix_answer a mass = unless_refused (first (generator_checks a mass)) (quotients a mass)
 
 -- 0 or the refusal's number; the norm or the refusal's double
 unfoldable pub number : MatrixAnswer → ℕ
@@ -31,7 +31,7 @@ unfoldable pub value : MatrixAnswer → Float
 value (Refusal k x) = x
 value (Norm x i) = x
 
--- to compute: a line `unfolding open-Answer` opens every definition of this file and of those below it
-unfoldable pub open-Answer : Unit {0}
-unfolding largest-row unless-refused matrix-answer open-Mass
-open-Answer = tt
+-- to compute: a line `unfolding open_answer` opens every definition of this file and of those below it
+unfoldable pub open_answer : Unit {0}
+unfolding largest_row unless_refused matrix_answer open_mass
+open_answer = tt

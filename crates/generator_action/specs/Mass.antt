@@ -7,8 +7,8 @@ use Rattle.lists.specs.Loop.{tabulate}
 use Rattle.lists.specs.Find.{find, exists}
 use Rattle.doubles.specs.F64.{◌⊘◌, ◌⩽◌, +0, nat, at, is_finite}
 use Rattle.checks.specs.First.{Check, refuse}
-use Rattle.general_operator.specs.Csr.{Csr, csr, start, row-sum, row-sum-norm}
-use Rattle.general_operator.specs.Checks.{matrix-checks, open-Checks}
+use Rattle.general_operator.specs.Csr.{Csr, csr, start, row_sum, row_sum_norm}
+use Rattle.general_operator.specs.Checks.{matrix_checks, open_checks}
 
 -- one mass to a row, if there is one
 abbrev pub Mass : Type 0
@@ -37,42 +37,42 @@ stored a none = []
 stored a (some mass) = (normalise a mass).entries
 
 -- how many places they take there
-unfoldable pub quotient-need : Csr → Mass → ℕ
-quotient-need a none = 0
-quotient-need a (some mass) = length a.entries
+unfoldable pub quotient_need : Csr → Mass → ℕ
+quotient_need a none = 0
+quotient_need a (some mass) = length a.entries
 
 -- not finite, or not above 0
-unfoldable pub bad-mass : Float → Bool
-bad-mass x = not (is_finite x) || x ⩽ +0
+unfoldable pub bad_mass : Float → Bool
+bad_mass x = not (is_finite x) || x ⩽ +0
 
-unfoldable pub mass-checks : Csr → List Float → List Check
-mass-checks a mass =
-    let bad : ℕ → Bool = λ i. bad-mass (at mass i) in
+unfoldable pub mass_checks : Csr → List Float → List Check
+mass_checks a mass =
+    let bad : ℕ → Bool = λ i. bad_mass (at mass i) in
     refuse 7 (not (eqb (length mass) a.n)) (nat (length mass))
     ∷ refuse 8 (exists bad (length mass)) (at mass (find bad (length mass)))
     ∷ refuse 9 (not (eqb (start a 0) 0)) nan
     ∷ []
 
 unfoldable pub bad_sum : Csr → ℕ → Bool
-bad_sum q i = not (is_finite (row-sum q i))
+bad_sum q i = not (is_finite (row_sum q i))
 
 -- with a mass: of the quotients
-unfoldable pub sum-checks : Csr → List Check
-sum-checks q = refuse 10 (exists (bad_sum q) q.n) (row-sum q (find (bad_sum q) q.n)) ∷ []
+unfoldable pub sum_checks : Csr → List Check
+sum_checks q = refuse 10 (exists (bad_sum q) q.n) (row_sum q (find (bad_sum q) q.n)) ∷ []
 
 -- without one
-unfoldable pub norm-checks : Csr → List Check
-norm-checks a = refuse 11 (not (is_finite (row-sum-norm a))) (row-sum-norm a) ∷ []
+unfoldable pub norm_checks : Csr → List Check
+norm_checks a = refuse 11 (not (is_finite (row_sum_norm a))) (row_sum_norm a) ∷ []
 
-unfoldable pub bound-checks : Csr → Mass → List Check
-bound-checks a none = norm-checks a
-bound-checks a (some mass) = mass-checks a mass ++ sum-checks (normalise a mass)
+unfoldable pub bound_checks : Csr → Mass → List Check
+bound_checks a none = norm_checks a
+bound_checks a (some mass) = mass_checks a mass ++ sum_checks (normalise a mass)
 
 -- 1 to 11
-unfoldable pub generator-checks : Csr → Mass → List Check
-generator-checks a mass = matrix-checks a ++ bound-checks a mass
+unfoldable pub generator_checks : Csr → Mass → List Check
+generator_checks a mass = matrix_checks a ++ bound_checks a mass
 
--- to compute: a line `unfolding open-Mass` opens every definition of this file and of those below it
-unfoldable pub open-Mass : Unit {0}
-unfolding row_of normalise quotients stored quotient-need bad-mass mass-checks bad_sum sum-checks norm-checks bound-checks generator-checks open-Checks
-open-Mass = tt
+-- to compute: a line `unfolding open_mass` opens every definition of this file and of those below it
+unfoldable pub open_mass : Unit {0}
+unfolding row_of normalise quotients stored quotient_need bad_mass mass_checks bad_sum sum_checks norm_checks bound_checks generator_checks open_checks
+open_mass = tt

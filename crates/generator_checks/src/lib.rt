@@ -4,16 +4,16 @@ ghost use Rattle.lists.specs.Find.{find};
 ghost use Rattle.doubles.specs.F64.{◌⊘◌, ◌⋖◌, at, abs};
 ghost use Rattle.doubles.specs.Sum.{sum};
 ghost use Rattle.checks.specs.First.{first};
-ghost use Rattle.general_operator.specs.Csr.{csr, Valid, size-sum};
-ghost use Rattle.generator_action.specs.Mass.{given, normalise, stored, bad-mass, mass-checks, sum-checks, norm-checks};
-ghost use Rattle.generator_action.specs.Answer.{number, matrix-answer};
+ghost use Rattle.general_operator.specs.Csr.{csr, Valid, size_sum};
+ghost use Rattle.generator_action.specs.Mass.{given, normalise, stored, bad_mass, mass_checks, sum_checks, norm_checks};
+ghost use Rattle.generator_action.specs.Answer.{number, matrix_answer};
 ghost use Rattle.generator_action.specs.Known.{Finite, Dividing, Answered};
 
 use checks::Checked;
 use generator_action::{Largest, MatrixAnswer};
 
 fn is_bad_mass(x: f64) -> bool
-    ensures { result ≡ bad-mass x }
+    ensures { result ≡ bad_mass x }
 {
     if float::is_finite(x) {
         return x <= 0.0;
@@ -23,7 +23,7 @@ fn is_bad_mass(x: f64) -> bool
 
 // The first mass that 8 refuses, the length if none is.
 fn first_bad_mass(mass: &[f64]) -> usize
-    ensures { result ≡ find (λ i. bad-mass (at mass.now i)) (length mass.now) }
+    ensures { result ≡ find (λ i. bad_mass (at mass.now i)) (length mass.now) }
 {
     for i in 0..mass.len() {
         if is_bad_mass(mass[i]) {
@@ -36,7 +36,7 @@ fn first_bad_mass(mass: &[f64]) -> usize
 // 7 to 9, which do not depend on the columns and the entries.
 pub fn check_mass(n: usize, starts: &[u32], mass: &[f64]) -> Checked
     requires { 0 < length starts.now }
-    ensures { (columns : List ℕ) (entries : List Float) → result ≡ first (mass-checks (csr n starts.now columns entries) mass.now) }
+    ensures { (columns : List ℕ) (entries : List Float) → result ≡ first (mass_checks (csr n starts.now columns entries) mass.now) }
 {
     if mass.len() != n {
         return Checked::Refused(7, float::count(mass.len()));
@@ -54,7 +54,7 @@ pub fn check_mass(n: usize, starts: &[u32], mass: &[f64]) -> Checked
 // The sum of the sizes of the entries from `from` up to `to`.
 fn size_sum(vals: &[f64], from: usize, to: usize) -> f64
     requires { (from ≤ to) × (to ≤ length vals.now) }
-    ensures { result ≡ size-sum vals.now from to }
+    ensures { result ≡ size_sum vals.now from to }
 {
     let mut s = 0.0;
     let count = to - from;
@@ -91,7 +91,7 @@ fn larger(l: Largest, s: f64, i: usize) -> Largest
 pub fn entry_norm(n: usize, starts: &[u32], cols: &[u32], vals: &[f64]) -> MatrixAnswer
     requires valid { Valid (csr n starts.now cols.now vals.now) }
     requires finite { Finite (csr n starts.now cols.now vals.now) }
-    ensures { Answered (csr n starts.now cols.now vals.now) (norm-checks (csr n starts.now cols.now vals.now)) result }
+    ensures { Answered (csr n starts.now cols.now vals.now) (norm_checks (csr n starts.now cols.now vals.now)) result }
 {
     let mut best = Largest { norm: 0.0, row: 0 };
     for row in 0..n {
@@ -117,7 +117,7 @@ pub fn quotient_norm(
     requires valid { Valid (csr n starts.now cols.now vals.now) }
     requires finite { Finite (csr n starts.now cols.now vals.now) }
     requires dividing { Dividing (csr n starts.now cols.now vals.now) mass.now }
-    ensures { Answered (normalise (csr n starts.now cols.now vals.now) mass.now) (sum-checks (normalise (csr n starts.now cols.now vals.now) mass.now)) result }
+    ensures { Answered (normalise (csr n starts.now cols.now vals.now) mass.now) (sum_checks (normalise (csr n starts.now cols.now vals.now) mass.now)) result }
 {
     let mut largest = Largest { norm: 0.0, row: 0 };
     for i in 0..n {
@@ -141,7 +141,7 @@ pub fn check_generator(
     with_mass: bool,
     mass: &[f64],
 ) -> MatrixAnswer
-    ensures { result ≡ matrix-answer (csr n starts.now cols.now vals.now) (given with_mass mass.now) }
+    ensures { result ≡ matrix_answer (csr n starts.now cols.now vals.now) (given with_mass mass.now) }
 {
     let matrix = general_operator::validate_csr(n, starts, cols, vals);
     let Checked::Sound = matrix else {

@@ -9,26 +9,26 @@ use lib.Ieee.{Float}
 use Rattle.lists.specs.Loop.{tabulate}
 use Rattle.lists.specs.Walk.{Turn, on, out, walk}
 use Rattle.lists.specs.Window.{window, splice}
-use Rattle.lists.proofs.Frame.{wrote, written, untouched, wrote-long}
+use Rattle.lists.proofs.Frame.{wrote, written, untouched, wrote_long}
 use Rattle.lists.proofs.Loop.{get_d_tabulate}
-use Rattle.lists.proofs.Walk.{Left, left_out, left-none}
-use Rattle.lists.proofs.Window.{length-window}
+use Rattle.lists.proofs.Walk.{Left, left_out, left_none}
+use Rattle.lists.proofs.Window.{length_window}
 use Rattle.doubles.specs.F64.{◌⊘◌, +0, 1f}
 use Rattle.vectors.specs.Vectors.{scale}
-use Rattle.vectors.proofs.Laws.{length-scale}
+use Rattle.vectors.proofs.Laws.{length_scale}
 use Rattle.general_operator.specs.Csr.{Csr}
 use Rattle.phi_action_helpers.specs.declared.Layout.{Layout}
 use Rattle.phi_action_helpers.specs.declared.Coupling.{Coupling}
-use Rattle.phi_action_helpers.specs.Laid.{matrix-at}
-use Rattle.phi_action_helpers.proofs.Sweeps.{values-kept}
-use Rattle.gram_schmidt.specs.Basis.{Setting, Columns, Breakdown, arnoldi-step, close, first-column, arnoldi}
-use Rattle.gram_schmidt.specs.Memory.{setting-at, Room, Spared, column, columns-at, breakdown-at, grown-at, Within, basis-at, Ended}
+use Rattle.phi_action_helpers.specs.Laid.{matrix_at}
+use Rattle.phi_action_helpers.proofs.Sweeps.{values_kept}
+use Rattle.gram_schmidt.specs.Basis.{Setting, Columns, Breakdown, arnoldi_step, close, first_column, arnoldi}
+use Rattle.gram_schmidt.specs.Memory.{setting_at, Room, Spared, column, columns_at, breakdown_at, grown_at, Within, basis_at, Ended}
 use Rattle.gram_schmidt.specs.declared.Krylov.{Krylov}
 use Rattle.gram_schmidt.specs.declared.Grown.{Grown}
 use Rattle.gram_schmidt.specs.declared.Grown.TheVariants.{On, Broken}
 use Rattle.gram_schmidt.specs.declared.BasisAnswer.{BasisAnswer}
 use Rattle.gram_schmidt.specs.declared.BasisAnswer.TheVariants.{Breakdown as Broke, Full}
-use Rattle.gram_schmidt.proofs.Turns.{spared-all, spared-by}
+use Rattle.gram_schmidt.proofs.Turns.{spared_all, spared_by}
 
 -- ---- the loop: what the present answer stands for
 pub within_more : (i j : ℕ) (o : Grown) → Within i o → i ≤ j → Within j o
@@ -36,64 +36,64 @@ within_more i j (On a) h l = omega arith
 within_more i j (Broken a mb hn) h l = omega arith
 
 module _ (l : Layout) (k : Krylov) where
-  pub seen-on : (j : ℕ) (o : Grown) (w : List Float) (a : ℕ) → o ≡ On a → grown-at l k j o w ≡ on (columns-at l k (j + 1) a w)
-  unfolding grown-at
-  seen-on j o w a e = ap (λ (u : Grown). grown-at l k j u w) e
+  pub seen_on : (j : ℕ) (o : Grown) (w : List Float) (a : ℕ) → o ≡ On a → grown_at l k j o w ≡ on (columns_at l k (j + 1) a w)
+  unfolding grown_at
+  seen_on j o w a e = ap (λ (u : Grown). grown_at l k j u w) e
 
-  seen-broken : (j : ℕ) (o : Grown) (w : List Float) (a mb : ℕ) (hn : Float) → o ≡ Broken a mb hn → grown-at l k j o w ≡ out (breakdown-at l k a mb hn w)
-  unfolding grown-at
-  seen-broken j o w a mb hn e = ap (λ (u : Grown). grown-at l k j u w) e
+  seen_broken : (j : ℕ) (o : Grown) (w : List Float) (a mb : ℕ) (hn : Float) → o ≡ Broken a mb hn → grown_at l k j o w ≡ out (breakdown_at l k a mb hn w)
+  unfolding grown_at
+  seen_broken j o w a mb hn e = ap (λ (u : Grown). grown_at l k j u w) e
 
   -- the loop is left by a breakdown in turn j, or after turn m
-  pub left-broken : (step : ℕ → Columns → Turn Columns Breakdown) (m j : ℕ) (s : Turn Columns Breakdown) (o : Grown) (w : List Float) → Left step m j s (grown-at l k j o w)
-      → (a mb : ℕ) (hn : Float) → o ≡ Broken a mb hn → grown-at l k m o w ≡ walk step m 0 s
-  left-broken step m j s o w h a mb hn e = seen-broken m o w a mb hn e ∙ sym (seen-broken j o w a mb hn e) ∙ left_out h _ (seen-broken j o w a mb hn e)
+  pub left_broken : (step : ℕ → Columns → Turn Columns Breakdown) (m j : ℕ) (s : Turn Columns Breakdown) (o : Grown) (w : List Float) → Left step m j s (grown_at l k j o w)
+      → (a mb : ℕ) (hn : Float) → o ≡ Broken a mb hn → grown_at l k m o w ≡ walk step m 0 s
+  left_broken step m j s o w h a mb hn e = seen_broken m o w a mb hn e ∙ sym (seen_broken j o w a mb hn e) ∙ left_out h _ (seen_broken j o w a mb hn e)
 
-  pub left-whole : (step : ℕ → Columns → Turn Columns Breakdown) (m j : ℕ) (s : Turn Columns Breakdown) (o : Grown) (w : List Float) → Left step m j s (grown-at l k j o w)
-      → j ≤ m → m ≤ j → grown-at l k m o w ≡ walk step m 0 s
-  left-whole step m j s o w h a b =
+  pub left_whole : (step : ℕ → Columns → Turn Columns Breakdown) (m j : ℕ) (s : Turn Columns Breakdown) (o : Grown) (w : List Float) → Left step m j s (grown_at l k j o w)
+      → j ≤ m → m ≤ j → grown_at l k m o w ≡ walk step m 0 s
+  left_whole step m j s o w h a b =
       let e : m ≡ j = omega arith in
-      ap (λ (i : ℕ). grown-at l k i o w) e ∙ left-none h b
+      ap (λ (i : ℕ). grown_at l k i o w) e ∙ left_none h b
 
   -- ---- the answer
-  pub closed_on : (b : Coupling) (q : Csr) (vectors : List Float) (a : ℕ) (o : Grown) (w₀ w₁ : List Float) (avnorm : Float) → o ≡ On a → Ended l k (setting-at l b k q vectors) w₀ w₁ avnorm
-      → basis-at l k (Full (a + 1) avnorm) w₁ ≡ close (setting-at l b k q vectors) (grown-at l k k.m o w₀)
-  unfolding basis-at close
+  pub closed_on : (b : Coupling) (q : Csr) (vectors : List Float) (a : ℕ) (o : Grown) (w₀ w₁ : List Float) (avnorm : Float) → o ≡ On a → Ended l k (setting_at l b k q vectors) w₀ w₁ avnorm
+      → basis_at l k (Full (a + 1) avnorm) w₁ ≡ close (setting_at l b k q vectors) (grown_at l k k.m o w₀)
+  unfolding basis_at close
   closed_on b q vectors a o w₀ w₁ avnorm e t =
       let v = column (l.n + l.d) w₀ in
       let g : get_or (tabulate (k.m + 1) v) k.m [] ≡ v k.m = get_d_tabulate (k.m + 1) v k.m [] (omega arith) in
-      rw (seen-on k.m o w₀ a e, t.v-is, t.h-is, t.avnorm-is, add-one a, g)
+      rw (seen_on k.m o w₀ a e, t.v_is, t.h_is, t.avnorm_is, add-one a, g)
 
-  pub closed-broken : (p : Setting) (a mb : ℕ) (o : Grown) (w : List Float) (hn : Float) → o ≡ Broken a mb hn
-      → basis-at l k (Broke a mb hn) w ≡ close p (grown-at l k k.m o w)
-  unfolding basis-at close
-  closed-broken p a mb o w hn e = rw (seen-broken k.m o w a mb hn e)
+  pub closed_broken : (p : Setting) (a mb : ℕ) (o : Grown) (w : List Float) (hn : Float) → o ≡ Broken a mb hn
+      → basis_at l k (Broke a mb hn) w ≡ close p (grown_at l k k.m o w)
+  unfolding basis_at close
+  closed_broken p a mb o w hn e = rw (seen_broken k.m o w a mb hn e)
 
 -- ---- the first column and the clear matrix
 pub begun : (l : Layout) (b : Coupling) (k : Krylov) (q : Csr) (vectors : List Float) (beta : Float) {v x : ℕ} (w₀ w₁ : List Float) → Room l b k q v x (length w₀)
     → w₁ ≡ splice 0 (scale (1f ⊘ beta) (window k.y (l.n + l.d) w₀)) (splice k.h (replicate ((k.m + 2) * (k.m + 2)) +0) w₀)
-    → (columns-at l k 1 0 w₁ ≡ first-column (setting-at l b k q vectors) (window k.y (l.n + l.d) w₀) beta) × Spared l k w₀ w₁
-unfolding first-column column tabulate
+    → (columns_at l k 1 0 w₁ ≡ first_column (setting_at l b k q vectors) (window k.y (l.n + l.d) w₀) beta) × Spared l k w₀ w₁
+unfolding first_column column tabulate
 begun l b k q vectors beta w₀ w₁ r e =
     let m = l.n + l.d in
     let dd = (k.m + 2) * (k.m + 2) in
     let t₀ = wrote k.h dd (replicate dd +0) w₀ _ (length-replicate dd +0) refl in
-    let l₀ = wrote-long t₀ in
-    let t₁ = wrote 0 m (scale (1f ⊘ beta) (window k.y m w₀)) _ w₁ (length-scale _ _ ∙ length-window k.y m w₀ (omega arith)) e in
+    let l₀ = wrote_long t₀ in
+    let t₁ = wrote 0 m (scale (1f ⊘ beta) (window k.y m w₀)) _ w₁ (length_scale _ _ ∙ length_window k.y m w₀ (omega arith)) e in
     let z : 0 * m ≡ 0 = omega arith in
     let vs : window (0 * m) m w₁ ≡ scale (1f ⊘ beta) (window k.y m w₀) = ap (λ (i : ℕ). window i m w₁) z ∙ written t₁ (omega arith) in
     let hs : window k.h dd w₁ ≡ replicate dd +0 = untouched t₁ k.h dd (omega arith) ∙ written t₀ (omega arith) in
-    ((λ i. record { v = vs i ∷ []; h = hs i; applied = 0 }), spared-by (spared-by (spared-all w₀) t₀ (omega arith) (omega arith)) t₁ (omega arith) (omega arith))
+    ((λ i. record { v = vs i ∷ []; h = hs i; applied = 0 }), spared_by (spared_by (spared_all w₀) t₀ (omega arith) (omega arith)) t₁ (omega arith) (omega arith))
 
 -- ---- all of it
 module _ (l : Layout) (b : Coupling) (k : Krylov) (starts cols : List ℕ) (vals vectors : List Float) where
   pub made : (beta : Float) (w₀ w₁ w₂ w₃ : List Float) (o : Grown) (r : BasisAnswer)
-      → columns-at l k 1 0 w₁ ≡ first-column (setting-at l b k (matrix-at l starts cols vals w₀) vectors) (window k.y (l.n + l.d) w₀) beta
+      → columns_at l k 1 0 w₁ ≡ first_column (setting_at l b k (matrix_at l starts cols vals w₀) vectors) (window k.y (l.n + l.d) w₀) beta
       → Spared l k w₀ w₁
-      → grown-at l k k.m o w₂ ≡ walk (arnoldi-step (setting-at l b k (matrix-at l starts cols vals w₁) vectors) beta) k.m 0 (on (columns-at l k 1 0 w₁))
+      → grown_at l k k.m o w₂ ≡ walk (arnoldi_step (setting_at l b k (matrix_at l starts cols vals w₁) vectors) beta) k.m 0 (on (columns_at l k 1 0 w₁))
       → Spared l k w₁ w₂
-      → basis-at l k r w₃ ≡ close (setting-at l b k (matrix-at l starts cols vals w₂) vectors) (grown-at l k k.m o w₂)
-      → basis-at l k r w₃ ≡ arnoldi (setting-at l b k (matrix-at l starts cols vals w₀) vectors) (window k.y (l.n + l.d) w₀) beta
+      → basis_at l k r w₃ ≡ close (setting_at l b k (matrix_at l starts cols vals w₂) vectors) (grown_at l k k.m o w₂)
+      → basis_at l k r w₃ ≡ arnoldi (setting_at l b k (matrix_at l starts cols vals w₀) vectors) (window k.y (l.n + l.d) w₀) beta
   unfolding arnoldi
   made beta w₀ w₁ w₂ w₃ o r e₁ s₁ e₂ s₂ e₃ =
-      e₃ ∙ rw (e₂, e₁, values-kept l.mass l.q vals w₁ w₂ s₂.kept, values-kept l.mass l.q vals w₀ w₁ s₁.kept)
+      e₃ ∙ rw (e₂, e₁, values_kept l.mass l.q vals w₁ w₂ s₂.kept, values_kept l.mass l.q vals w₀ w₁ s₁.kept)

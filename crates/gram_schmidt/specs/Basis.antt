@@ -3,12 +3,12 @@ use Rattle.std.specs.Prelude.{Bool, true, false, ◌&&◌, ◌||◌, List, [], �
 use Rattle.std.specs.Float.Ieee.{neg}
 use Rattle.lists.specs.Loop.{iter}
 use Rattle.lists.specs.Walk.{Turn, on, out, walk}
-use Rattle.doubles.specs.F64.{◌⊗◌, ◌⊘◌, ◌⩽◌, bits, +0, 1f, maxNum}
-use Rattle.sqrt.specs.Sqrt.{sqrt, open-Sqrt}
-use Rattle.vectors.specs.Vectors.{axpy, scale, open-Vectors}
-use Rattle.dot.specs.Dot.{dot, open-Dot}
+use Rattle.doubles.specs.F64.{◌⊗◌, ◌⊘◌, ◌⩽◌, bits, +0, 1f, max_num}
+use Rattle.sqrt.specs.Sqrt.{sqrt, open_sqrt}
+use Rattle.vectors.specs.Vectors.{axpy, scale, open_vectors}
+use Rattle.dot.specs.Dot.{dot, open_dot}
 use Rattle.hess_rows.specs.HessProduct.{place}
-use Rattle.phi_action_helpers.specs.Augmented.{Augmented, aug-matvec, open-Augmented}
+use Rattle.phi_action_helpers.specs.Augmented.{Augmented, aug_matvec, open_augmented}
 
 -- `norm2`
 unfoldable pub norm2 : List Float → Float
@@ -35,7 +35,7 @@ dim p = p.m + 2
 
 -- `Augmented::apply`: B x
 unfoldable pub apply : Setting → List Float → List Float
-apply p x = aug-matvec p.operator (record { shifted = false; tau = p.tau; one = 1f; mu = +0 }) x
+apply p x = aug_matvec p.operator (record { shifted = false; tau = p.tau; one = 1f; mu = +0 }) x
 
 -- the columns so far, the small matrix, and the products with the generator made
 pub record Columns : Type 0 where
@@ -69,7 +69,7 @@ pub record Breakdown : Type 0 where
 
 -- hn is at round-off level, and the basis spans the whole space or leaving hn out stays within tol
 unfoldable pub broken : Setting → Float → ℕ → Float → Bool
-broken p beta j hn = hn ⩽ BREAKDOWN ⊗ maxNum p.anorm 1f && (eqb (j + 1) (len p) || hn ⊗ beta ⩽ p.tol)
+broken p beta j hn = hn ⩽ BREAKDOWN ⊗ max_num p.anorm 1f && (eqb (j + 1) (len p) || hn ⊗ beta ⩽ p.tol)
 
 -- after the product of column j: a breakdown, or one more column
 unfoldable pub extend : Setting → ℕ → Columns → Rest → Float → Bool → Turn Columns Breakdown
@@ -77,8 +77,8 @@ extend p j b r hn true = out (record { columns = record { v = b.v; h = r.h; appl
 extend p j b r hn false =
     on (record { v = b.v ++ (scale (1f ⊘ hn) r.z ∷ []); h = set r.h (place (dim p) (j + 1) j) hn; applied = suc b.applied })
 
-unfoldable pub arnoldi-step : Setting → Float → ℕ → Columns → Turn Columns Breakdown
-arnoldi-step p beta j b =
+unfoldable pub arnoldi_step : Setting → Float → ℕ → Columns → Turn Columns Breakdown
+arnoldi_step p beta j b =
     let r = rest p j b in
     let hn = norm2 r.z in
     extend p j b r hn (broken p beta j hn)
@@ -94,13 +94,13 @@ close p (out b) = breakdown b
 close p (on b) =
     full (record { v = b.v; h = set b.h (place (dim p) (p.m + 1) p.m) 1f; applied = suc b.applied }) (norm2 (apply p (get_or b.v p.m [])))
 
-unfoldable pub first-column : Setting → List Float → Float → Columns
-first-column p y beta = record { v = scale (1f ⊘ beta) y ∷ []; h = replicate (dim p * dim p) +0; applied = 0 }
+unfoldable pub first_column : Setting → List Float → Float → Columns
+first_column p y beta = record { v = scale (1f ⊘ beta) y ∷ []; h = replicate (dim p * dim p) +0; applied = 0 }
 
 unfoldable pub arnoldi : Setting → List Float → Float → Basis
-arnoldi p y beta = close p (walk (arnoldi-step p beta) p.m 0 (on (first-column p y beta)))
+arnoldi p y beta = close p (walk (arnoldi_step p beta) p.m 0 (on (first_column p y beta)))
 
--- to compute: a line `unfolding open-Basis` opens every definition of this file and of those below it
-unfoldable pub open-Basis : Unit {0}
-unfolding norm2 apply lessen orthogonal rest broken extend arnoldi-step close first-column arnoldi walk open-Sqrt open-Vectors open-Dot open-Augmented
-open-Basis = tt
+-- to compute: a line `unfolding open_basis` opens every definition of this file and of those below it
+unfoldable pub open_basis : Unit {0}
+unfolding norm2 apply lessen orthogonal rest broken extend arnoldi_step close first_column arnoldi walk open_sqrt open_vectors open_dot open_augmented
+open_basis = tt

@@ -9,7 +9,7 @@ use Rattle.hess_rows.specs.HessProduct.{place}
 use Rattle.general_operator.specs.Csr.{Csr}
 use Rattle.phi_action_helpers.specs.declared.Layout.{Layout}
 use Rattle.phi_action_helpers.specs.declared.Coupling.{Coupling}
-use Rattle.phi_action_helpers.specs.Laid.{operator-of, Laid}
+use Rattle.phi_action_helpers.specs.Laid.{operator_of, Laid}
 use Rattle.gram_schmidt.specs.Basis.{Setting, Columns, Rest, Breakdown, Basis, breakdown, full, norm2, apply, rest}
 use Rattle.gram_schmidt.specs.declared.Krylov.{Krylov}
 use Rattle.gram_schmidt.specs.declared.Grown.{Grown}
@@ -17,18 +17,18 @@ use Rattle.gram_schmidt.specs.declared.Grown.TheVariants.{On, Broken}
 use Rattle.gram_schmidt.specs.declared.BasisAnswer.{BasisAnswer}
 use Rattle.gram_schmidt.specs.declared.BasisAnswer.TheVariants.{Breakdown as Broke, Full}
 
-abbrev pub setting-at : Layout → Coupling → Krylov → Csr → List Float → Setting
-setting-at l b k q vectors = record { operator = operator-of l b q vectors; tau = k.tau; anorm = k.anorm; tol = k.tol; m = k.m }
+abbrev pub setting_at : Layout → Coupling → Krylov → Csr → List Float → Setting
+setting_at l b k q vectors = record { operator = operator_of l b q vectors; tau = k.tau; anorm = k.anorm; tol = k.tol; m = k.m }
 
 -- the columns from the front, then the product, the small matrix, the field, G w, and the quotients: of vals, vectors and work the lengths
 pub record Room (l : Layout) (b : Coupling) (k : Krylov) (q : Csr) (vals vectors work : ℕ) : Type 0 where
   pub laid : Laid l b q vals vectors work
   pub small : k.m ≤ 1000000
   pub columns : k.m * (l.n + l.d) + (l.n + l.d) ≤ l.w
-  pub then-h : l.w + (l.n + l.d) ≤ k.h
-  pub then-y : k.h + (k.m + 2) * (k.m + 2) ≤ k.y
-  pub then-av : k.y + (l.n + l.d) ≤ l.av
-  pub then-q : l.av + l.n ≤ l.q
+  pub then_h : l.w + (l.n + l.d) ≤ k.h
+  pub then_y : k.h + (k.m + 2) * (k.m + 2) ≤ k.y
+  pub then_av : k.y + (l.n + l.d) ≤ l.av
+  pub then_q : l.av + l.n ≤ l.q
 
 -- the field and all from the quotients on are as they were
 pub record Spared (l : Layout) (k : Krylov) (w₀ w : List Float) : Type 0 where
@@ -47,16 +47,16 @@ abbrev pub rest_at : ℕ → ℕ → ℕ → ℕ → List Float → Rest
 rest_at n q r dim w = record { z = window q n w; h = window r (dim * dim) w }
 
 -- the first i columns and the small matrix
-abbrev pub columns-at : Layout → Krylov → ℕ → ℕ → List Float → Columns
-columns-at l k i applied w = record { v = tabulate i (column (l.n + l.d) w); h = window k.h ((k.m + 2) * (k.m + 2)) w; applied = applied }
+abbrev pub columns_at : Layout → Krylov → ℕ → ℕ → List Float → Columns
+columns_at l k i applied w = record { v = tabulate i (column (l.n + l.d) w); h = window k.h ((k.m + 2) * (k.m + 2)) w; applied = applied }
 
-abbrev pub breakdown-at : Layout → Krylov → ℕ → ℕ → Float → List Float → Breakdown
-breakdown-at l k applied mb hn w = record { columns = columns-at l k mb applied w; mb = mb; hn = hn }
+abbrev pub breakdown_at : Layout → Krylov → ℕ → ℕ → Float → List Float → Breakdown
+breakdown_at l k applied mb hn w = record { columns = columns_at l k mb applied w; mb = mb; hn = hn }
 
 -- after j turns
-unfoldable pub grown-at : Layout → Krylov → ℕ → Grown → List Float → Turn Columns Breakdown
-grown-at l k j (On applied) w = on (columns-at l k (j + 1) applied w)
-grown-at l k j (Broken applied mb hn) w = out (breakdown-at l k applied mb hn w)
+unfoldable pub grown_at : Layout → Krylov → ℕ → Grown → List Float → Turn Columns Breakdown
+grown_at l k j (On applied) w = on (columns_at l k (j + 1) applied w)
+grown_at l k j (Broken applied mb hn) w = out (breakdown_at l k applied mb hn w)
 
 -- the counts of at most j turns
 abbrev pub Within : ℕ → Grown → Type 0
@@ -64,9 +64,9 @@ Within j (On applied) = applied ≤ j
 Within j (Broken applied mb hn) = (applied ≤ j) × (0 < mb) × (mb ≤ j)
 
 -- the answer's basis, and its counts
-unfoldable pub basis-at : Layout → Krylov → BasisAnswer → List Float → Basis
-basis-at l k (Broke applied mb hn) w = breakdown (breakdown-at l k applied mb hn w)
-basis-at l k (Full applied avnorm) w = full (columns-at l k (k.m + 1) applied w) avnorm
+unfoldable pub basis_at : Layout → Krylov → BasisAnswer → List Float → Basis
+basis_at l k (Broke applied mb hn) w = breakdown (breakdown_at l k applied mb hn w)
+basis_at l k (Full applied avnorm) w = full (columns_at l k (k.m + 1) applied w) avnorm
 
 abbrev pub Counted : ℕ → BasisAnswer → Type 0
 Counted m (Broke applied mb hn) = (applied ≤ m + 1) × (0 < mb) × (mb ≤ m)
@@ -74,14 +74,14 @@ Counted m (Full applied avnorm) = applied ≤ m + 1
 
 -- z is orthogonal to columns 0 to j
 pub record Rested (l : Layout) (k : Krylov) (p : Setting) (j : ℕ) (w₀ w : List Float) : Type 0 where
-  pub z-is : window l.w (l.n + l.d) w ≡ (rest p j (columns-at l k (j + 1) 0 w₀)).z
-  pub h-is : window k.h ((k.m + 2) * (k.m + 2)) w ≡ (rest p j (columns-at l k (j + 1) 0 w₀)).h
-  pub v-is : (i : ℕ) → i < j + 1 → column (l.n + l.d) w i ≡ column (l.n + l.d) w₀ i
+  pub z_is : window l.w (l.n + l.d) w ≡ (rest p j (columns_at l k (j + 1) 0 w₀)).z
+  pub h_is : window k.h ((k.m + 2) * (k.m + 2)) w ≡ (rest p j (columns_at l k (j + 1) 0 w₀)).h
+  pub v_is : (i : ℕ) → i < j + 1 → column (l.n + l.d) w i ≡ column (l.n + l.d) w₀ i
   pub spared : Spared l k w₀ w
 
 -- the last product is made
 pub record Ended (l : Layout) (k : Krylov) (p : Setting) (w₀ w : List Float) (avnorm : Float) : Type 0 where
-  pub v-is : tabulate (k.m + 1) (column (l.n + l.d) w) ≡ tabulate (k.m + 1) (column (l.n + l.d) w₀)
-  pub h-is : window k.h ((k.m + 2) * (k.m + 2)) w ≡ set (window k.h ((k.m + 2) * (k.m + 2)) w₀) (place (k.m + 2) (k.m + 1) k.m) 1f
-  pub avnorm-is : avnorm ≡ norm2 (apply p (column (l.n + l.d) w₀ k.m))
+  pub v_is : tabulate (k.m + 1) (column (l.n + l.d) w) ≡ tabulate (k.m + 1) (column (l.n + l.d) w₀)
+  pub h_is : window k.h ((k.m + 2) * (k.m + 2)) w ≡ set (window k.h ((k.m + 2) * (k.m + 2)) w₀) (place (k.m + 2) (k.m + 1) k.m) 1f
+  pub avnorm_is : avnorm ≡ norm2 (apply p (column (l.n + l.d) w₀ k.m))
   pub spared : Spared l k w₀ w

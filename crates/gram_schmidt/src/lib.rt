@@ -3,10 +3,10 @@ ghost use Rattle.std.specs.Prelude.{◌≡◌, ◌+◌, ◌*◌, ◌≤◌, ◌<
 ghost use Rattle.lists.specs.Walk.{on};
 ghost use Rattle.lists.specs.Window.{splice};
 ghost use Rattle.hess_rows.specs.HessProduct.{place};
-ghost use Rattle.phi_action_helpers.specs.Laid.{matrix-at};
+ghost use Rattle.phi_action_helpers.specs.Laid.{matrix_at};
 ghost use Rattle.phi_action_helpers.specs.declared.Coupling.{Coupling};
 ghost use Rattle.gram_schmidt.specs.Basis.{norm2, apply, orthogonal};
-ghost use Rattle.gram_schmidt.specs.Memory.{setting-at, Room, column, behind, rest_at, Rested};
+ghost use Rattle.gram_schmidt.specs.Memory.{setting_at, Room, column, behind, rest_at, Rested};
 
 use phi_action_helpers::{Coupling, Layout, Scales};
 
@@ -54,9 +54,9 @@ pub fn apply_in(
     k: Krylov,
     j: usize,
 )
-    requires room { Room l b k (matrix-at l starts.now cols.now vals.now work.old) (length vals.now) (length vectors.now) (length work.old) }
+    requires room { Room l b k (matrix_at l starts.now cols.now vals.now work.old) (length vals.now) (length vectors.now) (length work.old) }
     requires j_le_m { j ≤ k.m }
-    ensures { work.new ≡ splice l.w (apply (setting-at l b k (matrix-at l starts.now cols.now vals.now work.old) vectors.now) (column (l.n + l.d) work.old j)) work.old }
+    ensures { work.new ≡ splice l.w (apply (setting_at l b k (matrix_at l starts.now cols.now vals.now work.old) vectors.now) (column (l.n + l.d) work.old j)) work.old }
 {
     let len = l.n + l.d;
     let s = Scales {
@@ -103,9 +103,9 @@ pub fn rest_in(
     k: Krylov,
     j: usize,
 )
-    requires room { Room l b k (matrix-at l starts.now cols.now vals.now work.old) (length vals.now) (length vectors.now) (length work.old) }
+    requires room { Room l b k (matrix_at l starts.now cols.now vals.now work.old) (length vals.now) (length vectors.now) (length work.old) }
     requires j_le_m { j ≤ k.m }
-    ensures { Rested l k (setting-at l b k (matrix-at l starts.now cols.now vals.now work.old) vectors.now) j work.old work.new }
+    ensures { Rested l k (setting_at l b k (matrix_at l starts.now cols.now vals.now work.old) vectors.now) j work.old work.new }
 {
     apply_in(starts, cols, vals, vectors, work, l, b, k, j);
     orthogonal(work, l.w, k.h, k.m + 2, l.n + l.d, j);

@@ -2,16 +2,16 @@
 -- entries from column r - 1 on; by Taylor sweeps on the vector. Definitions only.
 use Rattle.std.specs.Prelude.{List, map, ℕ, ◌+◌, ◌*◌, replicate, set, Float}
 use Rattle.lists.specs.Loop.{iter, zip_with}
-use Rattle.doubles.specs.F64.{◌⊕◌, ◌⊗◌, ◌⊘◌, nat, +0, 1f, at, abs, maxNum}
-use Rattle.doubles.specs.Sum.{sum, open-Sum}
-use Rattle.expmv.specs.Select.{select-s-m, M-MAX, open-Select}
+use Rattle.doubles.specs.F64.{◌⊕◌, ◌⊗◌, ◌⊘◌, nat, +0, 1f, at, abs, max_num}
+use Rattle.doubles.specs.Sum.{sum, open_sum}
+use Rattle.expmv.specs.Select.{select_s_m, M_MAX, open_select}
 use Rattle.expmv.specs.declared.Selected.{Selected}
 use Rattle.expmv.specs.declared.Selected.TheVariants.{NoRow, Row}
-use Rattle.hess_rows.specs.HessProduct.{place, hess-product, open-HessProduct}
+use Rattle.hess_rows.specs.HessProduct.{place, hess_product, open_hess_product}
 
 -- the largest column sum of sizes; a NaN sum is dropped
-unfoldable pub column-sum-norm : List Float → ℕ → ℕ → Float
-column-sum-norm h dim mx = iter (λ c m. maxNum m (sum mx (λ r. abs (at h (place dim r c))))) mx +0
+unfoldable pub column_sum_norm : List Float → ℕ → ℕ → Float
+column_sum_norm h dim mx = iter (λ c m. max_num m (sum mx (λ r. abs (at h (place dim r c))))) mx +0
 
 -- the sum so far and the last term
 pub record Terms : Type 0 where
@@ -19,14 +19,14 @@ pub record Terms : Type 0 where
   pub w : List Float
 
 -- term k + 1: w becomes (ts / (k + 1)) H w, and y becomes y + w
-unfoldable pub term-step : List Float → ℕ → ℕ → Float → ℕ → Terms → Terms
-term-step h dim mx ts k s =
+unfoldable pub term_step : List Float → ℕ → ℕ → Float → ℕ → Terms → Terms
+term_step h dim mx ts k s =
     let f = ts ⊘ nat (k + 1) in
-    let w = map (λ x. f ⊗ x) (hess-product h dim mx s.w) in
+    let w = map (λ x. f ⊗ x) (hess_product h dim mx s.w) in
     record { y = zip_with ◌⊕◌ s.y w; w = w }
 
-unfoldable pub hess-sweep : List Float → ℕ → ℕ → Float → ℕ → List Float → List Float
-hess-sweep h dim mx ts deg y = (iter (term-step h dim mx ts) deg (record { y = y; w = y })).y
+unfoldable pub hess_sweep : List Float → ℕ → ℕ → Float → ℕ → List Float → List Float
+hess_sweep h dim mx ts deg y = (iter (term_step h dim mx ts) deg (record { y = y; w = y })).y
 
 -- the first unit vector
 unfoldable pub e1 : ℕ → List Float
@@ -39,12 +39,12 @@ pub data Small : Type 0 where
 
 unfoldable pub swept : List Float → ℕ → ℕ → Float → Float → Selected → Small
 swept h dim mx t arg NoRow = unplanned arg
-swept h dim mx t arg (Row s deg) = column (iter (λ _ y. hess-sweep h dim mx (t ⊘ nat s) deg y) s (e1 mx))
+swept h dim mx t arg (Row s deg) = column (iter (λ _ y. hess_sweep h dim mx (t ⊘ nat s) deg y) s (e1 mx))
 
-unfoldable pub hess-exp-e1 : List Float → ℕ → ℕ → Float → Small
-hess-exp-e1 h dim mx t = let arg = t ⊗ column-sum-norm h dim mx in swept h dim mx t arg (select-s-m M-MAX arg)
+unfoldable pub hess_exp_e1 : List Float → ℕ → ℕ → Float → Small
+hess_exp_e1 h dim mx t = let arg = t ⊗ column_sum_norm h dim mx in swept h dim mx t arg (select_s_m M_MAX arg)
 
--- to compute: a line `unfolding open-HessExp` opens every definition of this file and of those below it
-unfoldable pub open-HessExp : Unit {0}
-unfolding column-sum-norm term-step hess-sweep e1 swept hess-exp-e1 open-Sum open-Select open-HessProduct
-open-HessExp = tt
+-- to compute: a line `unfolding open_hess_exp` opens every definition of this file and of those below it
+unfoldable pub open_hess_exp : Unit {0}
+unfolding column_sum_norm term_step hess_sweep e1 swept hess_exp_e1 open_sum open_select open_hess_product
+open_hess_exp = tt

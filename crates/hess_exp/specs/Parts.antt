@@ -1,4 +1,4 @@
--- The parts of `hess-exp-e1` that functions of their own give, and what a SmallExp stands for. Definitions only.
+-- The parts of `hess_exp_e1` that functions of their own give, and what a SmallExp stands for. Definitions only.
 use Rattle.std.specs.Prelude.{List, ℕ, ◌+◌, ◌*◌, Float}
 use Rattle.lists.specs.Window.{window}
 use Rattle.doubles.specs.F64.{if◌then◌else◌, at, abs}
@@ -8,8 +8,8 @@ use Rattle.hess_exp.specs.declared.SmallExp.{SmallExp}
 use Rattle.hess_exp.specs.HessExp.{Terms, Small, unplanned, column}
 
 -- the sum of the sizes in column c
-abbrev pub column-sum : List Float → ℕ → ℕ → ℕ → Float
-column-sum h dim mx c = sum mx (λ r. abs (at h (place dim r c)))
+abbrev pub column_sum : List Float → ℕ → ℕ → ℕ → Float
+column_sum h dim mx c = sum mx (λ r. abs (at h (place dim r c)))
 
 abbrev pub terms : List Float → List Float → Terms
 terms y w = record { y = y; w = w }

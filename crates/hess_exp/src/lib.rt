@@ -3,8 +3,8 @@ ghost use Rattle.std.specs.Prelude.{◌≡◌, ◌+◌, ◌*◌, ◌<◌, ◌≤
 ghost use Rattle.lists.specs.Loop.{iter, zip_with};
 ghost use Rattle.lists.specs.Window.{window};
 ghost use Rattle.doubles.specs.F64.{◌⊕◌};
-ghost use Rattle.hess_exp.specs.HessExp.{column-sum-norm, term-step, hess-sweep, hess-exp-e1};
-ghost use Rattle.hess_exp.specs.Parts.{column-sum, terms, small_of};
+ghost use Rattle.hess_exp.specs.HessExp.{column_sum_norm, term_step, hess_sweep, hess_exp_e1};
+ghost use Rattle.hess_exp.specs.Parts.{column_sum, terms, small_of};
 ghost use Rattle.hess_rows.specs.Parts.{Leading};
 
 // Whether there was a plan; its argument; and where there was one, the column in the first places.
@@ -18,7 +18,7 @@ pub struct SmallExp {
 fn column_sum(h: &[f64], dim: usize, mx: usize, c: usize) -> f64
     requires leading { Leading h.now dim mx }
     requires c_lt_mx { c < mx }
-    ensures { result ≡ column-sum h.now dim mx c }
+    ensures { result ≡ column_sum h.now dim mx c }
 {
     let mut s = 0.0;
     for r in 0..mx {
@@ -29,7 +29,7 @@ fn column_sum(h: &[f64], dim: usize, mx: usize, c: usize) -> f64
 
 fn column_sum_norm(h: &[f64], dim: usize, mx: usize) -> f64
     requires { Leading h.now dim mx }
-    ensures { result ≡ column-sum-norm h.now dim mx }
+    ensures { result ≡ column_sum_norm h.now dim mx }
 {
     let mut m = 0.0;
     for c in 0..mx {
@@ -53,7 +53,7 @@ fn hess_term(h: &[f64], dim: usize, mx: usize, ts: f64, k: usize, y: &mut [f64],
     requires leading { Leading h.now dim mx }
     requires y_len { (length y.old ≡ mx) × (length w.old ≡ mx) }
     requires k_bound { k < 18446744073709551615 }
-    ensures { terms y.new w.new ≡ term-step h.now dim mx ts k (terms y.old w.old) }
+    ensures { terms y.new w.new ≡ term_step h.now dim mx ts k (terms y.old w.old) }
 {
     hess_product::hess_product_in(h, dim, mx, ts / float::count(k + 1), w);
     added_in(w, y);
@@ -63,7 +63,7 @@ fn hess_term(h: &[f64], dim: usize, mx: usize, ts: f64, k: usize, y: &mut [f64],
 fn hess_sweep(h: &[f64], dim: usize, mx: usize, ts: f64, deg: usize, y: &mut [f64], w: &mut [f64])
     requires leading { Leading h.now dim mx }
     requires y_len { (length y.old ≡ mx) × (length w.old ≡ mx) }
-    ensures { y.new ≡ hess-sweep h.now dim mx ts deg y.old }
+    ensures { y.new ≡ hess_sweep h.now dim mx ts deg y.old }
 {
     vectors::copy_from(w, 0, y, 0, mx);
     for k in 0..deg {
@@ -84,7 +84,7 @@ fn hess_sweeps(
 )
     requires leading { Leading h.now dim mx }
     requires y_len { (length y.old ≡ mx) × (length w.old ≡ mx) }
-    ensures { y.new ≡ iter (λ _ v. hess-sweep h.now dim mx ts deg v) s y.old }
+    ensures { y.new ≡ iter (λ _ v. hess_sweep h.now dim mx ts deg v) s y.old }
 {
     for i in 0..s {
         hess_sweep(h, dim, mx, ts, deg, y, w);
@@ -104,7 +104,7 @@ fn hess_sweeps_in(
 )
     requires leading { Leading h.now dim mx }
     requires mx_in_bounds { (mx ≤ length y.old) × (mx ≤ length w.old) }
-    ensures { window 0 mx y.new ≡ iter (λ _ v. hess-sweep h.now dim mx ts deg v) s (window 0 mx y.old) }
+    ensures { window 0 mx y.new ≡ iter (λ _ v. hess_sweep h.now dim mx ts deg v) s (window 0 mx y.old) }
 {
     hess_sweeps(h, dim, mx, ts, deg, s, &mut y[..mx], &mut w[..mx]);
 }
@@ -113,7 +113,7 @@ fn hess_sweeps_in(
 pub fn hess_exp_e1(h: &[f64], dim: usize, mx: usize, t: f64) -> SmallExp
     requires le_mx { (1 ≤ mx) × (mx ≤ 130) }
     requires leading { Leading h.now dim mx }
-    ensures result_value { small_of mx result ≡ hess-exp-e1 h.now dim mx t }
+    ensures result_value { small_of mx result ≡ hess_exp_e1 h.now dim mx t }
     ensures column_len { length result.column ≡ 130 }
 {
     let mut y = [0.0; 130];

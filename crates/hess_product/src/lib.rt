@@ -1,8 +1,8 @@
 // The product with a small Hessenberg matrix that is stored by columns, in place, eight rows at a time.
 ghost use Rattle.std.specs.Prelude.{◌≡◌, map, ◌+◌, ◌-◌, ◌*◌, ◌<◌, ◌≤◌, length};
 ghost use Rattle.doubles.specs.F64.{◌⊗◌, at};
-ghost use Rattle.hess_rows.specs.HessProduct.{hess-product};
-ghost use Rattle.hess_rows.specs.Parts.{four-parts, put, Leading};
+ghost use Rattle.hess_rows.specs.HessProduct.{hess_product};
+ghost use Rattle.hess_rows.specs.Parts.{four_parts, put, Leading};
 
 use hess_rows::Four;
 
@@ -17,8 +17,8 @@ struct Eight {
 fn eight_rows(h: &[f64], dim: usize, mx: usize, w: &[f64], r: usize, x: f64) -> Eight
     requires leading { Leading h.now dim mx }
     requires r_bound { (r + 8 ≤ mx) × (mx ≤ length w.now) }
-    ensures upper_value { result.upper ≡ four-parts h.now dim x w.now r mx }
-    ensures lower_value { result.lower ≡ four-parts h.now dim (at w.now (r + 3)) w.now (r + 4) mx }
+    ensures upper_value { result.upper ≡ four_parts h.now dim x w.now r mx }
+    ensures lower_value { result.lower ≡ four_parts h.now dim (at w.now (r + 3)) w.now (r + 4) mx }
 {
     let from = r + 7;
     let mut s = hess_rows::four_rows(h, dim, from, w, r, x);
@@ -46,7 +46,7 @@ fn put_four(w: &mut [f64], r: usize, f: f64, s: Four)
 pub fn hess_product_in(h: &[f64], dim: usize, mx: usize, f: f64, w: &mut [f64])
     requires leading { Leading h.now dim mx }
     requires w_len { length w.old ≡ mx }
-    ensures { w.new ≡ map (λ e. f ⊗ e) (hess-product h.now dim mx w.old) }
+    ensures { w.new ≡ map (λ e. f ⊗ e) (hess_product h.now dim mx w.old) }
 {
     let mut r = 0;
     let mut x = 0.0;

@@ -9,49 +9,49 @@ use borrow.Author.Tests.{ne_eqb}
 use lib.ListN.{length}
 use lib.Ieee.{Float}
 use Rattle.lists.specs.Loop.{iter}
-use Rattle.lists.proofs.Loop.{iter-none, iter-next}
-use Rattle.lists.proofs.Bounds.{column-within}
+use Rattle.lists.proofs.Loop.{iter_none, iter_next}
+use Rattle.lists.proofs.Bounds.{column_within}
 use Rattle.doubles.specs.F64.{◌⊕◌, ◌⊗◌, +0, at}
 use Rattle.doubles.specs.Sum.{sum}
 use Rattle.hess_rows.specs.HessProduct.{place}
-use Rattle.hess_rows.specs.Parts.{hess-row, left-product, row-part, four-parts, added, Leading}
+use Rattle.hess_rows.specs.Parts.{hess_row, left_product, row_part, four_parts, added, Leading}
 use Rattle.hess_rows.specs.declared.Four.{Four}
 
 module _ (h : List Float) (dim : ℕ) (x : Float) (w : List Float) (r : ℕ) where
   abbrev step : ℕ → Float → Float
   step i s = s ⊕ at h (place dim r (r + i)) ⊗ at w (r + i)
 
-  pub part_none : row-part h dim x w r r ≡ left-product h dim x r
-  unfolding row-part
-  part_none = let none : r - r ≡ 0 = omega arith in rw none (iter-none step (left-product h dim x r))
+  pub part_none : row_part h dim x w r r ≡ left_product h dim x r
+  unfolding row_part
+  part_none = let none : r - r ≡ 0 = omega arith in rw none (iter_none step (left_product h dim x r))
 
   -- one column more
-  pub part-next : (j : ℕ) → r ≤ j → row-part h dim x w r (j + 1) ≡ row-part h dim x w r j ⊕ at h (place dim r j) ⊗ at w j
-  unfolding row-part
-  part-next j l =
+  pub part_next : (j : ℕ) → r ≤ j → row_part h dim x w r (j + 1) ≡ row_part h dim x w r j ⊕ at h (place dim r j) ⊗ at w j
+  unfolding row_part
+  part_next j l =
       let more : j + 1 - r ≡ (j - r) + 1 = omega arith in
       let here : r + (j - r) ≡ j = omega arith in
-      ap (λ (n : ℕ). iter step n (left-product h dim x r)) more ∙ iter-next step (j - r) (left-product h dim x r) ∙ ap (λ (k : ℕ). iter step (j - r) (left-product h dim x r) ⊕ at h (place dim r k) ⊗ at w k) here
+      ap (λ (n : ℕ). iter step n (left_product h dim x r)) more ∙ iter_next step (j - r) (left_product h dim x r) ∙ ap (λ (k : ℕ). iter step (j - r) (left_product h dim x r) ⊕ at h (place dim r k) ⊗ at w k) here
 
-  pub part-turn : (j : ℕ) {s : Float} → r ≤ j → s ≡ row-part h dim x w r j → s ⊕ at h (place dim r j) ⊗ at w j ≡ row-part h dim x w r (j + 1)
-  part-turn j l e = ap (λ (t : Float). t ⊕ at h (place dim r j) ⊗ at w j) e ∙ sym (part-next j l)
+  pub part_turn : (j : ℕ) {s : Float} → r ≤ j → s ≡ row_part h dim x w r j → s ⊕ at h (place dim r j) ⊗ at w j ≡ row_part h dim x w r (j + 1)
+  part_turn j l e = ap (λ (t : Float). t ⊕ at h (place dim r j) ⊗ at w j) e ∙ sym (part_next j l)
 
 -- fewer rows and columns lie within h too
 pub fewer : {h : List Float} {dim a : ℕ} → Leading h dim a → (b : ℕ) → b ≤ a → Leading h dim b
 fewer {h} {dim} {a} l b m = record { across = omega (arith, l.across); down = omega (arith, mul-le-mul_right dim m, l.down) }
 
 -- the entries of four rows in column j lie within h
-pub four-within : {h : List Float} {dim a : ℕ} → Leading h dim a → (r j : ℕ) → r + 4 ≤ dim → j < a → j * dim + r + 4 ≤ length h
-four-within {h} {dim} {a} l r j m n = omega (arith, column-within j a dim n, l.down)
+pub four_within : {h : List Float} {dim a : ℕ} → Leading h dim a → (r j : ℕ) → r + 4 ≤ dim → j < a → j * dim + r + 4 ≤ length h
+four_within {h} {dim} {a} l r j m n = omega (arith, column_within j a dim n, l.down)
 
 -- ---- four rows
 module _ (h : List Float) (dim : ℕ) (x : Float) (w : List Float) (r j : ℕ) (l : r + 3 ≤ j) where
   -- a row's turn, where the code has the entry's place by another name
-  turn_at : (x : Float) (k p : ℕ) {s : Float} → k ≤ j → p ≡ place dim k j → s ≡ row-part h dim x w k j → s ⊕ at h p ⊗ at w j ≡ row-part h dim x w k (j + 1)
-  turn_at x k p {s} m e d = ap (λ (n : ℕ). s ⊕ at h n ⊗ at w j) e ∙ part-turn h dim x w k j m d
+  turn_at : (x : Float) (k p : ℕ) {s : Float} → k ≤ j → p ≡ place dim k j → s ≡ row_part h dim x w k j → s ⊕ at h p ⊗ at w j ≡ row_part h dim x w k (j + 1)
+  turn_at x k p {s} m e d = ap (λ (n : ℕ). s ⊕ at h n ⊗ at w j) e ∙ part_turn h dim x w k j m d
 
-  pub four-turn : (p : ℕ) {s : Four} → p ≡ place dim r j → s ≡ four-parts h dim x w r j → added h p (at w j) s ≡ four-parts h dim x w r (j + 1)
-  four-turn p {s} d e =
+  pub four_turn : (p : ℕ) {s : Four} → p ≡ place dim r j → s ≡ four_parts h dim x w r j → added h p (at w j) s ≡ four_parts h dim x w r (j + 1)
+  four_turn p {s} d e =
       let t0 = turn_at x r p (omega arith) d (ap (λ (z : Four). z.s0) e) in
       let t1 = turn_at (at w r) (r + 1) (p + 1) (omega arith) (omega (arith, d)) (ap (λ (z : Four). z.s1) e) in
       let t2 = turn_at (at w (r + 1)) (r + 2) (p + 2) (omega arith) (omega (arith, d)) (ap (λ (z : Four). z.s2) e) in
@@ -60,10 +60,10 @@ module _ (h : List Float) (dim : ℕ) (x : Float) (w : List Float) (r j : ℕ) (
 
 -- ---- the row that the parts make
 -- a sum by another way of its terms, and with its first term apart
-iter-sum : (n : ℕ) (f g : ℕ → Float) → ((k : ℕ) → k < n → f k ≡ g k) → sum n f ≡ iter (λ k s. s ⊕ g k) n +0
+iter_sum : (n : ℕ) (f g : ℕ → Float) → ((k : ℕ) → k < n → f k ≡ g k) → sum n f ≡ iter (λ k s. s ⊕ g k) n +0
 unfolding sum iter
-iter-sum zero f g e = refl
-iter-sum (suc n) f g e = λ i. iter-sum n f g (λ k l. e k (omega arith)) i ⊕ e n (omega arith) i
+iter_sum zero f g e = refl
+iter_sum (suc n) f g e = λ i. iter_sum n f g (λ k l. e k (omega arith)) i ⊕ e n (omega arith) i
 
 sum_first : (n : ℕ) (f g : ℕ → Float) {t : Float} → f 0 ≡ t → ((k : ℕ) → k < n → f (suc k) ≡ g k) → sum (suc n) f ≡ iter (λ k s. s ⊕ g k) n (+0 ⊕ t)
 unfolding sum iter
@@ -71,11 +71,11 @@ sum_first zero f g d e = ap (λ (t : Float). +0 ⊕ t) d
 sum_first (suc n) f g d e = λ i. sum_first n f g d (λ k l. e k (omega arith)) i ⊕ e n (omega arith) i
 
 -- where w is w₀ from r on and x is w₀ at r - 1, the parts make the row of w₀
-pub row_is : (h : List Float) (dim mx : ℕ) (w₀ w : List Float) (r : ℕ) {x : Float} → r < mx → (0 < r → x ≡ at w₀ (r - 1)) → ((k : ℕ) → r ≤ k → at w k ≡ at w₀ k) → row-part h dim x w r mx ≡ hess-row h dim mx w₀ r
-unfolding row-part left-product
+pub row_is : (h : List Float) (dim mx : ℕ) (w₀ w : List Float) (r : ℕ) {x : Float} → r < mx → (0 < r → x ≡ at w₀ (r - 1)) → ((k : ℕ) → r ≤ k → at w k ≡ at w₀ k) → row_part h dim x w r mx ≡ hess_row h dim mx w₀ r
+unfolding row_part left_product
 row_is h dim mx w₀ w zero {x} l e same =
     let all : mx - 0 ≡ mx = omega arith in
-    rw all (sym (iter-sum mx (λ i. at h (place dim 0 (0 + i)) ⊗ at w₀ (0 + i)) (λ i. at h (place dim 0 (0 + i)) ⊗ at w (0 + i)) (λ i m. ap (λ (y : Float). at h (place dim 0 (0 + i)) ⊗ y) (sym (same (0 + i) zero-le)))))
+    rw all (sym (iter_sum mx (λ i. at h (place dim 0 (0 + i)) ⊗ at w₀ (0 + i)) (λ i. at h (place dim 0 (0 + i)) ⊗ at w (0 + i)) (λ i m. ap (λ (y : Float). at h (place dim 0 (0 + i)) ⊗ y) (sym (same (0 + i) zero-le)))))
 row_is h dim mx w₀ w (suc r) {x} l e same =
     let left : suc r - 1 ≡ r = omega arith in
     let count : mx - r ≡ suc (mx - suc r) = omega arith in

@@ -3,17 +3,17 @@
 use Rattle.std.specs.Prelude.{List, ℕ, ◌+◌, ◌-◌, ◌*◌, Float}
 use Rattle.lists.specs.Loop.{tabulate}
 use Rattle.doubles.specs.F64.{◌⊗◌, at}
-use Rattle.doubles.specs.Sum.{sum, open-Sum}
+use Rattle.doubles.specs.Sum.{sum, open_sum}
 
 -- where the entry of row r and column c stands (the Rust's rows are columns here)
 abbrev pub place : ℕ → ℕ → ℕ → ℕ
 place dim r c = c * dim + r
 
 -- H w
-unfoldable pub hess-product : List Float → ℕ → ℕ → List Float → List Float
-hess-product h dim mx w = tabulate mx (λ r. sum (mx - (r - 1)) (λ i. at h (place dim r (r - 1 + i)) ⊗ at w (r - 1 + i)))
+unfoldable pub hess_product : List Float → ℕ → ℕ → List Float → List Float
+hess_product h dim mx w = tabulate mx (λ r. sum (mx - (r - 1)) (λ i. at h (place dim r (r - 1 + i)) ⊗ at w (r - 1 + i)))
 
 -- to compute
-unfoldable pub open-HessProduct : Unit {0}
-unfolding hess-product open-Sum
-open-HessProduct = tt
+unfoldable pub open_hess_product : Unit {0}
+unfolding hess_product open_sum
+open_hess_product = tt

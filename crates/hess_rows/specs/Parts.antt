@@ -7,24 +7,24 @@ use Rattle.hess_rows.specs.declared.Four.{Four}
 use Rattle.hess_rows.specs.HessProduct.{place}
 
 -- row r of H w, from column r - 1 on
-abbrev pub hess-row : List Float → ℕ → ℕ → List Float → ℕ → Float
-hess-row h dim mx w r = sum (mx - (r - 1)) (λ i. at h (place dim r (r - 1 + i)) ⊗ at w (r - 1 + i))
+abbrev pub hess_row : List Float → ℕ → ℕ → List Float → ℕ → Float
+hess_row h dim mx w r = sum (mx - (r - 1)) (λ i. at h (place dim r (r - 1 + i)) ⊗ at w (r - 1 + i))
 
 -- the same by parts, x being w at r - 1: column r - 1, which row 0 has not, and then the columns from r up to `to`
-unfoldable pub left-product : List Float → ℕ → Float → ℕ → Float
-left-product h dim x r = if eqb r 0 then +0 else (+0 ⊕ at h (place dim r (r - 1)) ⊗ x)
+unfoldable pub left_product : List Float → ℕ → Float → ℕ → Float
+left_product h dim x r = if eqb r 0 then +0 else (+0 ⊕ at h (place dim r (r - 1)) ⊗ x)
 
-unfoldable pub row-part : List Float → ℕ → Float → List Float → ℕ → ℕ → Float
-row-part h dim x w r to = iter (λ i s. s ⊕ at h (place dim r (r + i)) ⊗ at w (r + i)) (to - r) (left-product h dim x r)
+unfoldable pub row_part : List Float → ℕ → Float → List Float → ℕ → ℕ → Float
+row_part h dim x w r to = iter (λ i s. s ⊕ at h (place dim r (r + i)) ⊗ at w (r + i)) (to - r) (left_product h dim x r)
 
 -- rows r to r + 3
-abbrev pub four-parts : List Float → ℕ → Float → List Float → ℕ → ℕ → Four
-four-parts h dim x w r to =
+abbrev pub four_parts : List Float → ℕ → Float → List Float → ℕ → ℕ → Four
+four_parts h dim x w r to =
     record {
-      s0 = row-part h dim x w r to;
-      s1 = row-part h dim (at w r) w (r + 1) to;
-      s2 = row-part h dim (at w (r + 1)) w (r + 2) to;
-      s3 = row-part h dim (at w (r + 2)) w (r + 3) to;
+      s0 = row_part h dim x w r to;
+      s1 = row_part h dim (at w r) w (r + 1) to;
+      s2 = row_part h dim (at w (r + 1)) w (r + 2) to;
+      s3 = row_part h dim (at w (r + 2)) w (r + 3) to;
     }
 
 -- one column more, whose entries of four rows stand from place p on, times y

@@ -1,12 +1,12 @@
 // One row, and four rows side by side, of the product with a small Hessenberg matrix that is stored by columns.
 ghost use Rattle.std.specs.Prelude.{◌≡◌, ◌+◌, ◌-◌, ◌*◌, ◌<◌, ◌≤◌, length};
 ghost use Rattle.doubles.specs.F64.{at};
-ghost use Rattle.hess_rows.specs.Parts.{left-product, row-part, four-parts, added, Leading};
+ghost use Rattle.hess_rows.specs.Parts.{left_product, row_part, four_parts, added, Leading};
 
 // What row r takes from column r - 1, x being w there; row 0 has no such column.
 fn left_product(h: &[f64], dim: usize, r: usize, x: f64) -> f64
     requires { 0 < r → (r - 1) * dim + r < length h.now }
-    ensures { result ≡ left-product h.now dim x r }
+    ensures { result ≡ left_product h.now dim x r }
 {
     if r == 0 {
         return 0.0;
@@ -18,7 +18,7 @@ fn left_product(h: &[f64], dim: usize, r: usize, x: f64) -> f64
 pub fn row_part(h: &[f64], dim: usize, w: &[f64], r: usize, x: f64, to: usize) -> f64
     requires leading { Leading h.now dim to }
     requires r_le_to { (r ≤ to) × (r < dim) × (to ≤ length w.now) }
-    ensures { result ≡ row-part h.now dim x w.now r to }
+    ensures { result ≡ row_part h.now dim x w.now r to }
 {
     let mut s = left_product(h, dim, r, x);
     for j in r..to {
@@ -40,7 +40,7 @@ pub struct Four {
 pub fn four_starts(h: &[f64], dim: usize, w: &[f64], r: usize, x: f64) -> Four
     requires leading { Leading h.now dim (r + 3) }
     requires r_bound { (r + 4 ≤ dim) × (r + 3 ≤ length w.now) }
-    ensures { result ≡ four-parts h.now dim x w.now r (r + 3) }
+    ensures { result ≡ four_parts h.now dim x w.now r (r + 3) }
 {
     let to = r + 3;
     Four {
@@ -68,7 +68,7 @@ pub fn add_four(h: &[f64], p: usize, y: f64, s: Four) -> Four
 pub fn four_rows(h: &[f64], dim: usize, to: usize, w: &[f64], r: usize, x: f64) -> Four
     requires leading { Leading h.now dim to }
     requires r_bound { (r + 4 ≤ dim) × (r + 3 ≤ to) × (to ≤ length w.now) }
-    ensures { result ≡ four-parts h.now dim x w.now r to }
+    ensures { result ≡ four_parts h.now dim x w.now r to }
 {
     let from = r + 3;
     let mut s = four_starts(h, dim, w, r, x);

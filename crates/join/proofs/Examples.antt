@@ -5,7 +5,7 @@ use lib.ListN.{replicate}
 use lib.Ieee.{nan}
 use Rattle.doubles.specs.F64.{bits, +0, 1f, 2f, +∞}
 use Rattle.general_operator.specs.Csr.{Csr, csr}
-use Rattle.join_rows.specs.Join.{join, join-call, open-Join}
+use Rattle.join_rows.specs.Join.{join, join_call, open_join}
 use Rattle.join_rows.specs.declared.JoinAnswer.TheVariants.{Refusal, Joined}
 
 -- rows (1 . ; . 2) and (. 1 ; . -2): entries before the first row start are not carried, a sum of 0 is kept
@@ -16,25 +16,25 @@ abbrev mount : Csr
 mount = csr 2 (0 ∷ 1 ∷ 2 ∷ []) (1 ∷ 1 ∷ []) (1f ∷ bits 0xc000_0000_0000_0000 ∷ [])
 
 joined : join barrel mount ≡ csr 2 (0 ∷ 2 ∷ 3 ∷ []) (0 ∷ 1 ∷ 1 ∷ []) (1f ∷ 1f ∷ +0 ∷ [])
-unfolding open-Join
+unfolding open_join
 joined = refl
 
 -- places beyond the result are unchanged
-called : join-call barrel mount (replicate 4 9) (replicate 3 9) (replicate 4 2f) ≡ record { answer = Joined 3; starts = 0 ∷ 2 ∷ 3 ∷ 9 ∷ []; columns = 0 ∷ 1 ∷ 1 ∷ []; values = 1f ∷ 1f ∷ +0 ∷ 2f ∷ [] }
-unfolding open-Join
+called : join_call barrel mount (replicate 4 9) (replicate 3 9) (replicate 4 2f) ≡ record { answer = Joined 3; starts = 0 ∷ 2 ∷ 3 ∷ 9 ∷ []; columns = 0 ∷ 1 ∷ 1 ∷ []; values = 1f ∷ 1f ∷ +0 ∷ 2f ∷ [] }
+unfolding open_join
 called = refl
 
-narrow : join-call barrel mount (replicate 4 9) (replicate 2 9) (replicate 4 2f) ≡ record { answer = Refusal 36 nan; starts = replicate 4 9; columns = replicate 2 9; values = replicate 4 2f }
-unfolding open-Join
+narrow : join_call barrel mount (replicate 4 9) (replicate 2 9) (replicate 4 2f) ≡ record { answer = Refusal 36 nan; starts = replicate 4 9; columns = replicate 2 9; values = replicate 4 2f }
+unfolding open_join
 narrow = refl
 
 -- a repeated column
-repeated : join-call (csr 1 (0 ∷ 2 ∷ []) (0 ∷ 0 ∷ []) (1f ∷ 1f ∷ [])) (csr 1 (0 ∷ 0 ∷ []) [] []) [] [] [] ≡ record { answer = Refusal 35 nan; starts = []; columns = []; values = [] }
-unfolding open-Join
+repeated : join_call (csr 1 (0 ∷ 2 ∷ []) (0 ∷ 0 ∷ []) (1f ∷ 1f ∷ [])) (csr 1 (0 ∷ 0 ∷ []) [] []) [] [] [] ≡ record { answer = Refusal 35 nan; starts = []; columns = []; values = [] }
+unfolding open_join
 repeated = refl
 
 -- the largest double twice
-overflowing : join-call (csr 1 (0 ∷ 1 ∷ []) (0 ∷ []) (bits 0x7fef_ffff_ffff_ffff ∷ [])) (csr 1 (0 ∷ 1 ∷ []) (0 ∷ []) (bits 0x7fef_ffff_ffff_ffff ∷ [])) (9 ∷ 9 ∷ []) (9 ∷ []) (2f ∷ [])
+overflowing : join_call (csr 1 (0 ∷ 1 ∷ []) (0 ∷ []) (bits 0x7fef_ffff_ffff_ffff ∷ [])) (csr 1 (0 ∷ 1 ∷ []) (0 ∷ []) (bits 0x7fef_ffff_ffff_ffff ∷ [])) (9 ∷ 9 ∷ []) (9 ∷ []) (2f ∷ [])
     ≡ record { answer = Refusal 6 +∞; starts = 9 ∷ 9 ∷ []; columns = 9 ∷ []; values = 2f ∷ [] }
-unfolding open-Join
+unfolding open_join
 overflowing = refl

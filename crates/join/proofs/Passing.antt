@@ -5,46 +5,46 @@ use native.Mathlib.Nat.{le_refl}
 use native.Mathlib.Omega.{arith}
 use lib.ListN.{length}
 use borrow.Author.Tests.{le-ltb, lt-leb, eq-eqb, ne_eqb}
-use Rattle.lists.proofs.Find.{Passed, found_none, exists-none}
+use Rattle.lists.proofs.Find.{Passed, found_none, exists_none}
 use Rattle.checks.specs.First.{first}
-use Rattle.checks.proofs.First.{passes, ends-sound, sound-on}
+use Rattle.checks.proofs.First.{passes, ends_sound, sound_on}
 use Rattle.checks.specs.declared.Checked.TheVariants.{Sound}
 use Rattle.general_operator.specs.Csr.{Csr, Valid}
-use Rattle.general_operator.specs.Checks.{wrong-rows, wrong-entries, too_large, falls, bad-column, bad-entry, shape-checks, row-checks, entry-checks, matrix-checks}
+use Rattle.general_operator.specs.Checks.{wrong_rows, wrong_entries, too_large, falls, bad_column, bad_entry, shape_checks, row_checks, entry_checks, matrix_checks}
 use Rattle.generator_action.specs.Known.{Finite}
 
 module _ {q : Csr} (v : Valid q) where
-  rows_pass : wrong-rows q.n (length q.starts) ≡ false
-  unfolding wrong-rows
+  rows_pass : wrong_rows q.n (length q.starts) ≡ false
+  unfolding wrong_rows
   rows_pass = rw (ne_eqb q.n 0 (λ e. omega (arith, v.some)), eq-eqb _ _ v.rows) refl
 
-  entries-pass : wrong-entries q.n q.starts (length q.columns) (length q.entries) ≡ false
-  unfolding wrong-entries
-  entries-pass = rw (eq-eqb _ _ v.paired, eq-eqb _ _ v.last) refl
+  entries_pass : wrong_entries q.n q.starts (length q.columns) (length q.entries) ≡ false
+  unfolding wrong_entries
+  entries_pass = rw (eq-eqb _ _ v.paired, eq-eqb _ _ v.last) refl
 
-  size-passes : too_large q.n (length q.entries) ≡ false
+  size_passes : too_large q.n (length q.entries) ≡ false
   unfolding too_large
-  size-passes = rw (le-ltb 1000000 q.n v.few, le-ltb 16777216 (length q.entries) v.light) refl
+  size_passes = rw (le-ltb 1000000 q.n v.few, le-ltb 16777216 (length q.entries) v.light) refl
 
-  shape-passes : Sound ≡ first (shape-checks q.n q.starts (length q.columns) (length q.entries))
-  unfolding shape-checks
-  shape-passes = passes 1 _ _ rows_pass (passes 2 _ _ entries-pass (passes 3 _ _ size-passes ends-sound))
+  shape_passes : Sound ≡ first (shape_checks q.n q.starts (length q.columns) (length q.entries))
+  unfolding shape_checks
+  shape_passes = passes 1 _ _ rows_pass (passes 2 _ _ entries_pass (passes 3 _ _ size_passes ends_sound))
 
-  starts-pass : Sound ≡ first (row-checks q.n q.starts)
-  unfolding row-checks falls
-  starts-pass =
+  starts_pass : Sound ≡ first (row_checks q.n q.starts)
+  unfolding row_checks falls
+  starts_pass =
       let none : Passed (falls q.starts) q.n = record { none = λ k l. le-ltb _ _ (v.rising k l) } in
-      passes 4 _ _ (sym (exists-none none q.n (le_refl q.n))) ends-sound
+      passes 4 _ _ (sym (exists_none none q.n (le_refl q.n))) ends_sound
 
   module _ (f : Finite q) where
-    fine-entries : Sound ≡ first (entry-checks q.n q.columns q.entries)
-    unfolding entry-checks bad-entry bad-column
-    fine-entries =
+    fine_entries : Sound ≡ first (entry_checks q.n q.columns q.entries)
+    unfolding entry_checks bad_entry bad_column
+    fine_entries =
         let n = length q.entries in
-        let none : Passed (bad-entry q.n q.columns q.entries) n = record { none = λ k l. rw (lt-leb _ _ (v.below k (omega (arith, v.paired))), f k l) refl } in
+        let none : Passed (bad_entry q.n q.columns q.entries) n = record { none = λ k l. rw (lt-leb _ _ (v.below k (omega (arith, v.paired))), f k l) refl } in
         let e = found_none none n (le_refl n) in
-        passes 5 _ _ (rw (← e, le-ltb n n (le_refl n)) refl) (passes 6 _ _ (rw (← e) (le-ltb n n (le_refl n))) ends-sound)
+        passes 5 _ _ (rw (← e, le-ltb n n (le_refl n)) refl) (passes 6 _ _ (rw (← e) (le-ltb n n (le_refl n))) ends_sound)
 
-    pub valid-passes : Sound ≡ first (matrix-checks q)
-    unfolding matrix-checks
-    valid-passes = sound-on _ _ refl shape-passes (sound-on _ _ refl starts-pass fine-entries)
+    pub valid_passes : Sound ≡ first (matrix_checks q)
+    unfolding matrix_checks
+    valid_passes = sound_on _ _ refl shape_passes (sound_on _ _ refl starts_pass fine_entries)

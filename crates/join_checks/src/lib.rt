@@ -2,7 +2,7 @@
 ghost use Rattle.std.specs.Prelude.{◌≡◌, List, true, ◌||◌, ltb, ◌+◌, ◌-◌, ◌≤◌, ◌<◌, Float};
 ghost use Rattle.checks.specs.First.{first};
 ghost use Rattle.general_operator.specs.Csr.{csr};
-ghost use Rattle.join_rows.specs.Join.{join, input-checks, pair-checks, result-checks, join-checks};
+ghost use Rattle.join_rows.specs.Join.{join, input_checks, pair_checks, result_checks, join_checks};
 ghost use Rattle.join_rows.specs.Inner.{Rows, Joinable};
 
 use checks::Checked;
@@ -11,7 +11,7 @@ use join_rows::Lengths;
 
 // 1 to 6 and 11 of one input: those of a generator without mass.
 fn check_input(n: usize, starts: &[u32], cols: &[u32], vals: &[f64]) -> Checked
-    ensures { result ≡ first (input-checks (csr n starts.now cols.now vals.now)) }
+    ensures { result ≡ first (input_checks (csr n starts.now cols.now vals.now)) }
 {
     let answer = generator_checks::check_generator(n, starts, cols, vals, false, vals);
     let MatrixAnswer::Norm(_, _) = answer else {
@@ -49,7 +49,7 @@ fn check_result(
     l: Lengths,
 ) -> Checked
     requires { Joinable (csr n starts_a.now cols_a.now vals_a.now) (csr n starts_b.now cols_b.now vals_b.now) }
-    ensures { result ≡ first (result-checks (join (csr n starts_a.now cols_a.now vals_a.now) (csr n starts_b.now cols_b.now vals_b.now)) l) }
+    ensures { result ≡ first (result_checks (join (csr n starts_a.now cols_a.now vals_a.now) (csr n starts_b.now cols_b.now vals_b.now)) l) }
 {
     let entries = join_rows::count_entries(n, starts_a, cols_a, starts_b, cols_b);
     let short = is_short(n, entries, l);
@@ -73,7 +73,7 @@ fn check_pair(
 ) -> Checked
     requires rows { Rows n_a starts_a.now cols_a.now }
     requires rows_2 { Rows n_b starts_b.now cols_b.now }
-    ensures { (u v : List Float) → result ≡ first (pair-checks (csr n_a starts_a.now cols_a.now u) (csr n_b starts_b.now cols_b.now v)) }
+    ensures { (u v : List Float) → result ≡ first (pair_checks (csr n_a starts_a.now cols_a.now u) (csr n_b starts_b.now cols_b.now v)) }
 {
     if n_a != n_b {
         return Checked::Refused(34, float::not_a_number());
@@ -99,7 +99,7 @@ pub fn check_join(
     vals_b: &[f64],
     l: Lengths,
 ) -> Checked
-    ensures { result ≡ first (join-checks (csr n_a starts_a.now cols_a.now vals_a.now) (csr n_b starts_b.now cols_b.now vals_b.now) l) }
+    ensures { result ≡ first (join_checks (csr n_a starts_a.now cols_a.now vals_a.now) (csr n_b starts_b.now cols_b.now vals_b.now) l) }
 {
     let barrel = check_input(n_a, starts_a, cols_a, vals_a);
     let Checked::Sound = barrel else {

@@ -4,7 +4,7 @@ ghost use Rattle.lists.specs.Find.{exists};
 ghost use Rattle.lists.specs.Loop.{stack};
 ghost use Rattle.checks.specs.First.{first};
 ghost use Rattle.general_operator.specs.Csr.{csr};
-ghost use Rattle.join_rows.specs.Join.{joined-columns, joined-values, join, not-rising, unordered, value-checks, ends};
+ghost use Rattle.join_rows.specs.Join.{joined_columns, joined_values, join, not_rising, unordered, value_checks, ends};
 ghost use Rattle.join_rows.specs.Inner.{Rows, Ordered, Joinable};
 ghost use Rattle.row_merge.specs.Merge.{advance};
 
@@ -28,7 +28,7 @@ pub struct Lengths {
 // The entry at place k of a row that ends at `to` and the next one of that row do not rise.
 fn not_rising(cols: &[u32], to: usize, k: usize) -> bool
     requires { (k < to) × (to ≤ length cols.now) }
-    ensures { result ≡ not-rising cols.now to k }
+    ensures { result ≡ not_rising cols.now to k }
 {
     if k + 1 < to {
         return cols[k + 1] <= cols[k];
@@ -39,7 +39,7 @@ fn not_rising(cols: &[u32], to: usize, k: usize) -> bool
 // 35 of one row.
 fn row_unordered(cols: &[u32], from: usize, to: usize) -> bool
     requires { (from ≤ to) × (to ≤ length cols.now) }
-    ensures { result ≡ exists (λ k. not-rising cols.now to (from + k)) (to - from) }
+    ensures { result ≡ exists (λ k. not_rising cols.now to (from + k)) (to - from) }
 {
     let count = to - from;
     for k in 0..count {
@@ -77,7 +77,7 @@ fn count_row(
     requires ordered { Ordered n starts_a.now cols_a.now }
     requires ordered_2 { Ordered n starts_b.now cols_b.now }
     requires i_lt_n { i < n }
-    ensures { (u v : List Float) → result ≡ length (joined-columns (csr n starts_a.now cols_a.now u) (csr n starts_b.now cols_b.now v) i) }
+    ensures { (u v : List Float) → result ≡ length (joined_columns (csr n starts_a.now cols_a.now u) (csr n starts_b.now cols_b.now v) i) }
 {
     let mut m = row_merge::row_start(starts_a, starts_b, i);
     let mut count = 0;
@@ -101,7 +101,7 @@ pub fn count_entries(
 ) -> usize
     requires ordered { Ordered n starts_a.now cols_a.now }
     requires ordered_2 { Ordered n starts_b.now cols_b.now }
-    ensures { (u v : List Float) → result ≡ length (stack n (joined-columns (csr n starts_a.now cols_a.now u) (csr n starts_b.now cols_b.now v))) }
+    ensures { (u v : List Float) → result ≡ length (stack n (joined_columns (csr n starts_a.now cols_a.now u) (csr n starts_b.now cols_b.now v))) }
 {
     let mut count = 0;
     for i in 0..n {
@@ -123,7 +123,7 @@ fn check_row_values(
 ) -> Checked
     requires joinable { Joinable (csr n starts_a.now cols_a.now vals_a.now) (csr n starts_b.now cols_b.now vals_b.now) }
     requires i_lt_n { i < n }
-    ensures { result ≡ first (value-checks (joined-values (csr n starts_a.now cols_a.now vals_a.now) (csr n starts_b.now cols_b.now vals_b.now) i)) }
+    ensures { result ≡ first (value_checks (joined_values (csr n starts_a.now cols_a.now vals_a.now) (csr n starts_b.now cols_b.now vals_b.now) i)) }
 {
     let mut m = row_merge::row_start(starts_a, starts_b, i);
     loop {
@@ -150,7 +150,7 @@ pub fn check_values(
     vals_b: &[f64],
 ) -> Checked
     requires { Joinable (csr n starts_a.now cols_a.now vals_a.now) (csr n starts_b.now cols_b.now vals_b.now) }
-    ensures { result ≡ first (value-checks (join (csr n starts_a.now cols_a.now vals_a.now) (csr n starts_b.now cols_b.now vals_b.now)).entries) }
+    ensures { result ≡ first (value_checks (join (csr n starts_a.now cols_a.now vals_a.now) (csr n starts_b.now cols_b.now vals_b.now)).entries) }
 {
     for i in 0..n {
         let row = check_row_values(n, starts_a, cols_a, vals_a, starts_b, cols_b, vals_b, i);

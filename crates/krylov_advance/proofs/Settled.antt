@@ -12,14 +12,14 @@ use Rattle.general_operator.specs.Csr.{Csr}
 use Rattle.phi_action_helpers.specs.declared.Layout.{Layout}
 use Rattle.phi_action_helpers.specs.declared.Coupling.{Coupling}
 use Rattle.gram_schmidt.specs.Basis.{arnoldi}
-use Rattle.gram_schmidt.specs.Memory.{setting-at, column, basis-at, Counted}
+use Rattle.gram_schmidt.specs.Memory.{setting_at, column, basis_at, Counted}
 use Rattle.gram_schmidt.specs.declared.Krylov.{Krylov}
 use Rattle.gram_schmidt.specs.declared.BasisAnswer.{BasisAnswer}
 use Rattle.gram_schmidt.specs.declared.BasisAnswer.TheVariants.{Breakdown, Full}
 use Rattle.trial_steps.specs.Trials.{trials}
-use Rattle.krylov_advance.specs.Run.{applied-of, columns_of, unfinished, standing, settle, substep}
-use Rattle.trial_steps.specs.Memory.{outcome-at, columns-in}
-use Rattle.krylov_advance.specs.Memory.{products, state-at, stepped, progress-at}
+use Rattle.krylov_advance.specs.Run.{applied_of, columns_of, unfinished, standing, settle, substep}
+use Rattle.trial_steps.specs.Memory.{outcome_at, columns_in}
+use Rattle.krylov_advance.specs.Memory.{products, state_at, stepped, progress_at}
 use Rattle.krylov_advance.specs.declared.Control.{Control}
 use Rattle.krylov_advance.specs.declared.KrylovPhiReport.{KrylovPhiReport}
 use Rattle.trial_steps.specs.declared.Step.{Step}
@@ -29,48 +29,48 @@ use Rattle.krylov_advance.specs.declared.Progress.{Progress}
 use Rattle.krylov_advance.specs.declared.Progress.TheVariants.{Refused}
 
 -- ---- what the answer's basis has
-columns-are : (l : Layout) (k : Krylov) (basis : BasisAnswer) (w : List Float) → columns_of (basis-at l k basis w) ≡ tabulate (columns-in k basis) (column (l.n + l.d) w)
-unfolding basis-at
-columns-are l k (Breakdown applied mb hn) w = refl
-columns-are l k (Full applied avnorm) w = refl
+columns_are : (l : Layout) (k : Krylov) (basis : BasisAnswer) (w : List Float) → columns_of (basis_at l k basis w) ≡ tabulate (columns_in k basis) (column (l.n + l.d) w)
+unfolding basis_at
+columns_are l k (Breakdown applied mb hn) w = refl
+columns_are l k (Full applied avnorm) w = refl
 
-applied-is : (l : Layout) (k : Krylov) (basis : BasisAnswer) (w : List Float) → applied-of (basis-at l k basis w) ≡ products basis
-unfolding basis-at
-applied-is l k (Breakdown applied mb hn) w = refl
-applied-is l k (Full applied avnorm) w = refl
+applied_is : (l : Layout) (k : Krylov) (basis : BasisAnswer) (w : List Float) → applied_of (basis_at l k basis w) ≡ products basis
+unfolding basis_at
+applied_is l k (Breakdown applied mb hn) w = refl
+applied_is l k (Full applied avnorm) w = refl
 
-pub columns-few : (m : ℕ) (k : Krylov) (basis : BasisAnswer) → m ≡ k.m → Counted m basis → columns-in k basis ≤ m + 1
-columns-few m k (Breakdown applied mb hn) e h = omega (arith, h.2)
-columns-few m k (Full applied avnorm) e h = omega (arith, e)
+pub columns_few : (m : ℕ) (k : Krylov) (basis : BasisAnswer) → m ≡ k.m → Counted m basis → columns_in k basis ≤ m + 1
+columns_few m k (Breakdown applied mb hn) e h = omega (arith, h.2)
+columns_few m k (Full applied avnorm) e h = omega (arith, e)
 
-pub products-few : (m : ℕ) (basis : BasisAnswer) → Counted m basis → products basis ≤ m + 1
-products-few m (Breakdown applied mb hn) h = h.0
-products-few m (Full applied avnorm) h = h
+pub products_few : (m : ℕ) (basis : BasisAnswer) → Counted m basis → products basis ≤ m + 1
+products_few m (Breakdown applied mb hn) h = h.0
+products_few m (Full applied avnorm) h = h
 
 -- m + 1 columns of n values lie before y, and so do fewer
-pub columns-within : (count m n y : ℕ) → count ≤ m + 1 → m * n + n ≤ y → count * n ≤ y
-columns-within count m n y h l = let p = mul-le-mul_right n h in omega (arith, p, add-mul m 1 n, one-mul n)
+pub columns_within : (count m n y : ℕ) → count ≤ m + 1 → m * n + n ≤ y → count * n ≤ y
+columns_within count m n y h l = let p = mul-le-mul_right n h in omega (arith, p, add-mul m 1 n, one-mul n)
 
 -- ---- the substep
 module _ (l : Layout) (b : Coupling) (k : Krylov) (q : Csr) (vectors : List Float) (c : Control) (r : KrylovPhiReport) (basis : BasisAnswer) (w₀ w : List Float)
     (field : window k.y (l.n + l.d) w ≡ window k.y (l.n + l.d) w₀)
-    (eb : basis-at l k basis w ≡ arnoldi (setting-at l b k q vectors) (window k.y (l.n + l.d) w₀) c.beta)
+    (eb : basis_at l k basis w ≡ arnoldi (setting_at l b k q vectors) (window k.y (l.n + l.d) w₀) c.beta)
     (f : List Float) (o : Outcome)
-    (et : outcome-at f o ≡ trials (setting-at l b k q vectors) c.beta c.next (1f ⊖ c.time) (basis-at l k basis w)) where
-  settled : substep (setting-at l b k q vectors) (state-at l k c r w₀) ≡ settle (setting-at l b k q vectors) (state-at l k c r w) (basis-at l k basis w) (outcome-at f o)
+    (et : outcome_at f o ≡ trials (setting_at l b k q vectors) c.beta c.next (1f ⊖ c.time) (basis_at l k basis w)) where
+  settled : substep (setting_at l b k q vectors) (state_at l k c r w₀) ≡ settle (setting_at l b k q vectors) (state_at l k c r w) (basis_at l k basis w) (outcome_at f o)
   unfolding substep
   settled = rw (field, et, eb) refl
 
-  pub after-rejections : (j : ℕ) (t : Float) → o ≡ Next j t → progress-at l k (Refused 28 k.tol c r) w ≡ substep (setting-at l b k q vectors) (state-at l k c r w₀)
-  unfolding outcome-at settle progress-at
-  after-rejections j t e = sym (settled ∙ rw e refl)
+  pub after_rejections : (j : ℕ) (t : Float) → o ≡ Next j t → progress_at l k (Refused 28 k.tol c r) w ≡ substep (setting_at l b k q vectors) (state_at l k c r w₀)
+  unfolding outcome_at settle progress_at
+  after_rejections j t e = sym (settled ∙ rw e refl)
 
-  pub after-no-plan : (arg : Float) → o ≡ NoPlan arg → progress-at l k (Refused 29 arg c r) w ≡ substep (setting-at l b k q vectors) (state-at l k c r w₀)
-  unfolding outcome-at settle progress-at
-  after-no-plan arg e = sym (settled ∙ rw e refl)
+  pub after_no_plan : (arg : Float) → o ≡ NoPlan arg → progress_at l k (Refused 29 arg c r) w ≡ substep (setting_at l b k q vectors) (state_at l k c r w₀)
+  unfolding outcome_at settle progress_at
+  after_no_plan arg e = sym (settled ∙ rw e refl)
 
-  pub after-step : (s : Step) (x : Progress) (w₁ : List Float) → o ≡ Accepted s → s.count ≡ columns-in k basis
-      → progress-at l k x w₁ ≡ standing (stepped l k c r (products basis) s f (setting-at l b k q vectors) w) (unfinished (stepped l k c r (products basis) s f (setting-at l b k q vectors) w))
-      → progress-at l k x w₁ ≡ substep (setting-at l b k q vectors) (state-at l k c r w₀)
-  unfolding outcome-at settle
-  after-step s x w₁ e h d = d ∙ sym (settled ∙ rw (e, applied-is l k basis w, columns-are l k basis w, h) refl)
+  pub after_step : (s : Step) (x : Progress) (w₁ : List Float) → o ≡ Accepted s → s.count ≡ columns_in k basis
+      → progress_at l k x w₁ ≡ standing (stepped l k c r (products basis) s f (setting_at l b k q vectors) w) (unfinished (stepped l k c r (products basis) s f (setting_at l b k q vectors) w))
+      → progress_at l k x w₁ ≡ substep (setting_at l b k q vectors) (state_at l k c r w₀)
+  unfolding outcome_at settle
+  after_step s x w₁ e h d = d ∙ sym (settled ∙ rw (e, applied_is l k basis w, columns_are l k basis w, h) refl)

@@ -24,17 +24,17 @@ products (Breakdown applied mb hn) = applied
 products (Full applied avnorm) = applied
 
 -- the field stands from k.y on
-abbrev pub state-at : Layout → Krylov → Control → KrylovPhiReport → List Float → State
-state-at l k c r w = record { control = c; report = r; y = window k.y (l.n + l.d) w }
+abbrev pub state_at : Layout → Krylov → Control → KrylovPhiReport → List Float → State
+state_at l k c r w = record { control = c; report = r; y = window k.y (l.n + l.d) w }
 
 -- the state after the length s with the coefficients f, whose columns stand at the front of the memory
 abbrev pub stepped : Layout → Krylov → Control → KrylovPhiReport → ℕ → Step → List Float → Setting → List Float → State
-stepped l k c r applied s f p w = advance p (state-at l k c r w) applied (tabulate s.count (column (l.n + l.d) w)) s.rejections s.t (window 0 s.count f) s.err
+stepped l k c r applied s f p w = advance p (state_at l k c r w) applied (tabulate s.count (column (l.n + l.d) w)) s.rejections s.t (window 0 s.count f) s.err
 
-unfoldable pub progress-at : Layout → Krylov → Progress → List Float → Turn State End
-progress-at l k (progress.On c r) w = on (state-at l k c r w)
-progress-at l k (progress.Finished c r) w = out (finished (state-at l k c r w))
-progress-at l k (progress.Refused number x c r) w = out (refused number x (state-at l k c r w))
+unfoldable pub progress_at : Layout → Krylov → Progress → List Float → Turn State End
+progress_at l k (progress.On c r) w = on (state_at l k c r w)
+progress_at l k (progress.Finished c r) w = out (finished (state_at l k c r w))
+progress_at l k (progress.Refused number x c r) w = out (refused number x (state_at l k c r w))
 
 -- the counts of at most i substeps
 abbrev pub Moderate : ℕ → Progress → Type 0
@@ -42,6 +42,6 @@ Moderate i (progress.On c r) = (r.matvecs ≤ 129 * i) × (r.substeps ≤ i) × 
 Moderate i (progress.Finished c r) = Unit {0}
 Moderate i (progress.Refused number x c r) = Unit {0}
 
-unfoldable pub end-at : Layout → Krylov → RunAnswer → List Float → End
-end-at l k (answer.Finished c r) w = finished (state-at l k c r w)
-end-at l k (answer.Refused number x c r) w = refused number x (state-at l k c r w)
+unfoldable pub end_at : Layout → Krylov → RunAnswer → List Float → End
+end_at l k (answer.Finished c r) w = finished (state_at l k c r w)
+end_at l k (answer.Refused number x c r) w = refused number x (state_at l k c r w)

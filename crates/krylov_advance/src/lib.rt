@@ -9,10 +9,10 @@ ghost use Rattle.retry.specs.Retry.{retry};
 ghost use Rattle.general_operator.specs.Csr.{Csr};
 ghost use Rattle.phi_action_helpers.specs.declared.Coupling.{Coupling};
 ghost use Rattle.phi_action_helpers.specs.declared.Layout.{Layout};
-ghost use Rattle.gram_schmidt.specs.Memory.{column, setting-at};
+ghost use Rattle.gram_schmidt.specs.Memory.{column, setting_at};
 ghost use Rattle.krylov_advance.specs.Run.{combined, shorter, counted, unfinished, standing, substep, run};
 ghost use Rattle.krylov_advance.specs.declared.KrylovPhiReport.{KrylovPhiReport};
-ghost use Rattle.krylov_advance.specs.Memory.{products, stepped, progress-at};
+ghost use Rattle.krylov_advance.specs.Memory.{products, stepped, progress_at};
 
 use gram_schmidt::Krylov;
 use phi_action_helpers::{Coupling, Layout};
@@ -130,7 +130,7 @@ pub fn advance(
 ) -> Progress
     requires count_bound { (s.count ≤ 130) × (s.count * (l.n + l.d) ≤ k.y) × (k.y + (l.n + l.d) ≤ l.q) × (k.y + (l.n + l.d) ≤ length work.old) × (length trial.f ≡ 130) }
     requires matvecs_bound { (r.matvecs ≤ 1000000000) × (r.substeps ≤ 1000000) × (r.rejected ≤ 1000000000) × (applied ≤ 1000) × (s.rejections ≤ 10) }
-    ensures work_after { (b : Coupling) (q : Csr) (vectors : List Float) → progress-at l k result work.new ≡ standing (stepped l k c r applied s trial.f (setting-at l b k q vectors) work.old) (unfinished (stepped l k c r applied s trial.f (setting-at l b k q vectors) work.old)) }
+    ensures work_after { (b : Coupling) (q : Csr) (vectors : List Float) → progress_at l k result work.new ≡ standing (stepped l k c r applied s trial.f (setting_at l b k q vectors) work.old) (unfinished (stepped l k c r applied s trial.f (setting_at l b k q vectors) work.old)) }
     ensures kept { Kept 0 l.q +0 work.old work.new }
 {
     let len = l.n + l.d;

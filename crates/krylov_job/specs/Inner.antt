@@ -8,17 +8,17 @@ use Rattle.general_operator.specs.Csr.{Csr, csr}
 use Rattle.generator_action.specs.Mass.{given}
 use Rattle.generator_action.specs.Known.{Passed}
 use Rattle.generator_action.specs.declared.Shape.{Shape}
-use Rattle.pow2.specs.Pow2.{eta-scaling}
+use Rattle.pow2.specs.Pow2.{eta_scaling}
 use Rattle.pow2.specs.declared.Scaling.{Scaling}
 use Rattle.phi_action_helpers.specs.Augmented.{augmented}
 use Rattle.combination.specs.Combination.{further, magnitude}
-use Rattle.combination.specs.Checks.{time-checks, vector-checks-by}
+use Rattle.combination.specs.Checks.{time_checks, vector_checks_by}
 use Rattle.taylor_schedule.specs.Inner.{Coupled}
-use Rattle.weighted_columns.specs.Inner.{coupling-by}
-use Rattle.krylov_advance.specs.Run.{End, clamp-m, expv}
+use Rattle.weighted_columns.specs.Inner.{coupling_by}
+use Rattle.krylov_advance.specs.Run.{End, clamp_m, expv}
 use Rattle.krylov_advance.specs.declared.RunAnswer.{RunAnswer}
 use Rattle.krylov_advance.specs.declared.RunAnswer.TheVariants.{Finished, Refused}
-use Rattle.krylov_job.specs.KrylovCall.{bound, dimension, option-checks, run-checks, krylov-need}
+use Rattle.krylov_job.specs.KrylovCall.{bound, dimension, option_checks, run_checks, krylov_need}
 use Rattle.krylov_job.specs.Memory.{krylov}
 use Rattle.krylov_job.specs.declared.KrylovPhiOptions.{KrylovPhiOptions}
 use Rattle.krylov_job.specs.declared.KrylovAnswer.{KrylovAnswer}
@@ -28,39 +28,39 @@ use Rattle.krylov_job.specs.declared.Eta.{Eta}
 use Rattle.krylov_job.specs.declared.Eta.TheVariants.{Own, Began}
 
 -- 21, 22 by eta, 24 and 26 of a combination of dimension M over a generator with the numbers g: the answer, and what was found
-abbrev pub run-job-by : Shape → Float → ℕ → List Float → Scaling → KrylovPhiOptions → ℕ → ℕ → RunJob
-run-job-by g tau d f eta o M memory =
+abbrev pub run_job_by : Shape → Float → ℕ → List Float → Scaling → KrylovPhiOptions → ℕ → ℕ → RunJob
+run_job_by g tau d f eta o M memory =
     record {
-      checked = first (run-checks g.n tau d f eta.eta (bound tau g.norm) memory (krylov-need g.n d M g.stored));
+      checked = first (run_checks g.n tau d f eta.eta (bound tau g.norm) memory (krylov_need g.n d M g.stored));
       g = g;
       d = d;
-      need = krylov-need g.n d M g.stored;
+      need = krylov_need g.n d M g.stored;
       eta = eta;
-      b = coupling-by g.n f tau d eta.eta;
+      b = coupling_by g.n f tau d eta.eta;
       k = krylov g.n d M tau (bound tau g.norm) o.tol;
       limit = o.max_substeps;
     }
 
 -- eta of the sum of a job's shares, or what a run began with
-unfoldable pub scaling-by : Eta → Float → Scaling
-scaling-by Own sum = eta-scaling sum
-scaling-by (Began x) sum = record { eta = x; inv = 1f }
+unfoldable pub scaling_by : Eta → Float → Scaling
+scaling_by Own sum = eta_scaling sum
+scaling_by (Began x) sum = record { eta = x; inv = 1f }
 
-abbrev pub scaling-of : Shape → Float → ℕ → List Float → Eta → Scaling
-scaling-of g tau count w eta = scaling-by eta (magnitude g.n (further g.n w) tau (count - 1))
+abbrev pub scaling_of : Shape → Float → ℕ → List Float → Eta → Scaling
+scaling_of g tau count w eta = scaling_by eta (magnitude g.n (further g.n w) tau (count - 1))
 
 -- 12 to 22, 24 and 26 over a generator with the numbers g
-unfoldable pub checks-after : Shape → Float → ℕ → List Float → Float → KrylovPhiOptions → List Check → ℕ → List Check
-checks-after g tau count w eta o of-lengths memory =
+unfoldable pub checks_after : Shape → Float → ℕ → List Float → Float → KrylovPhiOptions → List Check → ℕ → List Check
+checks_after g tau count w eta o of_lengths memory =
     let d = count - 1 in
     let M = dimension g.n d o.m in
-    vector-checks-by (time-checks tau) of-lengths count w
-    ++ (option-checks o M ++ run-checks g.n tau d (further g.n w) eta (bound tau g.norm) memory (krylov-need g.n d M g.stored))
+    vector_checks_by (time_checks tau) of_lengths count w
+    ++ (option_checks o M ++ run_checks g.n tau d (further g.n w) eta (bound tau g.norm) memory (krylov_need g.n d M g.stored))
 
 -- j is the answer of all of them, and the job where none holds
-pub record Admitted (g : Shape) (tau : Float) (count : ℕ) (w : List Float) (eta : Scaling) (o : KrylovPhiOptions) (of-lengths : List Check) (memory : ℕ) (j : RunJob) : Type 0 where
-  pub told : j.checked ≡ first (checks-after g tau count w eta.eta o of-lengths memory)
-  pub is : j.checked ≡ Sound → j ≡ run-job-by g tau (count - 1) (further g.n w) eta o (dimension g.n (count - 1) o.m) memory
+pub record Admitted (g : Shape) (tau : Float) (count : ℕ) (w : List Float) (eta : Scaling) (o : KrylovPhiOptions) (of_lengths : List Check) (memory : ℕ) (j : RunJob) : Type 0 where
+  pub told : j.checked ≡ first (checks_after g tau count w eta.eta o of_lengths memory)
+  pub is : j.checked ≡ Sound → j ≡ run_job_by g tau (count - 1) (further g.n w) eta o (dimension g.n (count - 1) o.m) memory
 
 -- a job that passed: of the vectors and the memory the lengths
 pub record Allowed (starts cols : List ℕ) (vals mass : List Float) (j : RunJob) (vectors memory : ℕ) : Type 0 where
@@ -68,9 +68,9 @@ pub record Allowed (starts cols : List ℕ) (vals mass : List Float) (j : RunJob
   pub coupled : Coupled j.b j.g.n j.d vectors
   pub placed : j.k ≡ krylov j.g.n j.d j.k.m j.k.tau j.k.anorm j.k.tol
   pub small : j.k.m ≤ 128
-  pub clamped : clamp-m j.k.m (j.g.n + j.d) ≡ j.k.m
+  pub clamped : clamp_m j.k.m (j.g.n + j.d) ≡ j.k.m
   pub limited : j.limit ≤ 1000000
-  pub needed : j.need ≡ krylov-need j.g.n j.d j.k.m j.g.stored
+  pub needed : j.need ≡ krylov_need j.g.n j.d j.k.m j.g.stored
   pub enough : j.need ≤ memory
 
 -- its run from the field y, over the matrix q
@@ -79,6 +79,6 @@ run_of j q vectors y =
     expv (augmented q j.d vectors j.b.places j.b.gains j.b.count) j.k.tau j.k.anorm j.k.tol j.k.m j.limit y
 
 -- the answer that its end is told by
-unfoldable pub answer-of : RunAnswer → KrylovAnswer
-answer-of (Finished c r) = Result r
-answer-of (Refused k x c r) = Refusal k x
+unfoldable pub answer_of : RunAnswer → KrylovAnswer
+answer_of (Finished c r) = Result r
+answer_of (Refused k x c r) = Refusal k x

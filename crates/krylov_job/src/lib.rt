@@ -4,12 +4,12 @@ ghost use Rattle.doubles.specs.F64.{◌⋖◌, +0, 1f};
 ghost use Rattle.checks.specs.First.{Check, first};
 ghost use Rattle.checks.specs.declared.Checked.TheVariants.{Sound};
 ghost use Rattle.combination.specs.Combination.{magnitude};
-ghost use Rattle.combination.specs.Checks.{time-checks, length-checks, vector-checks-by, memory-checks};
-ghost use Rattle.weighted_columns.specs.Inner.{weights-by};
-ghost use Rattle.krylov_advance.specs.Run.{clamp-m};
-ghost use Rattle.krylov_job.specs.KrylovCall.{bound, dimension, option-checks, bound-checks, krylov-need};
+ghost use Rattle.combination.specs.Checks.{time_checks, length_checks, vector_checks_by, memory_checks};
+ghost use Rattle.weighted_columns.specs.Inner.{weights_by};
+ghost use Rattle.krylov_advance.specs.Run.{clamp_m};
+ghost use Rattle.krylov_job.specs.KrylovCall.{bound, dimension, option_checks, bound_checks, krylov_need};
 ghost use Rattle.krylov_job.specs.Memory.{layout, krylov};
-ghost use Rattle.krylov_job.specs.Inner.{scaling-by, scaling-of, run-job-by, Admitted};
+ghost use Rattle.krylov_job.specs.Inner.{scaling_by, scaling_of, run_job_by, Admitted};
 
 use checks::Checked;
 use generator_action::Shape;
@@ -36,7 +36,7 @@ pub enum KrylovAnswer {
 
 // M: m clamped to 2 .. max(2, len).
 pub fn clamp_m(m: usize, len: usize) -> usize
-    ensures { result ≡ clamp-m m len }
+    ensures { result ≡ clamp_m m len }
 {
     if m < 2 {
         return 2;
@@ -64,7 +64,7 @@ fn too_many(m: usize, max_substeps: usize) -> bool
 
 // 18 to 20.
 pub fn check_options(o: KrylovPhiOptions, m: usize) -> Checked
-    ensures { result ≡ first (option-checks o m) }
+    ensures { result ≡ first (option_checks o m) }
 {
     if !in_unit(o.tol) {
         return Checked::Refused(18, o.tol);
@@ -89,7 +89,7 @@ fn check_job(
     others: Checked,
 ) -> Checked
     requires { n ≤ 1000000 }
-    ensures { (os : List Check) → others ≡ first os → result ≡ first (vector-checks-by (time-checks tau) (length-checks output n (length w.now) (count * n) ++ os) count w.now ++ option-checks o (dimension n (count - 1) o.m)) }
+    ensures { (os : List Check) → others ≡ first os → result ≡ first (vector_checks_by (time_checks tau) (length_checks output n (length w.now) (count * n) ++ os) count w.now ++ option_checks o (dimension n (count - 1) o.m)) }
 {
     let time = combination::check_time(tau);
     let vectors = vector_checks::validate_combination(n, time, count, w, output, others);
@@ -109,7 +109,7 @@ fn bound(tau: f64, norm: f64) -> f64
 
 // 24.
 fn check_bound(anorm: f64) -> Checked
-    ensures { result ≡ first (bound-checks anorm) }
+    ensures { result ≡ first (bound_checks anorm) }
 {
     if !float::is_finite(anorm) {
         return Checked::Refused(24, anorm);
@@ -119,7 +119,7 @@ fn check_bound(anorm: f64) -> Checked
 
 // 21, 22, 24 and 26, with the answer of 21 and 22.
 fn check_run(weighed: Checked, anorm: f64, memory: usize, need: usize) -> Checked
-    ensures { (xs : List Check) → weighed ≡ first xs → result ≡ first (xs ++ (bound-checks anorm ++ memory-checks memory need)) }
+    ensures { (xs : List Check) → weighed ≡ first xs → result ≡ first (xs ++ (bound_checks anorm ++ memory_checks memory need)) }
 {
     let host = combination::and_then(check_bound(anorm), combination::check_memory(memory, need));
     combination::and_then(weighed, host)
@@ -128,7 +128,7 @@ fn check_run(weighed: Checked, anorm: f64, memory: usize, need: usize) -> Checke
 // What a run needs of the lent memory.
 pub fn krylov_need(n: usize, d: usize, m: usize, stored: usize) -> usize
     requires { (n ≤ 1000000) × (d ≤ 3) × (m ≤ 128) × (stored ≤ 16777216) }
-    ensures { result ≡ krylov-need n d m stored }
+    ensures { result ≡ krylov_need n d m stored }
 {
     n + (m + 3) * (n + d) + (m + 2) * (m + 2) + stored
 }
@@ -185,7 +185,7 @@ pub enum Eta {
 
 // Of the sum of all shares; 1 / eta is of use to a job's own alone.
 fn scaling_by(eta: Eta, sum: f64) -> Scaling
-    ensures { result ≡ scaling-by eta sum }
+    ensures { result ≡ scaling_by eta sum }
 {
     match eta {
         Eta::Own => pow2::eta_scaling(sum),
@@ -205,7 +205,7 @@ fn admit_weighed(
     memory: usize,
 ) -> RunJob
     requires { (g.n ≤ 1000000) × (d ≤ 3) × (m ≤ 128) × (g.stored ≤ 16777216) }
-    ensures { (f : List Float) → weights ≡ weights-by g.n f tau d eta → result ≡ run-job-by g tau d f eta o m memory }
+    ensures { (f : List Float) → weights ≡ weights_by g.n f tau d eta → result ≡ run_job_by g tau d f eta o m memory }
 {
     let weighed = weights.checked;
     let b = weights.b;
@@ -235,7 +235,7 @@ pub fn admit_run(
     memory: usize,
 ) -> RunJob
     requires { (d * g.n ≤ length further.now) × (g.n ≤ 1000000) × (d ≤ 3) × (m ≤ 128) × (g.stored ≤ 16777216) }
-    ensures { result ≡ run-job-by g tau d further.now (scaling-by eta (magnitude g.n further.now tau d)) o m memory }
+    ensures { result ≡ run_job_by g tau d further.now (scaling_by eta (magnitude g.n further.now tau d)) o m memory }
 {
     let p = weighted_columns::powers_of(g.n, further, tau, d);
     let scaling = scaling_by(eta, p.sum);
@@ -277,7 +277,7 @@ pub fn admit_job(
     memory: usize,
 ) -> RunJob
     requires { (g.n ≤ 1000000) × (g.stored ≤ 16777216) }
-    ensures { (os : List Check) → others ≡ first os → Admitted g tau count w.now (scaling-of g tau count w.now eta) o (length-checks output g.n (length w.now) (count * g.n) ++ os) memory result }
+    ensures { (os : List Check) → others ≡ first os → Admitted g tau count w.now (scaling_of g tau count w.now eta) o (length_checks output g.n (length w.now) (count * g.n) ++ os) memory result }
 {
     let n = g.n;
     let early = check_job(n, tau, count, w, o, output, others);

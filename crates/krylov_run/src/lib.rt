@@ -2,13 +2,13 @@
 ghost use Rattle.std.specs.Prelude.{◌≡◌, ◌+◌, ◌≤◌, length};
 ghost use Rattle.lists.specs.Window.{window, splice};
 ghost use Rattle.checks.specs.First.{first};
-ghost use Rattle.combination.specs.Combination.{combination-start};
+ghost use Rattle.combination.specs.Combination.{combination_start};
 ghost use Rattle.combination.specs.Call.{ends, cleared};
-ghost use Rattle.taylor_schedule.specs.Inner.{matrix-of};
-ghost use Rattle.krylov_advance.specs.Memory.{end-at};
+ghost use Rattle.taylor_schedule.specs.Inner.{matrix_of};
+ghost use Rattle.krylov_advance.specs.Memory.{end_at};
 ghost use Rattle.krylov_job.specs.KrylovCall.{after_run};
 ghost use Rattle.krylov_job.specs.Memory.{layout};
-ghost use Rattle.krylov_job.specs.Inner.{answer-of, Allowed, run_of};
+ghost use Rattle.krylov_job.specs.Inner.{answer_of, Allowed, run_of};
 
 use krylov_advance::RunAnswer;
 use krylov_job::{KrylovAnswer, RunJob};
@@ -16,14 +16,14 @@ use krylov_job::{KrylovAnswer, RunJob};
 // The first field from place `at` of the lent memory on; w_0 is the first n values of w.
 pub fn start_in(n: usize, w: &[f64], d: usize, inv: f64, work: &mut [f64], at: usize)
     requires { (n ≤ length w.now) × (at + (n + d) ≤ length work.old) }
-    ensures { work.new ≡ splice at (combination-start n w.now d inv) work.old }
+    ensures { work.new ≡ splice at (combination_start n w.now d inv) work.old }
 {
     let to = at + (n + d);
     start_vectors::combination_start(n, w, d, inv, &mut work[at..to]);
 }
 
 fn answer_of(end: RunAnswer) -> KrylovAnswer
-    ensures { result ≡ answer-of end }
+    ensures { result ≡ answer_of end }
 {
     match end {
         RunAnswer::Finished(_, report) => KrylovAnswer::Result(report),
@@ -52,7 +52,7 @@ fn run_expv(
     j: RunJob,
 ) -> RunAnswer
     requires { Allowed starts.now cols.now vals.now mass.now j (length vectors.now) (length work.old) }
-    ensures work_after { end-at (layout j.g.n j.d j.k.m j.g.with_mass) j.k result work.new ≡ run_of j (matrix-of j.g starts.now cols.now vals.now mass.now) vectors.now (window j.k.y (j.g.n + j.d) work.old) }
+    ensures work_after { end_at (layout j.g.n j.d j.k.m j.g.with_mass) j.k result work.new ≡ run_of j (matrix_of j.g starts.now cols.now vals.now mass.now) vectors.now (window j.k.y (j.g.n + j.d) work.old) }
     ensures work_unchanged { cleared j.need work.new ≡ cleared j.need work.old }
 {
     let l = krylov_job::layout(j.g.n, j.d, j.k.m, j.g.with_mass);
@@ -73,7 +73,7 @@ pub fn run_job(
 ) -> KrylovAnswer
     requires allowed { Allowed starts.now cols.now vals.now mass.now j (length vectors.now) (length work.old) }
     requires out_len { length out.old ≡ j.g.n }
-    ensures { ends result out.new work.new ≡ after_run j.g.n j.need work.old (run_of j (matrix-of j.g starts.now cols.now vals.now mass.now) vectors.now (window j.k.y (j.g.n + j.d) work.old)) }
+    ensures { ends result out.new work.new ≡ after_run j.g.n j.need work.old (run_of j (matrix_of j.g starts.now cols.now vals.now mass.now) vectors.now (window j.k.y (j.g.n + j.d) work.old)) }
 {
     let end = run_expv(starts, cols, vals, mass, vectors, work, j);
     hand_out(out, work, j.k.y, j.g.n, j.need);

@@ -12,9 +12,9 @@ use lib.Ieee.Bits.{to_bits-of_bits}
 use Rattle.doubles.specs.F64.{at}
 use Rattle.lists.specs.Loop.{tabulate}
 use Rattle.lists.specs.Window.{splice}
-use Rattle.lists.proofs.Window.{splice-window}
-use Rattle.lists.proofs.Loop.{length-tabulate, get_d_tabulate, tabulate-ext, window-tabulate}
-use Rattle.le_bytes.specs.Bytes.{half, word, double-at, doubles-of, byte-over, written_over}
+use Rattle.lists.proofs.Window.{splice_window}
+use Rattle.lists.proofs.Loop.{length_tabulate, get_d_tabulate, tabulate_ext, window_tabulate}
+use Rattle.le_bytes.specs.Bytes.{half, word, double_at, doubles_of, byte_over, written_over}
 
 module _ (b : List ℕ) (byte : (i : ℕ) → get_or b i 0 < 256) where
   sum : (p : ℕ) → word b p ≡ get_or b p 0 + 256 * get_or b (p + 1) 0 + 65536 * get_or b (p + 2) 0 + 16777216 * get_or b (p + 3) 0 + 4294967296 * (get_or b (p + 4) 0 + 256 * get_or b (p + 4 + 1) 0 + 65536 * get_or b (p + 4 + 2) 0 + 16777216 * get_or b (p + 4 + 3) 0)
@@ -39,23 +39,23 @@ module _ (b : List ℕ) (byte : (i : ℕ) → get_or b i 0 < 256) where
   digit p (suc (suc (suc (suc (suc (suc (suc zero))))))) l = let d : word b p / 72057594037927936 % 256 ≡ get_or b (p + 4 + 3) 0 = omega (arith, sum p, bytes p) in let e : p + 4 + 3 ≡ p + 7 = omega arith in d ∙ ap (λ (i : ℕ). get_or b i 0) e
   digit p (suc (suc (suc (suc (suc (suc (suc (suc j)))))))) l = absurd (omega (arith, l))
 
-  pub same_byte : (p j : ℕ) → j < 8 → byte-over (double-at b p) b p j ≡ get_or b (p + j) 0
-  unfolding byte-over double-at
+  pub same_byte : (p j : ℕ) → j < 8 → byte_over (double_at b p) b p j ≡ get_or b (p + j) 0
+  unfolding byte_over double_at
   same_byte p j l = go (is_nan (of_bits binary64 (word b p))) refl
     where
-      go : (t : Bool) → is_nan (of_bits binary64 (word b p)) ≡ t → byte-over (double-at b p) b p j ≡ get_or b (p + j) 0
+      go : (t : Bool) → is_nan (of_bits binary64 (word b p)) ≡ t → byte_over (double_at b p) b p j ≡ get_or b (p + j) 0
       go true e = rw e
       go false e = rw (e, to_bits-of_bits binary64 (word b p) (small p) (subst T (ap not (sym e)) tt)) (digit p j l)
 
-  pub unchanged : written_over (doubles-of b) b ≡ b
-  unfolding written_over doubles-of
+  pub unchanged : written_over (doubles_of b) b ≡ b
+  unfolding written_over doubles_of
   unchanged =
       let n = length b / 8 in
-      let read : (i : ℕ) → i < 8 * n → byte-over (at (doubles-of b) (i / 8)) b (8 * (i / 8)) (i % 8) ≡ get_or b (0 + i) 0 =
+      let read : (i : ℕ) → i < 8 * n → byte_over (at (doubles_of b) (i / 8)) b (8 * (i / 8)) (i % 8) ≡ get_or b (0 + i) 0 =
       λ i l.
       let e : 8 * (i / 8) + i % 8 ≡ 0 + i = omega arith in
-      let d : at (doubles-of b) (i / 8) ≡ double-at b (8 * (i / 8)) = get_d_tabulate n _ (i / 8) _ (omega (arith, l)) in
-      ap (λ (x : Float). byte-over x b (8 * (i / 8)) (i % 8)) d ∙ same_byte (8 * (i / 8)) (i % 8) (omega arith) ∙ ap (λ (j : ℕ). get_or b j 0) e in
-      ap (λ (m : ℕ). splice 0 (tabulate (8 * m) (λ i. byte-over (at (doubles-of b) (i / 8)) b (8 * (i / 8)) (i % 8))) b) (length-tabulate n _)
-      ∙ ap (λ v. splice 0 v b) (tabulate-ext (8 * n) _ _ read ∙ sym (window-tabulate 0 (8 * n) b 0 (omega arith)))
-      ∙ splice-window 0 (8 * n) b
+      let d : at (doubles_of b) (i / 8) ≡ double_at b (8 * (i / 8)) = get_d_tabulate n _ (i / 8) _ (omega (arith, l)) in
+      ap (λ (x : Float). byte_over x b (8 * (i / 8)) (i % 8)) d ∙ same_byte (8 * (i / 8)) (i % 8) (omega arith) ∙ ap (λ (j : ℕ). get_or b j 0) e in
+      ap (λ (m : ℕ). splice 0 (tabulate (8 * m) (λ i. byte_over (at (doubles_of b) (i / 8)) b (8 * (i / 8)) (i % 8))) b) (length_tabulate n _)
+      ∙ ap (λ v. splice 0 v b) (tabulate_ext (8 * n) _ _ read ∙ sym (window_tabulate 0 (8 * n) b 0 (omega arith)))
+      ∙ splice_window 0 (8 * n) b

@@ -18,30 +18,30 @@ unfoldable pub word : List ℕ → ℕ → ℕ
 word b k = half b k + 4294967296 * half b (k + 4)
 
 -- the double whose eight bytes start at k
-unfoldable pub double-at : List ℕ → ℕ → Float
-double-at b k = of_bits binary64 (word b k)
+unfoldable pub double_at : List ℕ → ℕ → Float
+double_at b k = of_bits binary64 (word b k)
 
 -- the whole elements: numbers of four bytes, doubles, numbers of eight bytes
 unfoldable pub numbers_of : List ℕ → List ℕ
 numbers_of b = tabulate (length b / 4) (λ k. half b (4 * k))
 
-unfoldable pub doubles-of : List ℕ → List Float
-doubles-of b = tabulate (length b / 8) (λ k. double-at b (8 * k))
+unfoldable pub doubles_of : List ℕ → List Float
+doubles_of b = tabulate (length b / 8) (λ k. double_at b (8 * k))
 
 unfoldable pub words_of : List ℕ → List ℕ
 words_of b = tabulate (length b / 8) (λ k. word b (8 * k))
 
 -- the numbers xs, of four bytes or of eight, written over the front of b
-unfoldable pub numbers-over : List ℕ → List ℕ → List ℕ
-numbers-over xs b = splice 0 (tabulate (4 * length xs) (λ i. get_or xs (i / 4) 0 / 2 ^ (8 * (i % 4)) % 256)) b
+unfoldable pub numbers_over : List ℕ → List ℕ → List ℕ
+numbers_over xs b = splice 0 (tabulate (4 * length xs) (λ i. get_or xs (i / 4) 0 / 2 ^ (8 * (i % 4)) % 256)) b
 
-unfoldable pub words-over : List ℕ → List ℕ → List ℕ
-words-over xs b = splice 0 (tabulate (8 * length xs) (λ i. get_or xs (i / 8) 0 / 2 ^ (8 * (i % 8)) % 256)) b
+unfoldable pub words_over : List ℕ → List ℕ → List ℕ
+words_over xs b = splice 0 (tabulate (8 * length xs) (λ i. get_or xs (i / 8) 0 / 2 ^ (8 * (i % 8)) % 256)) b
 
 -- byte j of the double x, written over the eight bytes from p of b
-unfoldable pub byte-over : Float → List ℕ → ℕ → ℕ → ℕ
-byte-over x b p j = cond (is_nan x && is_nan (double-at b p)) (get_or b (p + j) 0) (to_bits binary64 x / 2 ^ (8 * j) % 256)
+unfoldable pub byte_over : Float → List ℕ → ℕ → ℕ → ℕ
+byte_over x b p j = cond (is_nan x && is_nan (double_at b p)) (get_or b (p + j) 0) (to_bits binary64 x / 2 ^ (8 * j) % 256)
 
 -- the doubles xs, written over the front of b
 unfoldable pub written_over : List Float → List ℕ → List ℕ
-written_over xs b = splice 0 (tabulate (8 * length xs) (λ i. byte-over (at xs (i / 8)) b (8 * (i / 8)) (i % 8))) b
+written_over xs b = splice 0 (tabulate (8 * length xs) (λ i. byte_over (at xs (i / 8)) b (8 * (i / 8)) (i % 8))) b

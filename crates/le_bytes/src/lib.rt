@@ -2,7 +2,7 @@
 ghost use Rattle.std.specs.Prelude.{◌≡◌, ◌+◌, ◌*◌, ◌/◌, ◌≤◌, ◌<◌, length, get_or};
 ghost use Rattle.std.specs.Float.{binary64};
 ghost use Rattle.std.specs.Float.Ieee.{of_bits};
-ghost use Rattle.le_bytes.specs.Bytes.{half, word, double-at, numbers_of, doubles-of, words_of};
+ghost use Rattle.le_bytes.specs.Bytes.{half, word, double_at, numbers_of, doubles_of, words_of};
 
 fn byte(b: &[u8], k: usize) -> u64
     requires { k < length b.now }
@@ -37,7 +37,7 @@ fn word_at(b: &[u8], k: usize) -> u64
 
 pub fn double_at(b: &[u8], k: usize) -> f64
     requires { k + 8 ≤ length b.now }
-    ensures { result ≡ double-at b.now k }
+    ensures { result ≡ double_at b.now k }
 {
     double(word_at(b, k))
 }
@@ -53,7 +53,7 @@ pub fn unpack_numbers(src: &[u8], dst: &mut [u32])
 
 pub fn unpack_doubles(src: &[u8], dst: &mut [f64])
     requires { length dst.old ≡ length src.now / 8 }
-    ensures { dst.new ≡ doubles-of src.now }
+    ensures { dst.new ≡ doubles_of src.now }
 {
     for k in 0..dst.len() {
         dst[k] = double_at(src, 8 * k);

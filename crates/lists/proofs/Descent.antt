@@ -6,7 +6,7 @@ use native.Mathlib.Omega.{arith}
 use mathlib.Core.Bool.{Bool, true, false, cond}
 use lib.Pow.{pow_pos, pow_mono, pow-lt}
 use Rattle.lists.specs.Greatest.{greatest}
-use Rattle.lists.proofs.Bounds.{suc-pred, pow-pred}
+use Rattle.lists.proofs.Bounds.{suc_pred, pow_pred}
 
 -- `1u64 << k`
 pub shift_is : (k : ℕ) → k < 64 → 1 * 2 ^ k % 18446744073709551616 ≡ 2 ^ k
@@ -19,12 +19,12 @@ pub record Seek (p : ℕ → Bool) (K limit k lo : ℕ) : Type 0 where
   pub low : lo < limit
   pub digits : k ≤ K
 
-pub seek-begin : (p : ℕ → Bool) (K limit : ℕ) → 0 < limit → Seek p K limit K 0
-seek-begin p K limit h = record { same = refl; room = le_of_eq (zero-add (2 ^ K)); low = h; digits = le_refl K }
+pub seek_begin : (p : ℕ → Bool) (K limit : ℕ) → 0 < limit → Seek p K limit K 0
+seek_begin p K limit h = record { same = refl; room = le_of_eq (zero-add (2 ^ K)); low = h; digits = le_refl K }
 
 turn : (p : ℕ → Bool) (k lo : ℕ) (b : Bool) → 0 < k → p (lo + 2 ^ (k - 1)) ≡ b → greatest p (k - 1) (cond b (lo + 2 ^ (k - 1)) lo) ≡ greatest p k lo
 turn p k lo b h e =
-    ap (λ (x : Bool). greatest p (k - 1) (cond x (lo + 2 ^ (k - 1)) lo)) (sym e) ∙ sym (one (k - 1)) ∙ ap (λ (n : ℕ). greatest p n lo) (sym (suc-pred k h))
+    ap (λ (x : Bool). greatest p (k - 1) (cond x (lo + 2 ^ (k - 1)) lo)) (sym e) ∙ sym (one (k - 1)) ∙ ap (λ (n : ℕ). greatest p n lo) (sym (suc_pred k h))
   where
     one : (j : ℕ) → greatest p (suc j) lo ≡ greatest p j (cond (p (lo + 2 ^ j)) (lo + 2 ^ j) lo)
     one j = unfold greatest in refl
@@ -37,32 +37,32 @@ module _ (p : ℕ → Bool) (K limit k lo : ℕ) (s : Seek p K limit k lo) (few 
   weight : 1 * 2 ^ (k - 1) % 18446744073709551616 ≡ 2 ^ (k - 1)
   weight = let d = s.digits in shift_is (k - 1) (omega arith)
 
-  next-is : next ≡ lo + 2 ^ (k - 1)
-  next-is = ap (λ (z : ℕ). lo + z) weight
+  next_is : next ≡ lo + 2 ^ (k - 1)
+  next_is = ap (λ (z : ℕ). lo + z) weight
 
   pub next_fits : next < 18446744073709551616
   next_fits =
-      let a = pow-pred k h in
+      let a = pow_pred k h in
       let b = weight in
       let c = s.room in
       let d : 2 ^ K ≤ 9223372036854775808 = pow_mono few in
       omega (arith, pow_pos (k - 1))
 
-  pub seek-taken : next < limit → p next ≡ true → Seek p K limit (k - 1) next
-  seek-taken l e =
-      let a = pow-pred k h in
+  pub seek_taken : next < limit → p next ≡ true → Seek p K limit (k - 1) next
+  seek_taken l e =
+      let a = pow_pred k h in
       let b = weight in
       let c = s.room in
       let d = s.digits in
-      record { same = ap (greatest p (k - 1)) next-is ∙ turn p k lo true h (sym (ap p next-is) ∙ e) ∙ s.same; room = omega arith; low = l; digits = omega arith }
+      record { same = ap (greatest p (k - 1)) next_is ∙ turn p k lo true h (sym (ap p next_is) ∙ e) ∙ s.same; room = omega arith; low = l; digits = omega arith }
 
-  pub seek-left : p next ≡ false → Seek p K limit (k - 1) lo
-  seek-left e =
-      let a = pow-pred k h in
+  pub seek_left : p next ≡ false → Seek p K limit (k - 1) lo
+  seek_left e =
+      let a = pow_pred k h in
       let c = s.room in
       let d = s.digits in
-      record { same = turn p k lo false h (sym (ap p next-is) ∙ e) ∙ s.same; room = omega arith; low = s.low; digits = omega arith }
+      record { same = turn p k lo false h (sym (ap p next_is) ∙ e) ∙ s.same; room = omega arith; low = s.low; digits = omega arith }
 
-pub seek-end : (p : ℕ → Bool) (K limit k lo : ℕ) → Seek p K limit k lo → k ≤ 0 → lo ≡ greatest p K 0
+pub seek_end : (p : ℕ → Bool) (K limit k lo : ℕ) → Seek p K limit k lo → k ≤ 0 → lo ≡ greatest p K 0
 unfolding greatest
-seek-end p K limit k lo s h = sym (ap (λ (n : ℕ). greatest p n lo) (le_antisymm h zero-le)) ∙ s.same
+seek_end p K limit k lo s h = sym (ap (λ (n : ℕ). greatest p n lo) (le_antisymm h zero-le)) ∙ s.same

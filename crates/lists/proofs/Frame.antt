@@ -8,8 +8,8 @@ use native.Mathlib.Omega.{arith}
 use lib.ListN.{length, set, replicate, length-replicate}
 use Rattle.lists.specs.Window.{window, splice}
 use Rattle.lists.specs.Bounds.{Disjoint}
-use Rattle.lists.proofs.Bounds.{disjoint-cases}
-use Rattle.lists.proofs.Window.{length-splice, window-splice-same, window-splice-before, window-splice-after, splice-cover, set-splice}
+use Rattle.lists.proofs.Bounds.{disjoint_cases}
+use Rattle.lists.proofs.Window.{length_splice, window_splice_same, window_splice_before, window_splice_after, splice_cover, set_splice}
 pub use Rattle.lists.specs.Frame.{Kept}
 
 module _ {A : Type 0} where
@@ -22,34 +22,34 @@ module _ {A : Type 0} where
   wrote at n vs w w₁ l e = record { is = e; size = l }
 
   -- a store
-  pub wrote-set : (w : List A) (k : ℕ) (v : A) → Wrote k 1 (v ∷ []) w (set w k v)
-  wrote-set w k v = record { is = set-splice k v w; size = refl }
+  pub wrote_set : (w : List A) (k : ℕ) (v : A) → Wrote k 1 (v ∷ []) w (set w k v)
+  wrote_set w k v = record { is = set_splice k v w; size = refl }
 
   -- the window that was written
   pub written : {at n : ℕ} {vs w w₁ : List A} → Wrote at n vs w w₁ → at + n ≤ length w → window at n w₁ ≡ vs
-  written {at} {n} {vs} {w} t h = ap (window at n) t.is ∙ window-splice-same at n vs w t.size h
+  written {at} {n} {vs} {w} t h = ap (window at n) t.is ∙ window_splice_same at n vs w t.size h
 
   -- a window apart from it: it starts where the write has ended, or ends where the write starts
   pub untouched : {at n : ℕ} {vs w w₁ : List A} → Wrote at n vs w w₁ → (bt m : ℕ) → Disjoint at n bt m → window bt m w₁ ≡ window bt m w
   untouched {at} {n} {vs} {w} t bt m apart =
       ap (window bt m) t.is
       ∙ ⊎_elim
-      (λ (g : at + n ≤ bt). window-splice-before bt m at vs w (omega (arith, t.size)))
-      (λ (g : bt + m ≤ at). window-splice-after bt m at vs w g)
-      (disjoint-cases at n bt m apart)
+      (λ (g : at + n ≤ bt). window_splice_before bt m at vs w (omega (arith, t.size)))
+      (λ (g : bt + m ≤ at). window_splice_after bt m at vs w g)
+      (disjoint_cases at n bt m apart)
 
-  pub wrote-long : {at n : ℕ} {vs w w₁ : List A} → Wrote at n vs w w₁ → length w₁ ≡ length w
-  wrote-long {at} {n} {vs} {w} t = ap length t.is ∙ length-splice at vs w
+  pub wrote_long : {at n : ℕ} {vs w w₁ : List A} → Wrote at n vs w w₁ → length w₁ ≡ length w
+  wrote_long {at} {n} {vs} {w} t = ap length t.is ∙ length_splice at vs w
 
-  pub kept-all : (p n : ℕ) (z : A) (w : List A) → Kept p n z w w
-  kept-all p n z w = record { outside = refl; long = refl }
+  pub kept_all : (p n : ℕ) (z : A) (w : List A) → Kept p n z w w
+  kept_all p n z w = record { outside = refl; long = refl }
 
   pub kept_by : {p q : ℕ} {z : A} {w₀ w w₁ vs : List A} {at n : ℕ} → Kept p q z w₀ w → Wrote at n vs w w₁ → p ≤ at → at + n ≤ p + q → Kept p q z w₀ w₁
   kept_by {p} {q} {z} {w₀} {w} {w₁} {vs} {at} {n} k t a b =
       let lz : length (replicate q z) ≡ q = length-replicate q z in
       record {
-        outside = ap (splice p (replicate q z)) t.is ∙ splice-cover p at (replicate q z) vs w a (omega arith) ∙ k.outside;
-        long = wrote-long t ∙ k.long;
+        outside = ap (splice p (replicate q z)) t.is ∙ splice_cover p at (replicate q z) vs w a (omega arith) ∙ k.outside;
+        long = wrote_long t ∙ k.long;
       }
 
   -- one after the other
@@ -57,19 +57,19 @@ module _ {A : Type 0} where
   kept_on a b = record { outside = b.outside ∙ a.outside; long = b.long ∙ a.long }
 
   -- what differs within a part differs within a longer one
-  pub kept-wider : {p n : ℕ} {z : A} {w₀ w : List A} → Kept p n z w₀ w → (m : ℕ) → n ≤ m → Kept p m z w₀ w
-  kept-wider {p} {n} {z} {w₀} {w} k m h =
+  pub kept_wider : {p n : ℕ} {z : A} {w₀ w : List A} → Kept p n z w₀ w → (m : ℕ) → n ≤ m → Kept p m z w₀ w
+  kept_wider {p} {n} {z} {w₀} {w} k m h =
       let ln = length-replicate n z in
       let lm = length-replicate m z in
       record {
-        outside = sym (splice-cover p p (replicate m z) (replicate n z) w (omega arith) (omega arith))
+        outside = sym (splice_cover p p (replicate m z) (replicate n z) w (omega arith) (omega arith))
             ∙ ap (splice p (replicate m z)) k.outside
-            ∙ splice-cover p p (replicate m z) (replicate n z) w₀ (omega arith) (omega arith);
+            ∙ splice_cover p p (replicate m z) (replicate n z) w₀ (omega arith) (omega arith);
         long = k.long;
       }
 
   -- a window outside is as it was
-  pub kept-window : {p n : ℕ} {z : A} {w₀ w : List A} → Kept p n z w₀ w → (q m : ℕ) → Disjoint p n q m → window q m w ≡ window q m w₀
-  kept-window {p} {n} {z} {w₀} {w} k q m apart =
+  pub kept_window : {p n : ℕ} {z : A} {w₀ w : List A} → Kept p n z w₀ w → (q m : ℕ) → Disjoint p n q m → window q m w ≡ window q m w₀
+  kept_window {p} {n} {z} {w₀} {w} k q m apart =
       let lz = length-replicate n z in
       sym (untouched (wrote p n (replicate n z) w _ lz refl) q m apart) ∙ ap (window q m) k.outside ∙ untouched (wrote p n (replicate n z) w₀ _ lz refl) q m apart

@@ -21,13 +21,13 @@ up_to lo k = go lo (2 ^ k) (2 ^ suc k) (pow-succ' 2 k)
     go : (lo a b : ℕ) → b ≡ 2 * a → lo + b ≡ lo + a + a
     go lo a b e = omega arith
 
-greatest-from : (p : ℕ → Bool) → ((a b : ℕ) → a ≤ b → T (p b) → T (p a)) → (k lo : ℕ) → T (p lo) → Greatest p lo (lo + 2 ^ k) (greatest p k lo)
+greatest_from : (p : ℕ → Bool) → ((a b : ℕ) → a ≤ b → T (p b) → T (p a)) → (k lo : ℕ) → T (p lo) → Greatest p lo (lo + 2 ^ k) (greatest p k lo)
 unfolding greatest
-greatest-from p down zero lo t = record { from = le_refl lo; under = omega arith; passes = t; last = λ n a b u. none lo n a b }
+greatest_from p down zero lo t = record { from = le_refl lo; under = omega arith; passes = t; last = λ n a b u. none lo n a b }
   where
     none : (lo n : ℕ) → lo < n → n < lo + 1 → ⊥
     none lo n a b = omega arith
-greatest-from p down (suc k) lo t = go (p (lo + 2 ^ k)) refl (λ u. greatest-from p down k (lo + 2 ^ k) u) (greatest-from p down k lo t)
+greatest_from p down (suc k) lo t = go (p (lo + 2 ^ k)) refl (λ u. greatest_from p down k (lo + 2 ^ k) u) (greatest_from p down k lo t)
   where
     low : (lo a g : ℕ) → lo + a ≤ g → lo ≤ g
     low lo a g h = omega arith
@@ -50,14 +50,14 @@ greatest-from p down (suc k) lo t = go (p (lo + 2 ^ k)) refl (λ u. greatest-fro
           last = λ n a b u. r.last n a (lt_of_not-le (λ (g : lo + 2 ^ k ≤ n). subst T e (down (lo + 2 ^ k) n g u))) u;
         })
 
-pub greatest-is : (p : ℕ → Bool) → ((a b : ℕ) → a ≤ b → T (p b) → T (p a)) → (k : ℕ) → T (p 0) → Greatest p 0 (2 ^ k) (greatest p k 0)
-greatest-is p down k t = subst (λ (n : ℕ). Greatest p 0 n (greatest p k 0)) (zero-add (2 ^ k)) (greatest-from p down k 0 t)
+pub greatest_is : (p : ℕ → Bool) → ((a b : ℕ) → a ≤ b → T (p b) → T (p a)) → (k : ℕ) → T (p 0) → Greatest p 0 (2 ^ k) (greatest p k 0)
+greatest_is p down k t = subst (λ (n : ℕ). Greatest p 0 n (greatest p k 0)) (zero-add (2 ^ k)) (greatest_from p down k 0 t)
 
 -- the last number that passes a test which only the numbers from some point on fail
-pub greatest-last : (p : ℕ → Bool) → ((a b : ℕ) → a ≤ b → T (p b) → T (p a)) → (k n : ℕ) → n < 2 ^ k → T (p n) → p (n + 1) ≡ false → n ≡ greatest p k 0
-greatest-last p down k n h t f =
+pub greatest_last : (p : ℕ → Bool) → ((a b : ℕ) → a ≤ b → T (p b) → T (p a)) → (k n : ℕ) → n < 2 ^ k → T (p n) → p (n + 1) ≡ false → n ≡ greatest p k 0
+greatest_last p down k n h t f =
     let g = greatest p k 0 in
-    let r : Greatest p 0 (2 ^ k) g = greatest-is p down k (down 0 n zero-le t) in
+    let r : Greatest p 0 (2 ^ k) g = greatest_is p down k (down 0 n zero-le t) in
     le_antisymm
     (by_contra n g (λ (l : g < n). r.last n l h t))
     (by_contra g n (λ (l : n < g). subst T f (down (n + 1) g (add-one-le l) r.passes)))

@@ -8,7 +8,7 @@ use native.Mathlib.Omega.{arith}
 use lib.ListN.{length, length-append}
 use Rattle.lists.specs.Loop.{stack}
 use Rattle.lists.specs.Window.{splice}
-use Rattle.lists.proofs.Window.{splice-nil, splice-more, splice-whole, length-splice}
+use Rattle.lists.proofs.Window.{splice_nil, splice_more, splice_whole, length_splice}
 
 module _ {A : Type 0} where
   pub record Stacked (p n i : ℕ) (r : ℕ → List A) (w₀ w : List A) : Type 0 where
@@ -16,23 +16,23 @@ module _ {A : Type 0} where
     pub size : length (stack i r) ≡ i * n
     pub long : length w ≡ length w₀
 
-  pub stack-start : (p n : ℕ) (r : ℕ → List A) (w : List A) → Stacked p n 0 r w w
+  pub stack_start : (p n : ℕ) (r : ℕ → List A) (w : List A) → Stacked p n 0 r w w
   unfolding stack
-  stack-start p n r w = record { is = sym (splice-nil p w); size = sym (zero-mul n); long = refl }
+  stack_start p n r w = record { is = sym (splice_nil p w); size = sym (zero-mul n); long = refl }
 
   -- a turn: a callee writes row i just past the rows that are written
-  pub stack-turn : {p n i : ℕ} {r : ℕ → List A} {w₀ w : List A} → Stacked p n i r w₀ w → (w₁ : List A) → length (r i) ≡ n → w₁ ≡ splice (p + i * n) (r i) w → Stacked p n (i + 1) r w₀ w₁
+  pub stack_turn : {p n i : ℕ} {r : ℕ → List A} {w₀ w : List A} → Stacked p n i r w₀ w → (w₁ : List A) → length (r i) ≡ n → w₁ ≡ splice (p + i * n) (r i) w → Stacked p n (i + 1) r w₀ w₁
   unfolding stack
-  stack-turn {p} {n} {i} {r} {w₀} {w} h w₁ l e =
+  stack_turn {p} {n} {i} {r} {w₀} {w} h w₁ l e =
       let s = stack i r in
       rw (add-one i)
       (record {
-        is = e ∙ ap (splice (p + i * n) (r i)) h.is ∙ splice-more p (i * n) s (r i) w₀ h.size;
+        is = e ∙ ap (splice (p + i * n) (r i)) h.is ∙ splice_more p (i * n) s (r i) w₀ h.size;
         size = length-append s (r i) ∙ rw (suc-mul i n) (omega (arith, h.size));
-        long = ap length e ∙ length-splice (p + i * n) (r i) w ∙ h.long;
+        long = ap length e ∙ length_splice (p + i * n) (r i) w ∙ h.long;
       })
 
   -- the rows fill the whole
-  pub stack-whole : {n i : ℕ} {r : ℕ → List A} {w₀ w : List A} → Stacked 0 n i r w₀ w → (m : ℕ) → i ≡ m → length w₀ ≡ m * n → w ≡ stack m r
-  stack-whole {n} {i} {r} {w₀} {w} h m e l =
-      subst (λ (k : ℕ). w ≡ stack k r) e (h.is ∙ splice-whole (stack i r) w₀ (h.size ∙ ap (λ (k : ℕ). k * n) e ∙ sym l))
+  pub stack_whole : {n i : ℕ} {r : ℕ → List A} {w₀ w : List A} → Stacked 0 n i r w₀ w → (m : ℕ) → i ≡ m → length w₀ ≡ m * n → w ≡ stack m r
+  stack_whole {n} {i} {r} {w₀} {w} h m e l =
+      subst (λ (k : ℕ). w ≡ stack k r) e (h.is ∙ splice_whole (stack i r) w₀ (h.size ∙ ap (λ (k : ℕ). k * n) e ∙ sym l))

@@ -10,7 +10,7 @@ find p (suc n) = elim (p 0) [ true ↦ 0 | false ↦ suc (find (λ k. p (suc k))
 unfoldable pub exists : (ℕ → Bool) → ℕ → Bool
 exists p n = ltb (find p n) n
 
--- to compute: a line `unfolding open-Find` opens every definition of this file
-unfoldable pub open-Find : Unit {0}
+-- to compute: a line `unfolding open_find` opens every definition of this file
+unfoldable pub open_find : Unit {0}
 unfolding find exists
-open-Find = tt
+open_find = tt

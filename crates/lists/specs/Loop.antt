@@ -23,7 +23,7 @@ module _ {A : Type 0} where
   stack zero r = []
   stack (suc i) r = stack i r ++ r i
 
--- to compute: a line `unfolding open-Loop` opens every definition of this file
-unfoldable pub open-Loop : Unit {0}
+-- to compute: a line `unfolding open_loop` opens every definition of this file
+unfoldable pub open_loop : Unit {0}
 unfolding iter tabulate zip_with stack
-open-Loop = tt
+open_loop = tt

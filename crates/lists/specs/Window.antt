@@ -18,7 +18,7 @@ module _ {A : Type 0} where
   splice (suc n) vs [] = []
   splice (suc n) vs (x ∷ w) = x ∷ splice n vs w
 
--- to compute: a line `unfolding open-Window` opens every definition of this file
-unfoldable pub open-Window : Unit {0}
+-- to compute: a line `unfolding open_window` opens every definition of this file
+unfoldable pub open_window : Unit {0}
 unfolding window over splice
-open-Window = tt
+open_window = tt

@@ -8,54 +8,54 @@ use Rattle.doubles.specs.F64.{bits, nat, +0, 1f, 2f}
 use Rattle.checks.specs.First.{first}
 use Rattle.checks.specs.declared.Checked.TheVariants.{Refused}
 use Rattle.general_operator.specs.Csr.{Csr, csr}
-use Rattle.general_operator.specs.Checks.{shape-checks, matrix-checks, open-Checks}
-use Rattle.generator_action.specs.Mass.{generator-checks, open-Mass}
+use Rattle.general_operator.specs.Checks.{shape_checks, matrix_checks, open_checks}
+use Rattle.generator_action.specs.Mass.{generator_checks, open_mass}
 
 -- ---- 1 to 6
 -- no rows, and columns without entries
-one-before-two : first (matrix-checks (csr 0 [] (0 ∷ []) [])) ≡ Refused 1 +0
-unfolding open-Checks
-one-before-two = refl
+one_before_two : first (matrix_checks (csr 0 [] (0 ∷ []) [])) ≡ Refused 1 +0
+unfolding open_checks
+one_before_two = refl
 
 -- one row, 16,777,217 entries and one column: the lengths alone
-two-before-three : first (shape-checks 1 (0 ∷ 1 ∷ []) 1 16777217) ≡ Refused 2 (nat 16777217)
-unfolding open-Checks
-two-before-three = refl
+two_before_three : first (shape_checks 1 (0 ∷ 1 ∷ []) 1 16777217) ≡ Refused 2 (nat 16777217)
+unfolding open_checks
+two_before_three = refl
 
 -- the starts of row 0 fall, and the entry's column is beyond the rows
-four-before-five : first (matrix-checks (csr 2 (1 ∷ 0 ∷ 1 ∷ []) (7 ∷ []) (1f ∷ []))) ≡ Refused 4 +0
-unfolding open-Checks
-four-before-five = refl
+four_before_five : first (matrix_checks (csr 2 (1 ∷ 0 ∷ 1 ∷ []) (7 ∷ []) (1f ∷ []))) ≡ Refused 4 +0
+unfolding open_checks
+four_before_five = refl
 
 -- entry by entry: the first entry is NaN, the second in no column; of one entry that is both, 5
-six-of-the-first : first (matrix-checks (csr 1 (0 ∷ 2 ∷ []) (0 ∷ 7 ∷ []) (nan ∷ 1f ∷ []))) ≡ Refused 6 nan
-unfolding open-Checks
-six-of-the-first = refl
+six_of_the_first : first (matrix_checks (csr 1 (0 ∷ 2 ∷ []) (0 ∷ 7 ∷ []) (nan ∷ 1f ∷ []))) ≡ Refused 6 nan
+unfolding open_checks
+six_of_the_first = refl
 
-five-before-six : first (matrix-checks (csr 1 (0 ∷ 1 ∷ []) (7 ∷ []) (nan ∷ []))) ≡ Refused 5 (nat 7)
-unfolding open-Checks
-five-before-six = refl
+five_before_six : first (matrix_checks (csr 1 (0 ∷ 1 ∷ []) (7 ∷ []) (nan ∷ []))) ≡ Refused 5 (nat 7)
+unfolding open_checks
+five_before_six = refl
 
 -- ---- 7 to 10, of a mass
 abbrev largest : Float
 largest = bits 0x7fef_ffff_ffff_ffff
 
 -- the first row starts at 1; its entries are twice the largest number, and an entry before it is in no row
-abbrev late-and-huge : Csr
-late-and-huge = csr 1 (1 ∷ 3 ∷ []) (0 ∷ 0 ∷ 0 ∷ []) (1f ∷ largest ∷ largest ∷ [])
+abbrev late_and_huge : Csr
+late_and_huge = csr 1 (1 ∷ 3 ∷ []) (0 ∷ 0 ∷ 0 ∷ []) (1f ∷ largest ∷ largest ∷ [])
 
-six-before-seven : first (generator-checks (csr 1 (0 ∷ 1 ∷ []) (0 ∷ []) (nan ∷ [])) (some [])) ≡ Refused 6 nan
-unfolding open-Mass
-six-before-seven = refl
+six_before_seven : first (generator_checks (csr 1 (0 ∷ 1 ∷ []) (0 ∷ []) (nan ∷ [])) (some [])) ≡ Refused 6 nan
+unfolding open_mass
+six_before_seven = refl
 
-seven-before-eight : first (generator-checks late-and-huge (some (+0 ∷ +0 ∷ []))) ≡ Refused 7 2f
-unfolding open-Mass
-seven-before-eight = refl
+seven_before_eight : first (generator_checks late_and_huge (some (+0 ∷ +0 ∷ []))) ≡ Refused 7 2f
+unfolding open_mass
+seven_before_eight = refl
 
-eight-before-nine : first (generator-checks late-and-huge (some (+0 ∷ []))) ≡ Refused 8 +0
-unfolding open-Mass
-eight-before-nine = refl
+eight_before_nine : first (generator_checks late_and_huge (some (+0 ∷ []))) ≡ Refused 8 +0
+unfolding open_mass
+eight_before_nine = refl
 
-nine-before-ten : first (generator-checks late-and-huge (some (1f ∷ []))) ≡ Refused 9 nan
-unfolding open-Mass
-nine-before-ten = refl
+nine_before_ten : first (generator_checks late_and_huge (some (1f ∷ []))) ≡ Refused 9 nan
+unfolding open_mass
+nine_before_ten = refl

@@ -4,7 +4,7 @@ ghost use Rattle.std.specs.Float.{binary64};
 ghost use Rattle.std.specs.Float.Ieee.{is_nan, to_bits};
 ghost use Rattle.lists.specs.Loop.{tabulate};
 ghost use Rattle.lists.specs.Window.{splice};
-ghost use Rattle.le_bytes.specs.Bytes.{double-at, numbers-over, words-over, byte-over, written_over};
+ghost use Rattle.le_bytes.specs.Bytes.{double_at, numbers_over, words_over, byte_over, written_over};
 
 pub fn pattern(x: f64) -> u64
     ensures { result ≡ to_bits binary64 x }
@@ -18,7 +18,7 @@ pub fn pattern(x: f64) -> u64
 // A NaN over a NaN.
 fn stays(x: f64, b: &[u8], p: usize) -> bool
     requires { p + 8 ≤ length b.now }
-    ensures { result ≡ (is_nan x && is_nan (double-at b.now p)) }
+    ensures { result ≡ (is_nan x && is_nan (double_at b.now p)) }
 {
     if x != x {
         let y = le_bytes::double_at(b, p);
@@ -29,7 +29,7 @@ fn stays(x: f64, b: &[u8], p: usize) -> bool
 
 pub fn pack_numbers(src: &[u32], dst: &mut [u8])
     requires { 4 * length src.now ≤ length dst.old }
-    ensures { dst.new ≡ numbers-over src.now dst.old }
+    ensures { dst.new ≡ numbers_over src.now dst.old }
 {
     for i in 0..4 * src.len() {
         dst[i] = ((src[i / 4] >> (8 * (i % 4))) % 256) as u8;
@@ -38,7 +38,7 @@ pub fn pack_numbers(src: &[u32], dst: &mut [u8])
 
 pub fn pack_words(src: &[usize], dst: &mut [u8])
     requires { 8 * length src.now ≤ length dst.old }
-    ensures { dst.new ≡ words-over src.now dst.old }
+    ensures { dst.new ≡ words_over src.now dst.old }
 {
     for i in 0..8 * src.len() {
         dst[i] = ((src[i / 8] >> (8 * (i % 8))) % 256) as u8;
@@ -47,7 +47,7 @@ pub fn pack_words(src: &[usize], dst: &mut [u8])
 
 fn put(x: f64, dst: &mut [u8], p: usize)
     requires { p + 8 ≤ length dst.old }
-    ensures { dst.new ≡ splice p (tabulate 8 (byte-over x dst.old p)) dst.old }
+    ensures { dst.new ≡ splice p (tabulate 8 (byte_over x dst.old p)) dst.old }
 {
     if stays(x, dst, p) {
         return;

@@ -11,53 +11,53 @@ use borrow.Author.Tests.{ltb-false, leb-false}
 use Rattle.lists.specs.Window.{window, splice}
 use Rattle.lists.specs.Walk.{Turn, on, out}
 use Rattle.lists.specs.Frame.{Kept}
-use Rattle.lists.proofs.Window.{length-window, length-splice, splice-whole, window-splice-same, window-whole}
+use Rattle.lists.proofs.Window.{length_window, length_splice, splice_whole, window_splice_same, window_whole}
 use Rattle.doubles.specs.F64.{+0}
 use Rattle.vectors.specs.Vectors.{scale}
 use Rattle.checks.specs.First.{Check, first}
-use Rattle.checks.proofs.First.{refused-up, sound-on, stops, passes, ends-sound, not-eq, not-ne}
+use Rattle.checks.proofs.First.{refused_up, sound_on, stops, passes, ends_sound, not_eq, not_ne}
 use Rattle.checks.specs.declared.Checked.TheVariants.{Sound, Refused}
 use Rattle.general_operator.specs.Csr.{csr}
-use Rattle.general_operator.proofs.Sound.{or-false}
+use Rattle.general_operator.proofs.Sound.{or_false}
 use Rattle.generator_action.specs.Mass.{given, quotients, stored}
 use Rattle.generator_action.specs.Known.{Passed}
 use Rattle.generator_action.specs.declared.Shape.{Shape}
 use Rattle.pow2.specs.declared.Scaling.{Scaling}
 use Rattle.phi_action_helpers.specs.declared.Layout.{Layout}
-use Rattle.phi_action_helpers.specs.Laid.{matrix-at}
-use Rattle.combination.specs.Combination.{further, combination-operator}
+use Rattle.phi_action_helpers.specs.Laid.{matrix_at}
+use Rattle.combination.specs.Combination.{further, combination_operator}
 use Rattle.combination.specs.Call.{cleared}
-use Rattle.combination.specs.Checks.{length-checks}
-use Rattle.taylor_schedule.specs.Inner.{matrix-of}
-use Rattle.taylor_schedule.proofs.Admitted.{first-within}
-use Rattle.combination.proofs.Cleared.{clear-over}
-use Rattle.taylor_schedule.proofs.Stored.{quotients-rows}
+use Rattle.combination.specs.Checks.{length_checks}
+use Rattle.taylor_schedule.specs.Inner.{matrix_of}
+use Rattle.taylor_schedule.proofs.Admitted.{first_within}
+use Rattle.combination.proofs.Cleared.{clear_over}
+use Rattle.taylor_schedule.proofs.Stored.{quotients_rows}
 use Rattle.gram_schmidt.specs.Basis.{norm2}
-use Rattle.gram_schmidt.specs.Memory.{setting-at, Room}
+use Rattle.gram_schmidt.specs.Memory.{setting_at, Room}
 use Rattle.gram_schmidt.specs.declared.Krylov.{Krylov}
 use Rattle.krylov_advance.specs.Run.{State, End, refused, substep}
-use Rattle.krylov_advance.specs.Memory.{state-at, progress-at}
+use Rattle.krylov_advance.specs.Memory.{state_at, progress_at}
 use Rattle.krylov_advance.specs.declared.Progress.{Progress}
 use Rattle.krylov_advance.specs.declared.Progress.TheVariants as progress
-use Rattle.krylov_advance.proofs.Whole.{absolute, room-absolute}
-use Rattle.krylov_job.specs.KrylovCall.{krylov-checks-by}
+use Rattle.krylov_advance.proofs.Whole.{absolute, room_absolute}
+use Rattle.krylov_job.specs.KrylovCall.{krylov_checks_by}
 use Rattle.krylov_job.specs.Memory.{layout}
-use Rattle.krylov_job.specs.Inner.{scaling-by, scaling-of, Admitted, Allowed}
-use Rattle.krylov_job.proofs.Calls.{Known, known, allowed, all-checks, field-needed}
-use Rattle.krylov_job.proofs.Runs.{store-fits, room, operator-is, field_is, spared}
+use Rattle.krylov_job.specs.Inner.{scaling_by, scaling_of, Admitted, Allowed}
+use Rattle.krylov_job.proofs.Calls.{Known, known, allowed, all_checks, field_needed}
+use Rattle.krylov_job.proofs.Runs.{store_fits, room, operator_is, field_is, spared}
 use Rattle.krylov_job.specs.declared.KrylovPhiOptions.{KrylovPhiOptions}
 use Rattle.krylov_job.specs.declared.RunJob.{RunJob}
 use Rattle.krylov_job.specs.declared.Eta.TheVariants.{Began}
-use Rattle.paused_run.specs.Paused.{Job, Input, PausedCall, leaves, rows, field-checks, setting-of, tol-in, options-in, over, other-checks, step-checks, resumed, verdict, field-after, substep-of, after-substep, step-unless, step}
-use Rattle.paused_run.specs.Inner.{job-over, other-checks-by, setting-for, turned, after-of}
+use Rattle.paused_run.specs.Paused.{Job, Input, PausedCall, leaves, rows, field_checks, setting_of, tol_in, options_in, over, other_checks, step_checks, resumed, verdict, field_after, substep_of, after_substep, step_unless, step}
+use Rattle.paused_run.specs.Inner.{job_over, other_checks_by, setting_for, turned, after_of}
 use Rattle.paused_run.specs.declared.PausedRun.{PausedRun}
 use Rattle.paused_run.specs.declared.Tolerance.{Tolerance}
 use Rattle.paused_run.specs.declared.StepAnswer.{StepAnswer}
 use Rattle.paused_run.specs.declared.StepAnswer.TheVariants.{Refusal}
 
 -- ---- one substep on the lent field
-seen : (l : Layout) (k : Krylov) (o : Progress) (w : List Float) → progress-at l k o w ≡ turned o (window k.y (l.n + l.d) w)
-unfolding progress-at turned
+seen : (l : Layout) (k : Krylov) (o : Progress) (w : List Float) → progress_at l k o w ≡ turned o (window k.y (l.n + l.d) w)
+unfolding progress_at turned
 seen l k (progress.On c r) w = refl
 seen l k (progress.Finished c r) w = refl
 seen l k (progress.Refused number x c r) w = refl
@@ -72,63 +72,63 @@ module _
     {l : Layout}
     (el : l ≡ layout j.g.n j.d j.k.m j.g.with_mass) where
   pub field_fits : j.k.y + (j.g.n + j.d) ≤ length w₀
-  field_fits = omega (arith, field-needed al, al.enough)
+  field_fits = omega (arith, field_needed al, al.enough)
 
   -- the field is written into the memory
   module _ {w₁ : List Float} (e₁ : w₁ ≡ splice j.k.y (window 0 (j.g.n + j.d) field) w₀) where
     brought : window 0 (j.g.n + j.d) field ≡ field
-    brought = window-whole (j.g.n + j.d) field long
+    brought = window_whole (j.g.n + j.d) field long
 
     long₁ : length w₁ ≡ length w₀
-    long₁ = ap length e₁ ∙ length-splice _ _ w₀
+    long₁ = ap length e₁ ∙ length_splice _ _ w₀
 
     al₁ : Allowed starts cols vals mass j (length vectors) (length w₁)
     al₁ = rw long₁ al
 
     pub fits : j.g.with_mass ≡ true → l.q + length vals ≤ length w₁
-    fits = store-fits vectors w₁ al₁ el
+    fits = store_fits vectors w₁ al₁ el
 
     -- the quotients too
     module _ {w₂ : List Float} (e₂ : w₂ ≡ splice l.q (stored (csr j.g.n starts cols vals) (given j.g.with_mass mass)) w₁) where
-      pub room₂ : (norm : Float) → Room l j.b (absolute j.k norm) (matrix-at l starts cols vals w₂) (length vals) (length vectors) (length w₂)
-      room₂ norm = room-absolute norm (room vectors w₁ al₁ el e₂)
+      pub room₂ : (norm : Float) → Room l j.b (absolute j.k norm) (matrix_at l starts cols vals w₂) (length vals) (length vectors) (length w₂)
+      room₂ norm = room_absolute norm (room vectors w₁ al₁ el e₂)
 
-      begins-from : window j.k.y (l.n + l.d) w₂ ≡ field
-      begins-from =
+      begins_from : window j.k.y (l.n + l.d) w₂ ≡ field
+      begins_from =
           field_is vectors w₁ al₁ el e₂
           ∙ ap (window j.k.y (j.g.n + j.d)) e₁
-          ∙ window-splice-same j.k.y (j.g.n + j.d) _ w₀ (ap length brought ∙ long) field_fits
+          ∙ window_splice_same j.k.y (j.g.n + j.d) _ w₀ (ap length brought ∙ long) field_fits
           ∙ brought
 
       -- and the substep is made
       module _ (s : PausedRun) {w₃ : List Float} (kept : Kept 0 l.q +0 w₂ w₃) {beta : Float} (eb : beta ≡ norm2 field) where
         pub long₃ : length w₃ ≡ length w₀
-        long₃ = kept.long ∙ ap length e₂ ∙ length-splice _ _ w₁ ∙ long₁
+        long₃ = kept.long ∙ ap length e₂ ∙ length_splice _ _ w₁ ∙ long₁
 
         pub cleared₃ : cleared j.need w₃ ≡ cleared j.need w₀
         cleared₃ =
             spared vectors w₁ al₁ el e₂ kept
-            ∙ clear-over j.need j.k.y _ w₀ e₁ (omega (arith, ap length brought ∙ long, field-needed al))
+            ∙ clear_over j.need j.k.y _ w₀ e₁ (omega (arith, ap length brought ∙ long, field_needed al))
 
-        pub substep-is : (o : Progress) {field₁ : List Float}
-            → progress-at l (absolute j.k s.norm) o w₃ ≡ substep (setting-at l j.b (absolute j.k s.norm) (matrix-at l starts cols vals w₂) vectors) (state-at l (absolute j.k s.norm) (record { time = s.time; next = s.next; beta = beta }) s.report w₂)
+        pub substep_is : (o : Progress) {field₁ : List Float}
+            → progress_at l (absolute j.k s.norm) o w₃ ≡ substep (setting_at l j.b (absolute j.k s.norm) (matrix_at l starts cols vals w₂) vectors) (state_at l (absolute j.k s.norm) (record { time = s.time; next = s.next; beta = beta }) s.report w₂)
             → field₁ ≡ splice 0 (window j.k.y (j.g.n + j.d) w₃) field
-            → (turned o field₁ ≡ substep (setting-for j (matrix-of j.g starts cols vals mass) vectors s.norm) (resumed s field)) × (length field₁ ≡ length field)
+            → (turned o field₁ ≡ substep (setting_for j (matrix_of j.g starts cols vals mass) vectors s.norm) (resumed s field)) × (length field₁ ≡ length field)
         unfolding resumed
-        substep-is o {field₁} e e₃ =
-            let n-is = ap (λ (x : Layout). x.n) el in
-            let d-is = ap (λ (x : Layout). x.d) el in
-            let at-end : field₁ ≡ window j.k.y (l.n + l.d) w₃ = e₃ ∙ splice-whole _ field (length-window j.k.y (j.g.n + j.d) w₃ (omega (arith, field_fits, long₃)) ∙ sym long) ∙ rw (n-is, d-is) refl in (
-              ap (turned o) at-end ∙ sym (seen l (absolute j.k s.norm) o w₃) ∙ e ∙ rw (operator-is vectors w₁ al₁ el e₂, begins-from, eb) refl,
-              ap length e₃ ∙ length-splice _ _ field,
+        substep_is o {field₁} e e₃ =
+            let n_is = ap (λ (x : Layout). x.n) el in
+            let d_is = ap (λ (x : Layout). x.d) el in
+            let at_end : field₁ ≡ window j.k.y (l.n + l.d) w₃ = e₃ ∙ splice_whole _ field (length_window j.k.y (j.g.n + j.d) w₃ (omega (arith, field_fits, long₃)) ∙ sym long) ∙ rw (n_is, d_is) refl in (
+              ap (turned o) at_end ∙ sym (seen l (absolute j.k s.norm) o w₃) ∙ e ∙ rw (operator_is vectors w₁ al₁ el e₂, begins_from, eb) refl,
+              ap length e₃ ∙ length_splice _ _ field,
             )
 
 -- ---- what it hands out
-field-seen : (o : Progress) (y : List Float) → field-after (turned o y) ≡ y
+field_seen : (o : Progress) (y : List Float) → field_after (turned o y) ≡ y
 unfolding turned
-field-seen (progress.On c r) y = refl
-field-seen (progress.Finished c r) y = refl
-field-seen (progress.Refused k x c r) y = refl
+field_seen (progress.On c r) y = refl
+field_seen (progress.Finished c r) y = refl
+field_seen (progress.Refused k x c r) y = refl
 
 pub advanced : (s : PausedRun) (tol : Float) (j : RunJob) (output w₀ : List Float) (o : Progress) {t : Turn State End} {r : StepAnswer} {y out₁ : List Float} (w₁ : List Float) {w₂ : List Float} → turned o y ≡ t
     → r ≡ verdict s tol (turned o y)
@@ -136,48 +136,48 @@ pub advanced : (s : PausedRun) (tol : Float) (j : RunJob) (output w₀ : List Fl
     → length output ≡ j.g.n
     → w₂ ≡ splice 0 (replicate j.need +0) w₁
     → cleared j.need w₁ ≡ cleared j.need w₀
-    → leaves r out₁ w₂ y ≡ after-of s tol j w₀ t
-unfolding after-of cleared
+    → leaves r out₁ w₂ y ≡ after_of s tol j w₀ t
+unfolding after_of cleared
 advanced s tol j output w₀ o {t} {r} {y} {out₁} w₁ {w₂} et er eo lo ew ec =
     let er' = er ∙ ap (verdict s tol) et in
-    let ey : y ≡ field-after t = sym (field-seen o y) ∙ ap field-after et in
-    let eo' : out₁ ≡ window 0 j.g.n (scale s.factors.up (field-after t)) = (rw lo at eo) ∙ ap (λ (x : List Float). window 0 j.g.n (scale s.factors.up x)) ey in
+    let ey : y ≡ field_after t = sym (field_seen o y) ∙ ap field_after et in
+    let eo' : out₁ ≡ window 0 j.g.n (scale s.factors.up (field_after t)) = (rw lo at eo) ∙ ap (λ (x : List Float). window 0 j.g.n (scale s.factors.up x)) ey in
     let ew' = ew ∙ ec in
     λ i. leaves (er' i) (eo' i) (ew' i) (ey i)
 
 -- the options of a step are the run's, with the tol in force
-pub own-options : {g : Shape} {tau : Float} {count : ℕ} {w : List Float} {eta : Scaling} {ls : List Check} {memory : ℕ} {j : RunJob} (s : PausedRun) (tolerance : Tolerance) {tol : Float} {o : KrylovPhiOptions} → tol ≡ tol-in tolerance s
-    → o ≡ options-in s tol
+pub own_options : {g : Shape} {tau : Float} {count : ℕ} {w : List Float} {eta : Scaling} {ls : List Check} {memory : ℕ} {j : RunJob} (s : PausedRun) (tolerance : Tolerance) {tol : Float} {o : KrylovPhiOptions} → tol ≡ tol_in tolerance s
+    → o ≡ options_in s tol
     → Admitted g tau count w eta o ls memory j
-    → Admitted g tau count w eta (options-in s (tol-in tolerance s)) ls memory j
-own-options s tolerance e f ad = rw (← e, ← f) ad
+    → Admitted g tau count w eta (options_in s (tol_in tolerance s)) ls memory j
+own_options s tolerance e f ad = rw (← e, ← f) ad
 
 -- ---- the counts of a run that 31 does not refuse
 pub counts : (s : PausedRun) → over s ≡ false → s.limit ≤ 1000000 → (s.report.substeps ≤ 1000000) × (s.report.matvecs ≤ 1000000000) × (s.report.rejected ≤ 1000000000)
 unfolding over
 counts s e few =
-    let a = or-false s.ended _ e in
-    let b = or-false (leb s.limit s.report.substeps) _ a.1 in
-    let c = or-false (ltb 129000000 s.report.matvecs) _ b.1 in
+    let a = or_false s.ended _ e in
+    let b = or_false (leb s.limit s.report.substeps) _ a.1 in
+    let c = or_false (ltb 129000000 s.report.matvecs) _ b.1 in
     (omega (arith, leb-false s.limit s.report.substeps b.0), omega (arith, ltb-false 129000000 s.report.matvecs c.0), omega (arith, ltb-false 10000000 s.report.rejected c.1))
 
 -- ---- by the checks
 module _ (s : PausedRun) (y : List Float) (i : Input) where
-  step-refused : {k : ℕ} {x : Float} → Refused k x ≡ first (step-checks s (length y) i) → leaves (Refusal k x s) i.output i.memory y ≡ step s y i
-  unfolding step step-unless
-  step-refused e = rw (← e) refl
+  step_refused : {k : ℕ} {x : Float} → Refused k x ≡ first (step_checks s (length y) i) → leaves (Refusal k x s) i.output i.memory y ≡ step s y i
+  unfolding step step_unless
+  step_refused e = rw (← e) refl
 
-  step-runs : {c : PausedCall StepAnswer} → Sound ≡ first (step-checks s (length y) i) → c ≡ after-substep s i (substep-of s y i) → c ≡ step s y i
-  unfolding step step-unless
-  step-runs e h = h ∙ rw (← e) refl
+  step_runs : {c : PausedCall StepAnswer} → Sound ≡ first (step_checks s (length y) i) → c ≡ after_substep s i (substep_of s y i) → c ≡ step s y i
+  unfolding step step_unless
+  step_runs e h = h ∙ rw (← e) refl
 
   pub refused_over : {x : Float} → over s ≡ true → x ≡ nan → leaves (Refusal 31 x s) i.output i.memory y ≡ step s y i
-  unfolding step-checks
-  refused_over e ex = step-refused (stops _ e ex)
+  unfolding step_checks
+  refused_over e ex = step_refused (stops _ e ex)
 
-  pub refused-generator : {k : ℕ} {x : Float} → over s ≡ false → Refused k x ≡ first i.job.g.checks → leaves (Refusal k x s) i.output i.memory y ≡ step s y i
-  unfolding step-checks krylov-checks-by
-  refused-generator eo e = step-refused (passes 31 nan _ eo (refused-up _ _ refl (refused-up _ _ refl e)))
+  pub refused_generator : {k : ℕ} {x : Float} → over s ≡ false → Refused k x ≡ first i.job.g.checks → leaves (Refusal k x s) i.output i.memory y ≡ step s y i
+  unfolding step_checks krylov_checks_by
+  refused_generator eo e = step_refused (passes 31 nan _ eo (refused_up _ _ refl (refused_up _ _ refl e)))
 
 module _
     {starts cols : List ℕ}
@@ -194,41 +194,41 @@ module _
     (count : ℕ)
     (w out w₀ field : List Float)
     {j : RunJob}
-    (ad : Admitted g tau count w (scaling-of g tau count w (Began s.eta)) (options-in s (tol-in tolerance s)) (length-checks (length out) g.n (length w) (count * g.n) ++ other-checks-by s g.n count (length w)) (length w₀) j) where
+    (ad : Admitted g tau count w (scaling_of g tau count w (Began s.eta)) (options_in s (tol_in tolerance s)) (length_checks (length out) g.n (length w) (count * g.n) ++ other_checks_by s g.n count (length w)) (length w₀) j) where
   abbrev job : Job
-  job = job-over gs g starts cols vals mass tau count w
+  job = job_over gs g starts cols vals mass tau count w
 
   abbrev input : Input
   input = record { tolerance = tolerance; job = job; output = out; memory = w₀ }
 
   rows_are : rows job ≡ g.n
-  rows_are = quotients-rows (csr g.n starts cols vals) (given g.with_mass mass)
+  rows_are = quotients_rows (csr g.n starts cols vals) (given g.with_mass mass)
 
-  told : j.checked ≡ first (krylov-checks-by job.g tau count w s.eta (length-checks (length out) (rows job) (length w) (count * rows job) ++ other-checks s job) (options-in s (tol-in tolerance s)) (length w₀))
-  unfolding other-checks scaling-by quotients
-  told = rw rows_are (all-checks mass ok gs sound tau count w (options-in s (tol-in tolerance s)) s.eta _ (length w₀) ad.told)
+  told : j.checked ≡ first (krylov_checks_by job.g tau count w s.eta (length_checks (length out) (rows job) (length w) (count * rows job) ++ other_checks s job) (options_in s (tol_in tolerance s)) (length w₀))
+  unfolding other_checks scaling_by quotients
+  told = rw rows_are (all_checks mass ok gs sound tau count w (options_in s (tol_in tolerance s)) s.eta _ (length w₀) ad.told)
 
-  pub refused-job : {k : ℕ} {x : Float} → j.checked ≡ Refused k x → leaves (Refusal k x s) out w₀ field ≡ step s field input
-  unfolding step-checks
-  refused-job e = step-refused s field input (sym e ∙ passes 31 nan _ going (refused-up _ _ e told))
+  pub refused_job : {k : ℕ} {x : Float} → j.checked ≡ Refused k x → leaves (Refusal k x s) out w₀ field ≡ step s field input
+  unfolding step_checks
+  refused_job e = step_refused s field input (sym e ∙ passes 31 nan _ going (refused_up _ _ e told))
 
   module _ (e : j.checked ≡ Sound) where
-    k : Known g tau count w (scaling-of g tau count w (Began s.eta)) (options-in s (tol-in tolerance s)) (length out) (other-checks-by s g.n count (length w)) (length w₀) j
+    k : Known g tau count w (scaling_of g tau count w (Began s.eta)) (options_in s (tol_in tolerance s)) (length out) (other_checks_by s g.n count (length w)) (length w₀) j
     k = known ad e
 
-    pub n-is : j.g.n ≡ g.n
-    n-is = ap (λ (x : RunJob). x.g.n) k.is
+    pub n_is : j.g.n ≡ g.n
+    n_is = ap (λ (x : RunJob). x.g.n) k.is
 
-    d-is : j.d ≡ count - 1
-    d-is = ap (λ (x : RunJob). x.d) k.is
+    d_is : j.d ≡ count - 1
+    d_is = ap (λ (x : RunJob). x.d) k.is
 
     pub within : (j.d ≤ 3) × (g.n ≤ length w)
-    within = (omega (arith, d-is, k.vectors.most), first-within k.vectors)
+    within = (omega (arith, d_is, k.vectors.most), first_within k.vectors)
 
-    pub refused-field : {x : Float} → (length field ≡ g.n + j.d → ⊥) → x ≡ nan → leaves (Refusal 26 x s) out w₀ field ≡ step s field input
-    unfolding step-checks field-checks
-    refused-field ne ex =
-        step-refused s field input (passes 31 nan _ going (sound-on _ _ e told (stops [] (not-ne (λ h. ne (h ∙ rw (rows_are, d-is) refl))) ex)))
+    pub refused_field : {x : Float} → (length field ≡ g.n + j.d → ⊥) → x ≡ nan → leaves (Refusal 26 x s) out w₀ field ≡ step s field input
+    unfolding step_checks field_checks
+    refused_field ne ex =
+        step_refused s field input (passes 31 nan _ going (sound_on _ _ e told (stops [] (not_ne (λ h. ne (h ∙ rw (rows_are, d_is) refl))) ex)))
 
     pub advances : length field ≡ g.n + j.d
         → Allowed starts cols vals mass j (length (further g.n w)) (length w₀)
@@ -236,17 +236,17 @@ module _
         × (length out ≡ j.g.n))
     advances l =
         let c = counts s going k.options.1 in
-        (allowed mass ok k, ((l ∙ rw n-is refl, c.0, c.1, c.2), k.vectors.out ∙ sym n-is))
+        (allowed mass ok k, ((l ∙ rw n_is refl, c.0, c.1, c.2), k.vectors.out ∙ sym n_is))
 
-    setting-is : setting-for j (matrix-of j.g starts cols vals mass) (further g.n w) s.norm ≡ setting-of job s.eta s.norm (tol-in tolerance s) s.m
-    unfolding setting-of combination-operator scaling-by
-    setting-is = rw k.is (rw (← ok.norm, rows_are) refl)
+    setting_is : setting_for j (matrix_of j.g starts cols vals mass) (further g.n w) s.norm ≡ setting_of job s.eta s.norm (tol_in tolerance s) s.m
+    unfolding setting_of combination_operator scaling_by
+    setting_is = rw k.is (rw (← ok.norm, rows_are) refl)
 
-    pub stepped-is : {tol : Float} {c : PausedCall StepAnswer} → length field ≡ g.n + j.d → tol ≡ tol-in tolerance s
-        → c ≡ after-of s tol j w₀ (substep (setting-for j (matrix-of j.g starts cols vals mass) (further g.n w) s.norm) (resumed s field))
+    pub stepped_is : {tol : Float} {c : PausedCall StepAnswer} → length field ≡ g.n + j.d → tol ≡ tol_in tolerance s
+        → c ≡ after_of s tol j w₀ (substep (setting_for j (matrix_of j.g starts cols vals mass) (further g.n w) s.norm) (resumed s field))
         → c ≡ step s field input
-    unfolding step-checks field-checks after-substep after-of
-    stepped-is l et h =
-        step-runs s field input
-        (passes 31 nan _ going (sound-on _ _ refl (sym e ∙ told) (passes 26 nan [] (not-eq (l ∙ rw (rows_are, d-is) refl)) ends-sound)))
-        (h ∙ rw (et, setting-is, k.is, rows_are) refl)
+    unfolding step_checks field_checks after_substep after_of
+    stepped_is l et h =
+        step_runs s field input
+        (passes 31 nan _ going (sound_on _ _ refl (sym e ∙ told) (passes 26 nan [] (not_eq (l ∙ rw (rows_are, d_is) refl)) ends_sound)))
+        (h ∙ rw (et, setting_is, k.is, rows_are) refl)

@@ -1,11 +1,11 @@
 // One substep of a paused run, on its own field.
 ghost use Rattle.std.specs.Prelude.{◌≡◌, ◌+◌, ◌≤◌, length};
 ghost use Rattle.combination.specs.Call.{cleared};
-ghost use Rattle.taylor_schedule.specs.Inner.{matrix-of};
+ghost use Rattle.taylor_schedule.specs.Inner.{matrix_of};
 ghost use Rattle.krylov_advance.specs.Run.{substep};
 ghost use Rattle.krylov_job.specs.Inner.{Allowed};
 ghost use Rattle.paused_run.specs.Paused.{leaves, resumed, verdict};
-ghost use Rattle.paused_run.specs.Inner.{setting-for, turned, after-of};
+ghost use Rattle.paused_run.specs.Inner.{setting_for, turned, after_of};
 
 use gram_schmidt::Krylov;
 use krylov_advance::{Control, Progress};
@@ -26,7 +26,7 @@ fn substep_on(
 ) -> Progress
     requires allowed { Allowed starts.now cols.now vals.now mass.now j (length vectors.now) (length work.old) }
     requires field_len { (length field.old ≡ j.g.n + j.d) × (run.report.substeps ≤ 1000000) × (run.report.matvecs ≤ 1000000000) × (run.report.rejected ≤ 1000000000) }
-    ensures field_after { turned result field.new ≡ substep (setting-for j (matrix-of j.g starts.now cols.now vals.now mass.now) vectors.now run.norm) (resumed run field.old) }
+    ensures field_after { turned result field.new ≡ substep (setting_for j (matrix_of j.g starts.now cols.now vals.now mass.now) vectors.now run.norm) (resumed run field.old) }
     ensures work_unchanged { (cleared j.need work.new ≡ cleared j.need work.old) × (length work.new ≡ length work.old) × (length field.new ≡ length field.old) }
 {
     let len = j.g.n + j.d;
@@ -69,7 +69,7 @@ pub fn advance(
     requires allowed { Allowed starts.now cols.now vals.now mass.now j (length vectors.now) (length work.old) }
     requires field_len { (length field.old ≡ j.g.n + j.d) × (run.report.substeps ≤ 1000000) × (run.report.matvecs ≤ 1000000000) × (run.report.rejected ≤ 1000000000) }
     requires out_len { length out.old ≡ j.g.n }
-    ensures { leaves result out.new work.new field.new ≡ after-of run tol j work.old (substep (setting-for j (matrix-of j.g starts.now cols.now vals.now mass.now) vectors.now run.norm) (resumed run field.old)) }
+    ensures { leaves result out.new work.new field.new ≡ after_of run tol j work.old (substep (setting_for j (matrix_of j.g starts.now cols.now vals.now mass.now) vectors.now run.norm) (resumed run field.old)) }
 {
     let o = substep_on(run, starts, cols, vals, mass, vectors, work, field, j);
     paused_run::hand_out(out, field, run.factors.up);

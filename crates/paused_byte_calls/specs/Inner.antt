@@ -5,7 +5,7 @@ use Rattle.generator_action.specs.Mass.{Mass}
 use Rattle.generator_action.specs.Generator.{forward}
 use Rattle.paused_run.specs.Paused.{Job}
 use Rattle.answers.specs.Told.{options}
-use Rattle.exports_paused.specs.Told.{Told, tolerance, start-told, step-told}
+use Rattle.exports_paused.specs.Told.{Told, tolerance, start_told, step_told}
 use Rattle.paused_byte_calls.specs.declared.RunCall.{RunCall}
 use Rattle.paused_byte_calls.specs.declared.RunCall.TheVariants.{Start, Step}
 
@@ -14,7 +14,7 @@ abbrev pub job : Csr → Mass → Float → ℕ → List Float → Job
 job a mass tau count w = record { g = forward a mass; tau = tau; count = count; w = w }
 
 -- the start or the step, over output, working memory, field and state
-unfoldable pub called-run : RunCall → Job → List Float → List Float → List Float → List Float → List ℕ → Told
-called-run (Start tol m limit) j output memory field numbers counts = start-told (options tol m limit) j output memory field numbers counts
-called-run (Step with-tol tol) j output memory field numbers counts =
-    step-told (record { tolerance = tolerance with-tol tol; job = j; output = output; memory = memory }) field numbers counts
+unfoldable pub called_run : RunCall → Job → List Float → List Float → List Float → List Float → List ℕ → Told
+called_run (Start tol m limit) j output memory field numbers counts = start_told (options tol m limit) j output memory field numbers counts
+called_run (Step with_tol tol) j output memory field numbers counts =
+    step_told (record { tolerance = tolerance with_tol tol; job = j; output = output; memory = memory }) field numbers counts

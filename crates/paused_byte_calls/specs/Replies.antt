@@ -2,7 +2,7 @@
 -- changed; else the start or the step on the lists that its slices stand for. The state is ten doubles and eight numbers of eight bytes each, lowest
 -- first. Slices of other lengths hold no state, and a field of another length is refused by 26 at its place. Definitions only.
 use Rattle.std.specs.Prelude.{Bool, true, false, List, ℕ, Float}
-use Rattle.le_bytes.specs.Bytes.{words-over, written_over}
+use Rattle.le_bytes.specs.Bytes.{words_over, written_over}
 use Rattle.exports_paused.specs.Told.{Told}
 
 -- the bytes of output, working memory, field and state
@@ -20,7 +20,7 @@ slices output memory field numbers counts = record { output = output; memory = m
 abbrev pub packed : Told → Slices → Slices
 packed t s =
     slices (written_over t.output s.output) (written_over t.memory s.memory) (written_over t.field s.field)
-    (written_over t.state.numbers s.numbers) (words-over t.state.counts s.counts)
+    (written_over t.state.numbers s.numbers) (words_over t.state.counts s.counts)
 
 -- 0 or the refusal's number, the double reported, and the bytes of the five slices
 pub record Reply : Type 0 where

@@ -2,10 +2,10 @@
 ghost use Rattle.std.specs.Prelude.{◌≡◌, ◌*◌, ◌/◌, ◌≤◌, length};
 ghost use Rattle.general_operator.specs.Csr.{csr};
 ghost use Rattle.generator_action.specs.Mass.{given};
-ghost use Rattle.le_bytes.specs.Bytes.{numbers_of, doubles-of, words_of};
+ghost use Rattle.le_bytes.specs.Bytes.{numbers_of, doubles_of, words_of};
 ghost use Rattle.exports_paused.specs.Told.{told, state};
 ghost use Rattle.paused_byte_calls.specs.Replies.{slices, replies, packs};
-ghost use Rattle.paused_byte_calls.specs.Inner.{job, called-run};
+ghost use Rattle.paused_byte_calls.specs.Inner.{job, called_run};
 
 // Which of the two; a start with tol, m and max_substeps, a step with a new tol or none.
 #[derive(Drop)]
@@ -38,7 +38,7 @@ fn solve(
     numbers: &mut [f64],
     counts: &mut [usize],
 ) -> Reported
-    ensures { told (state result.number result.value numbers.new counts.new) out.new work.new field.new ≡ called-run call (job (csr n starts.now cols.now vals.now) (given with_mass mass.now) tau count w.now) out.old work.old field.old numbers.old counts.old }
+    ensures { told (state result.number result.value numbers.new counts.new) out.new work.new field.new ≡ called_run call (job (csr n starts.now cols.now vals.now) (given with_mass mass.now) tau count w.now) out.old work.old field.old numbers.old counts.old }
 {
     let mut value = 0.0f64;
     match call {
@@ -89,7 +89,7 @@ fn run(
     counts_array: &mut [usize],
 ) -> Reported
     requires { (8 * length out_array.old ≤ length out.old) × (8 * length work_array.old ≤ length work.old) × (8 * length field_array.old ≤ length field.old) × (8 * length numbers_array.old ≤ length numbers.old) × (8 * length counts_array.old ≤ length counts.old) }
-    ensures { replies result.number result.value (slices out.new work.new field.new numbers.new counts.new) ≡ packs (called-run call (job (csr n starts.now cols.now vals.now) (given with_mass mass.now) tau count w.now) out_array.old work_array.old field_array.old numbers_array.old counts_array.old) (slices out.old work.old field.old numbers.old counts.old) }
+    ensures { replies result.number result.value (slices out.new work.new field.new numbers.new counts.new) ≡ packs (called_run call (job (csr n starts.now cols.now vals.now) (given with_mass mass.now) tau count w.now) out_array.old work_array.old field_array.old numbers_array.old counts_array.old) (slices out.old work.old field.old numbers.old counts.old) }
 {
     let r = solve(
         call,
@@ -135,7 +135,7 @@ fn in_lent_arrays(
     counts: &mut [u8],
 ) -> Reported
     requires { (length out.old / 8 ≤ 512) × (length work.old / 8 ≤ 4096) × (length field.old / 8 ≤ 512) × (length numbers.old / 8 ≤ 512) × (length counts.old / 8 ≤ 512) }
-    ensures { replies result.number result.value (slices out.new work.new field.new numbers.new counts.new) ≡ packs (called-run call (job (csr n starts.now cols.now vals.now) (given with_mass mass.now) tau count w.now) (doubles-of out.old) (doubles-of work.old) (doubles-of field.old) (doubles-of numbers.old) (words_of counts.old)) (slices out.old work.old field.old numbers.old counts.old) }
+    ensures { replies result.number result.value (slices out.new work.new field.new numbers.new counts.new) ≡ packs (called_run call (job (csr n starts.now cols.now vals.now) (given with_mass mass.now) tau count w.now) (doubles_of out.old) (doubles_of work.old) (doubles_of field.old) (doubles_of numbers.old) (words_of counts.old)) (slices out.old work.old field.old numbers.old counts.old) }
 {
     let mut out_array = byte_arrays::doubles_in(out);
     let mut work_array = byte_arrays::memory_in(work);
@@ -191,7 +191,7 @@ pub fn in_arrays(
 ) -> Reported
     requires starts_len_bound { (length starts.now / 4 ≤ 512) × (length cols.now / 4 ≤ 513) × (length vals.now / 8 ≤ 512) × (length mass.now / 8 ≤ 512) × (length w.now / 8 ≤ 512) }
     requires out_len_bound { (length out.old / 8 ≤ 512) × (length work.old / 8 ≤ 4096) × (length field.old / 8 ≤ 512) × (length numbers.old / 8 ≤ 512) × (length counts.old / 8 ≤ 512) }
-    ensures { replies result.number result.value (slices out.new work.new field.new numbers.new counts.new) ≡ packs (called-run call (job (csr n (numbers_of starts.now) (numbers_of cols.now) (doubles-of vals.now)) (given with_mass (doubles-of mass.now)) tau count (doubles-of w.now)) (doubles-of out.old) (doubles-of work.old) (doubles-of field.old) (doubles-of numbers.old) (words_of counts.old)) (slices out.old work.old field.old numbers.old counts.old) }
+    ensures { replies result.number result.value (slices out.new work.new field.new numbers.new counts.new) ≡ packs (called_run call (job (csr n (numbers_of starts.now) (numbers_of cols.now) (doubles_of vals.now)) (given with_mass (doubles_of mass.now)) tau count (doubles_of w.now)) (doubles_of out.old) (doubles_of work.old) (doubles_of field.old) (doubles_of numbers.old) (words_of counts.old)) (slices out.old work.old field.old numbers.old counts.old) }
 {
     let starts_array = byte_arrays::numbers_in(starts);
     let cols_array = byte_arrays::numbers_in(cols);

@@ -11,59 +11,59 @@ use Rattle.checks.specs.First.{first}
 use Rattle.checks.specs.declared.Checked.{Checked}
 use Rattle.checks.specs.declared.Checked.TheVariants.{Sound, Refused}
 use Rattle.krylov_advance.specs.Run.{State, End, finished, refused}
-use Rattle.paused_run.specs.Paused.{Input, moved, over, other-checks, step-checks, resumed, verdict, substep-of, after-substep, step-unless, step}
+use Rattle.paused_run.specs.Paused.{Input, moved, over, other_checks, step_checks, resumed, verdict, substep_of, after_substep, step_unless, step}
 use Rattle.paused_run.specs.declared.PausedRun.{PausedRun}
 use Rattle.paused_run.specs.declared.Tolerance.TheVariants.{Same, New}
 use Rattle.paused_run.specs.declared.StepAnswer.{StepAnswer}
 use Rattle.paused_run.specs.declared.StepAnswer.TheVariants.{Refusal, Stepped}
 use Rattle.paused_claims.specs.History.{run_in}
-use Rattle.paused_claims.specs.Alike.{SameStep, Blind, number_in, double-in, run-with-tol, bringing, SameButTol, NewTol}
+use Rattle.paused_claims.specs.Alike.{SameStep, Blind, number_in, double_in, run_with_tol, bringing, SameButTol, NewTol}
 
 -- ---- what was lent does not matter
 pub blind : (s : PausedRun) (y : List Float) → Blind s y
-unfolding step step-unless after-substep
+unfolding step step_unless after_substep
 blind s y i k t j a b =
-    subst (λ (c : Checked). SameStep (step-unless c s y i) (step s y k)) a
-    (subst (λ (c : Checked). SameStep (step-unless Sound s y i) (step-unless c s y k)) b
+    subst (λ (c : Checked). SameStep (step_unless c s y i) (step s y k)) a
+    (subst (λ (c : Checked). SameStep (step_unless Sound s y i) (step_unless c s y k)) b
     (record {
-      answer = λ l. (step-unless Sound s y (record { tolerance = t l; job = j l; output = i.output; memory = i.memory })).answer;
-      output = λ l. (step-unless Sound s y (record { tolerance = t l; job = j l; output = i.output; memory = i.memory })).output;
-      field = λ l. (step-unless Sound s y (record { tolerance = t l; job = j l; output = i.output; memory = i.memory })).field;
+      answer = λ l. (step_unless Sound s y (record { tolerance = t l; job = j l; output = i.output; memory = i.memory })).answer;
+      output = λ l. (step_unless Sound s y (record { tolerance = t l; job = j l; output = i.output; memory = i.memory })).output;
+      field = λ l. (step_unless Sound s y (record { tolerance = t l; job = j l; output = i.output; memory = i.memory })).field;
     }))
 
 -- ---- a new tol
 module _ (s : PausedRun) (y : List Float) (i : Input) (tol : Float) where
   abbrev s₁ : PausedRun
-  s₁ = run-with-tol tol s
+  s₁ = run_with_tol tol s
 
-  verdict-same : (st : Turn State End)
-      → (number_in (verdict s tol st) ≡ number_in (verdict s₁ tol st)) × (double-in (verdict s tol st) ≡ double-in (verdict s₁ tol st)) × (run-with-tol tol (run_in (verdict s tol st)) ≡ run_in (verdict s₁ tol st))
+  verdict_same : (st : Turn State End)
+      → (number_in (verdict s tol st) ≡ number_in (verdict s₁ tol st)) × (double_in (verdict s tol st) ≡ double_in (verdict s₁ tol st)) × (run_with_tol tol (run_in (verdict s tol st)) ≡ run_in (verdict s₁ tol st))
   unfolding verdict
-  verdict-same (on t) = go (ltb t.report.substeps s.limit)
+  verdict_same (on t) = go (ltb t.report.substeps s.limit)
     where
       pick : PausedRun → Bool → StepAnswer
       pick r b = if b then Stepped (moved r tol t t.report false) else Refusal 27 t.report.est_error (moved r tol t t.report true)
 
-      go : (b : Bool) → (number_in (pick s b) ≡ number_in (pick s₁ b)) × (double-in (pick s b) ≡ double-in (pick s₁ b)) × (run-with-tol tol (run_in (pick s b)) ≡ run_in (pick s₁ b))
+      go : (b : Bool) → (number_in (pick s b) ≡ number_in (pick s₁ b)) × (double_in (pick s b) ≡ double_in (pick s₁ b)) × (run_with_tol tol (run_in (pick s b)) ≡ run_in (pick s₁ b))
       go true = (refl, refl, refl)
       go false = (refl, refl, refl)
-  verdict-same (out (finished t)) = (refl, refl, refl)
-  verdict-same (out (refused k x t)) = (refl, refl, refl)
+  verdict_same (out (finished t)) = (refl, refl, refl)
+  verdict_same (out (refused k x t)) = (refl, refl, refl)
 
-  same_by : (c : Checked) → SameButTol tol (step-unless c s y (bringing (New tol) i)) (step-unless c s₁ y (bringing Same i))
-  unfolding step-unless after-substep resumed
+  same_by : (c : Checked) → SameButTol tol (step_unless c s y (bringing (New tol) i)) (step_unless c s₁ y (bringing Same i))
+  unfolding step_unless after_substep resumed
   same_by (Refused k x) = record { number = refl; double = refl; run = refl; output = refl; memory = refl; field = refl }
   same_by Sound =
-      let v = verdict-same (substep-of s y (bringing (New tol) i)) in
+      let v = verdict_same (substep_of s y (bringing (New tol) i)) in
       record { number = v.0; double = v.1; run = v.2; output = refl; memory = refl; field = refl }
 
-  same-checks : first (step-checks s (length y) (bringing (New tol) i)) ≡ first (step-checks s₁ (length y) (bringing Same i))
-  unfolding step-checks over other-checks
-  same-checks = refl
+  same_checks : first (step_checks s (length y) (bringing (New tol) i)) ≡ first (step_checks s₁ (length y) (bringing Same i))
+  unfolding step_checks over other_checks
+  same_checks = refl
 
   same_step : SameButTol tol (step s y (bringing (New tol) i)) (step s₁ y (bringing Same i))
   unfolding step
-  same_step = subst (λ (c : Checked). SameButTol tol (step s y (bringing (New tol) i)) (step-unless c s₁ y (bringing Same i))) same-checks (same_by (first (step-checks s (length y) (bringing (New tol) i))))
+  same_step = subst (λ (c : Checked). SameButTol tol (step s y (bringing (New tol) i)) (step_unless c s₁ y (bringing Same i))) same_checks (same_by (first (step_checks s (length y) (bringing (New tol) i))))
 
-pub new-tol : (s : PausedRun) (y : List Float) → NewTol s y
-new-tol s y i tol = same_step s y i tol
+pub new_tol : (s : PausedRun) (y : List Float) → NewTol s y
+new_tol s y i tol = same_step s y i tol

@@ -10,7 +10,7 @@ use lib.ListN.{length}
 use lib.Ieee.{Float, lt, eq, of_bits, nan}
 use Rattle.lists.specs.Walk.{Turn, on, out}
 use Rattle.doubles.specs.F64.{◌⋖◌, +0, 1f}
-use Rattle.pow2.specs.Pow2.{pow2-scale}
+use Rattle.pow2.specs.Pow2.{pow2_scale}
 use Rattle.pow2.specs.declared.Prescale.{Prescale}
 use Rattle.pow2.specs.declared.Prescale.TheVariants.{By, None}
 use Rattle.checks.specs.First.{first}
@@ -18,171 +18,171 @@ use Rattle.checks.specs.declared.Checked.{Checked}
 use Rattle.checks.specs.declared.Checked.TheVariants.{Sound, Refused}
 use Rattle.krylov_advance.specs.Run.{State, End, finished}
 use Rattle.combination.specs.Combination.{further}
-use Rattle.taylor_schedule.proofs.Admitted.{first-within}
+use Rattle.taylor_schedule.proofs.Admitted.{first_within}
 use Rattle.gram_schmidt.specs.Basis.{norm2}
-use Rattle.krylov_job.specs.KrylovCall.{krylov-checks}
+use Rattle.krylov_job.specs.KrylovCall.{krylov_checks}
 use Rattle.krylov_job.specs.declared.KrylovPhiOptions.{KrylovPhiOptions}
-use Rattle.paused_run.specs.Paused.{Job, rows, degree, PausedCall, leaves, start, Input, step-unless, step}
+use Rattle.paused_run.specs.Paused.{Job, rows, degree, PausedCall, leaves, start, Input, step_unless, step}
 use Rattle.paused_run.specs.declared.PausedRun.{PausedRun}
 use Rattle.paused_run.specs.declared.StepAnswer.{StepAnswer}
 use Rattle.paused_run.specs.declared.StepAnswer.TheVariants.{Refusal, Stepped}
-use Rattle.demand_3.specs.Trace.{Accepted, field-after, Run, status-of, accepted-by, time-of, field_of}
+use Rattle.demand_3.specs.Trace.{Accepted, field_after, Run, status_of, accepted_by, time_of, field_of}
 use Rattle.demand_3.specs.Krylov.{euclidean, Each}
-use Rattle.demand_3.proofs.Counts.{reached, run-recorded}
-use Rattle.demand_3.proofs.Krylov.{none-zeros, by-not-zeros}
-use Rattle.demand_3.proofs.Moments.{Stands, run-stands}
-use Rattle.paused_claims.specs.History.{whole, Past, call-on, checked, run_in, made-with, in-force, at-start, next, Left, run-so-far}
+use Rattle.demand_3.proofs.Counts.{reached, run_recorded}
+use Rattle.demand_3.proofs.Krylov.{none_zeros, by_not_zeros}
+use Rattle.demand_3.proofs.Moments.{Stands, run_stands}
+use Rattle.paused_claims.specs.History.{whole, Past, call_on, checked, run_in, made_with, in_force, at_start, next, Left, run_so_far}
 use Rattle.paused_claims.specs.History as history
 use Rattle.paused_claims.specs.Start.{values_of, StartClaim}
 use Rattle.paused_claims.specs.Early.{Plain}
 use Rattle.paused_claims.specs.Steps.{Outcome, Done}
 use Rattle.paused_claims.specs.Ended.{Met, Some, Causes, Doubles, EndedClaim}
 use Rattle.paused_claims.proofs.Known.{vectors, finite}
-use Rattle.paused_claims.proofs.Doubles.{start-doubles}
-use Rattle.paused_claims.proofs.FirstNorm.{first-norm-left}
-use Rattle.paused_claims.proofs.Start.{the-start}
-use Rattle.paused_claims.proofs.Standing.{ended_by, whole_is, Moving, left-sound, left-stands}
-use Rattle.paused_claims.proofs.Early.{early-number, if-31}
-use Rattle.paused_claims.proofs.Steps.{step-done}
+use Rattle.paused_claims.proofs.Doubles.{start_doubles}
+use Rattle.paused_claims.proofs.FirstNorm.{first_norm_left}
+use Rattle.paused_claims.proofs.Start.{the_start}
+use Rattle.paused_claims.proofs.Standing.{ended_by, whole_is, Moving, left_sound, left_stands}
+use Rattle.paused_claims.proofs.Early.{early_number, if_31}
+use Rattle.paused_claims.proofs.Steps.{step_done}
 
 -- ---- lists
-some-front : {A : Type 0} (P : A → Type 0) (l l' : List A) → Some P l → Some P (l ++ l')
-some-front P [] l' h = absurd h
-some-front P (a ∷ l) l' (inl h) = inl h
-some-front P (a ∷ l) l' (inr h) = inr (some-front P l l' h)
+some_front : {A : Type 0} (P : A → Type 0) (l l' : List A) → Some P l → Some P (l ++ l')
+some_front P [] l' h = absurd h
+some_front P (a ∷ l) l' (inl h) = inl h
+some_front P (a ∷ l) l' (inr h) = inr (some_front P l l' h)
 
-some-last : {A : Type 0} (P : A → Type 0) (l : List A) (a : A) → P a → Some P (l ++ (a ∷ []))
-some-last P [] a h = inl h
-some-last P (b ∷ l) a h = inr (some-last P l a h)
+some_last : {A : Type 0} (P : A → Type 0) (l : List A) (a : A) → P a → Some P (l ++ (a ∷ []))
+some_last P [] a h = inl h
+some_last P (b ∷ l) a h = inr (some_last P l a h)
 
-some-split : {A : Type 0} (P : A → Type 0) (l : List A) (a : A) → Some P (l ++ (a ∷ [])) → Some P l ⊎ P a
-some-split P [] a (inl h) = inr h
-some-split P [] a (inr h) = absurd h
-some-split P (b ∷ l) a (inl h) = inl (inl h)
-some-split P (b ∷ l) a (inr h) = elim (some-split P l a h) [ inl k ↦ inl (inr k) | inr k ↦ inr k ]
+some_split : {A : Type 0} (P : A → Type 0) (l : List A) (a : A) → Some P (l ++ (a ∷ [])) → Some P l ⊎ P a
+some_split P [] a (inl h) = inr h
+some_split P [] a (inr h) = absurd h
+some_split P (b ∷ l) a (inl h) = inl (inl h)
+some_split P (b ∷ l) a (inr h) = elim (some_split P l a h) [ inl k ↦ inl (inr k) | inr k ↦ inr k ]
 
-each-split : {A : Type 0} (P : A → Type 0) (l : List A) (a : A) → Each P (l ++ (a ∷ [])) → Each P l × P a
-each-split P [] a h = (tt, h.0)
-each-split P (b ∷ l) a h = let k = each-split P l a h.1 in ((h.0, k.0), k.1)
+each_split : {A : Type 0} (P : A → Type 0) (l : List A) (a : A) → Each P (l ++ (a ∷ [])) → Each P l × P a
+each_split P [] a h = (tt, h.0)
+each_split P (b ∷ l) a h = let k = each_split P l a h.1 in ((h.0, k.0), k.1)
 
 -- ---- one step
-early-same : (p : Past) (i : Input) (k : ℕ) (x : Float) → checked p i ≡ Refused k x → call-on p i ≡ leaves (Refusal k x p.run) i.output i.memory p.field
-unfolding step step-unless
-early-same p i k x e = ap (λ (c : Checked). step-unless c p.run p.field i) e
+early_same : (p : Past) (i : Input) (k : ℕ) (x : Float) → checked p i ≡ Refused k x → call_on p i ≡ leaves (Refusal k x p.run) i.output i.memory p.field
+unfolding step step_unless
+early_same p i k x e = ap (λ (c : Checked). step_unless c p.run p.field i) e
 
 module _ {o : KrylovPhiOptions} {j : Job} {p : Past} (l : Left o j p) (i : Input) where
   -- it ended the run
-  ended-by-step : Sound ≡ checked p i → (run_in (call-on p i).answer).ended ≡ true → Causes j (next o j p i)
-  ended-by-step e h = go (call-on p i).answer refl (step-done l i e).outcome
+  ended_by_step : Sound ≡ checked p i → (run_in (call_on p i).answer).ended ≡ true → Causes j (next o j p i)
+  ended_by_step e h = go (call_on p i).answer refl (step_done l i e).outcome
     where
-      d : Done o j p i (run-so-far o j (next o j p i)) (call-on p i)
-      d = step-done l i e
+      d : Done o j p i (run_so_far o j (next o j p i)) (call_on p i)
+      d = step_done l i e
 
-      go : (a : StepAnswer) → (call-on p i).answer ≡ a → Outcome o.max_substeps (made-with o j (in-force i.tolerance p.tol) i.job) (run-so-far o j p) (run-so-far o j (next o j p i)) p.run a → Causes j (next o j p i)
+      go : (a : StepAnswer) → (call_on p i).answer ≡ a → Outcome o.max_substeps (made_with o j (in_force i.tolerance p.tol) i.job) (run_so_far o j p) (run_so_far o j (next o j p i)) p.run a → Causes j (next o j p i)
       go (Stepped s) q (inl g) = absurd (true≢false (sym h ∙ ap (λ (x : StepAnswer). (run_in x).ended) q ∙ g.ended))
       go (Stepped s) q (inr g) = elim g.finished.reached [
         | inl z ↦ inr (inl (ap (λ (y : List Float). eq (euclidean y) +0) d.field ∙ z))
         | inr z ↦ inl (d.time ∙ z)
       ]
-      go (Refusal k x s) q (inl g) = inr (inr (inr (some-last Met p.answers (call-on p i).answer (subst Met (sym q) (inl g.number)))))
-      go (Refusal k x s) q (inr g) = inr (inr (inr (some-last Met p.answers (call-on p i).answer (subst Met (sym q) (inr g.failed.number)))))
+      go (Refusal k x s) q (inl g) = inr (inr (inr (some_last Met p.answers (call_on p i).answer (subst Met (sym q) (inl g.number)))))
+      go (Refusal k x s) q (inr g) = inr (inr (inr (some_last Met p.answers (call_on p i).answer (subst Met (sym q) (inr g.failed.number)))))
 
   -- an early refusal leaves the causes
   kept : (k : ℕ) (x : Float) → checked p i ≡ Refused k x → Causes j p → Causes j (next o j p i)
-  kept k x e = let c = early-same p i k x e in go c
+  kept k x e = let c = early_same p i k x e in go c
     where
-      go : call-on p i ≡ leaves (Refusal k x p.run) i.output i.memory p.field → Causes j p → Causes j (next o j p i)
+      go : call_on p i ≡ leaves (Refusal k x p.run) i.output i.memory p.field → Causes j p → Causes j (next o j p i)
       go c (inl h) = inl (ap (λ (z : PausedCall StepAnswer). (run_in z.answer).time) c ∙ h)
       go c (inr (inl h)) = inr (inl (ap (λ (z : PausedCall StepAnswer). eq (euclidean z.field) +0) c ∙ h))
       go c (inr (inr (inl h))) = inr (inr (inl h))
-      go c (inr (inr (inr h))) = inr (inr (inr (some-front Met p.answers _ h)))
+      go c (inr (inr (inr h))) = inr (inr (inr (some_front Met p.answers _ h)))
 
   -- 27 to 29 end it
-  met-ends : Plain i.job.g → Met (call-on p i).answer → (run_in (call-on p i).answer).ended ≡ true
-  met-ends plain h = go (checked p i) refl
+  met_ends : Plain i.job.g → Met (call_on p i).answer → (run_in (call_on p i).answer).ended ≡ true
+  met_ends plain h = go (checked p i) refl
     where
-      answered : (a : StepAnswer) → (call-on p i).answer ≡ a → Met a → Outcome o.max_substeps (made-with o j (in-force i.tolerance p.tol) i.job) (run-so-far o j p) (run-so-far o j (next o j p i)) p.run a → (run_in (call-on p i).answer).ended ≡ true
+      answered : (a : StepAnswer) → (call_on p i).answer ≡ a → Met a → Outcome o.max_substeps (made_with o j (in_force i.tolerance p.tol) i.job) (run_so_far o j p) (run_so_far o j (next o j p i)) p.run a → (run_in (call_on p i).answer).ended ≡ true
       answered (Stepped s) q h g = absurd h
       answered (Refusal k x s) q h (inl g) = ap (λ (z : StepAnswer). (run_in z).ended) q ∙ g.ended
       answered (Refusal k x s) q h (inr g) = ap (λ (z : StepAnswer). (run_in z).ended) q ∙ g.marked.ended
 
-      go : (c : Checked) → checked p i ≡ c → (run_in (call-on p i).answer).ended ≡ true
-      go Sound e = answered (call-on p i).answer refl h (step-done l i (sym e)).outcome
-      go (Refused k x) e = absurd (early-number p.run (length p.field) i plain k x (sym e) (subst Met (ap (λ (z : PausedCall StepAnswer). z.answer) (early-same p i k x e)) h))
+      go : (c : Checked) → checked p i ≡ c → (run_in (call_on p i).answer).ended ≡ true
+      go Sound e = answered (call_on p i).answer refl h (step_done l i (sym e)).outcome
+      go (Refused k x) e = absurd (early_number p.run (length p.field) i plain k x (sym e) (subst Met (ap (λ (z : PausedCall StepAnswer). z.answer) (early_same p i k x e)) h))
 
   -- an ended run stays so
-  pub stays-ended : p.run.ended ≡ true → (run_in (call-on p i).answer).ended ≡ true
-  stays-ended h = ap (λ (z : PausedCall StepAnswer). (run_in z.answer).ended) (early-same p i 31 nan (if-31 l i h)) ∙ h
+  pub stays_ended : p.run.ended ≡ true → (run_in (call_on p i).answer).ended ≡ true
+  stays_ended h = ap (λ (z : PausedCall StepAnswer). (run_in z.answer).ended) (early_same p i 31 nan (if_31 l i h)) ∙ h
 
 -- ---- ended, so by one of the causes
-pub only-causes : {o : KrylovPhiOptions} {j : Job} {p : Past} → Left o j p → p.run.ended ≡ true → Causes j p
-only-causes {o} {j} (history.started output memory field {s} e) h = go (pow2-scale (values_of j)) refl
+pub only_causes : {o : KrylovPhiOptions} {j : Job} {p : Past} → Left o j p → p.run.ended ≡ true → Causes j p
+only_causes {o} {j} (history.started output memory field {s} e) h = go (pow2_scale (values_of j)) refl
   where
     claim : StartClaim o j output memory field (start o j output memory field)
-    claim = the-start o j output memory field
+    claim = the_start o j output memory field
 
-    go : (f : Prescale) → pow2-scale (values_of j) ≡ f → Causes j (at-start o s (start o j output memory field).field)
-    go None q = inr (inr (inl (none-zeros (values_of j) (finite o j (length output) (length memory) (claim.only-accepted e).0) q)))
-    go (By f) q = absurd (true≢false (sym h ∙ (claim.ready e (by-not-zeros (values_of j) f q)).ended))
-only-causes {o} {j} (history.stepped {p} l i) h = go (λ k. only-causes l k) (checked p i) refl
+    go : (f : Prescale) → pow2_scale (values_of j) ≡ f → Causes j (at_start o s (start o j output memory field).field)
+    go None q = inr (inr (inl (none_zeros (values_of j) (finite o j (length output) (length memory) (claim.only_accepted e).0) q)))
+    go (By f) q = absurd (true≢false (sym h ∙ (claim.ready e (by_not_zeros (values_of j) f q)).ended))
+only_causes {o} {j} (history.stepped {p} l i) h = go (λ k. only_causes l k) (checked p i) refl
   where
     go : (p.run.ended ≡ true → Causes j p) → (c : Checked) → checked p i ≡ c → Causes j (next o j p i)
-    go earlier Sound e = ended-by-step l i (sym e) h
-    go earlier (Refused k x) e = kept l i k x e (earlier (sym (ap (λ (z : PausedCall StepAnswer). (run_in z.answer).ended) (early-same p i k x e)) ∙ h))
+    go earlier Sound e = ended_by_step l i (sym e) h
+    go earlier (Refused k x) e = kept l i k x e (earlier (sym (ap (λ (z : PausedCall StepAnswer). (run_in z.answer).ended) (early_same p i k x e)) ∙ h))
 
 -- ---- each of the causes ends it
-met-ended : {o : KrylovPhiOptions} {j : Job} {p : Past} → Left o j p → Each (λ i. Plain i.job.g) p.inputs → Some Met p.answers → p.run.ended ≡ true
-met-ended (history.started output memory field e) plain h = absurd h
-met-ended (history.stepped {p} l i) plain h =
-    let a = each-split (λ i. Plain i.job.g) p.inputs i plain in
-    elim (some-split Met p.answers (call-on p i).answer h) [
-      | inl m ↦ stays-ended l i (met-ended l a.0 m)
-      | inr m ↦ met-ends l i a.1 m
+met_ended : {o : KrylovPhiOptions} {j : Job} {p : Past} → Left o j p → Each (λ i. Plain i.job.g) p.inputs → Some Met p.answers → p.run.ended ≡ true
+met_ended (history.started output memory field e) plain h = absurd h
+met_ended (history.stepped {p} l i) plain h =
+    let a = each_split (λ i. Plain i.job.g) p.inputs i plain in
+    elim (some_split Met p.answers (call_on p i).answer h) [
+      | inl m ↦ stays_ended l i (met_ended l a.0 m)
+      | inr m ↦ met_ends l i a.1 m
     ]
 
 -- of a run that is not idle: it has ended, or goes on
 module _ (o : KrylovPhiOptions) (j : Job) (p : Past) (h : Moving o j p) where
   abbrev u : Run
-  u = run-so-far o j p
+  u = run_so_far o j p
 
-  ended-or : (st : Turn State End) → status-of u ≡ st → Stands u st → (T (time-of u ⋖ 1f) → (0 < length (accepted-by u) → eq (euclidean (field_of u)) +0 ≡ false) → ⊥) → p.run.ended ≡ true
-  ended-or (on z) e g n = absurd (n g.below_one g.norm-left)
-  ended-or (out z) e g n = ap (λ (r : PausedRun). r.ended) h.stood.run ∙ ap (ended_by o.max_substeps) e
+  ended_or : (st : Turn State End) → status_of u ≡ st → Stands u st → (T (time_of u ⋖ 1f) → (0 < length (accepted_by u) → eq (euclidean (field_of u)) +0 ≡ false) → ⊥) → p.run.ended ≡ true
+  ended_or (on z) e g n = absurd (n g.below_one g.norm_left)
+  ended_or (out z) e g n = ap (λ (r : PausedRun). r.ended) h.stood.run ∙ ap (ended_by o.max_substeps) e
 
-  time-is : p.run.time ≡ time-of u
-  time-is = ap (λ (r : PausedRun). r.time) h.stood.run ∙ (run-recorded u).time
+  time_is : p.run.time ≡ time_of u
+  time_is = ap (λ (r : PausedRun). r.time) h.stood.run ∙ (run_recorded u).time
 
   field_is : p.field ≡ field_of u
-  field_is = h.stood.field ∙ (run-recorded u).field
+  field_is = h.stood.field ∙ (run_recorded u).field
 
   at_one : p.run.time ≡ 1f → p.run.ended ≡ true
   unfolding lt of_bits
-  at_one e = ended-or (status-of u) refl (run-stands u) (λ t n. subst (λ (x : Float). T (x ⋖ 1f)) (sym time-is ∙ e) t)
+  at_one e = ended_or (status_of u) refl (run_stands u) (λ t n. subst (λ (x : Float). T (x ⋖ 1f)) (sym time_is ∙ e) t)
 
   -- the first norm is not 0
-  whole-norm : (output memory : ℕ) → Sound ≡ first (krylov-checks j.g j.tau j.count j.w o output memory) → Doubles j.w → eq (euclidean (whole o j).field) +0 ≡ false
+  whole_norm : (output memory : ℕ) → Sound ≡ first (krylov_checks j.g j.tau j.count j.w o output memory) → Doubles j.w → eq (euclidean (whole o j).field) +0 ≡ false
   unfolding norm2
-  whole-norm output memory e doubles = ap (λ (w : Run). eq (euclidean w.field) +0) (whole_is o j h.factors h.by) ∙ first-norm-left (values_of j) h.factors (start-doubles (rows j) j.w (further (rows j) j.w) j.tau (degree j) (first-within (vectors o j output memory e)) doubles) (finite o j output memory e) h.by
+  whole_norm output memory e doubles = ap (λ (w : Run). eq (euclidean w.field) +0) (whole_is o j h.factors h.by) ∙ first_norm_left (values_of j) h.factors (start_doubles (rows j) j.w (further (rows j) j.w) j.tau (degree j) (first_within (vectors o j output memory e)) doubles) (finite o j output memory e) h.by
 
   at_zero : eq (euclidean (whole o j).field) +0 ≡ false → eq (euclidean p.field) +0 ≡ true → p.run.ended ≡ true
-  unfolding field-after
-  at_zero first e = ended-or (status-of u) refl (run-stands u) (λ t n. go (accepted-by u) refl n)
+  unfolding field_after
+  at_zero first e = ended_or (status_of u) refl (run_stands u) (λ t n. go (accepted_by u) refl n)
     where
-      go : (l : List Accepted) → accepted-by u ≡ l → (0 < length (accepted-by u) → eq (euclidean (field_of u)) +0 ≡ false) → ⊥
-      go [] q n = absurd (true≢false (sym e ∙ ap (λ (y : List Float). eq (euclidean y) +0) (field_is ∙ ap (field-after u.field) q) ∙ first))
+      go : (l : List Accepted) → accepted_by u ≡ l → (0 < length (accepted_by u) → eq (euclidean (field_of u)) +0 ≡ false) → ⊥
+      go [] q n = absurd (true≢false (sym e ∙ ap (λ (y : List Float). eq (euclidean y) +0) (field_is ∙ ap (field_after u.field) q) ∙ first))
       go (a ∷ l) q n = absurd (true≢false (sym e ∙ ap (λ (y : List Float). eq (euclidean y) +0) field_is ∙ n (subst (λ (k : List Accepted). 0 < length k) (sym q) (omega arith))))
 
-pub if-causes : {o : KrylovPhiOptions} {j : Job} {p : Past} → Left o j p → Doubles j.w → Each (λ i. Plain i.job.g) p.inputs → Causes j p → p.run.ended ≡ true
-if-causes {o} {j} {p} l doubles plain c = elim (left-stands l) [
+pub if_causes : {o : KrylovPhiOptions} {j : Job} {p : Past} → Left o j p → Doubles j.w → Each (λ i. Plain i.job.g) p.inputs → Causes j p → p.run.ended ≡ true
+if_causes {o} {j} {p} l doubles plain c = elim (left_stands l) [
   | inl h ↦ ap (λ (r : PausedRun). r.ended) h.run
   | inr h ↦ go h c
 ]
   where
     go : Moving o j p → Causes j p → p.run.ended ≡ true
     go h (inl e) = at_one o j p h e
-    go h (inr (inl e)) = let s = left-sound l in at_zero o j p h (whole-norm o j p h (length s.0) (length s.1) s.2 doubles) e
-    go h (inr (inr (inl z))) = absurd (by-not-zeros (values_of j) h.factors h.by z)
-    go h (inr (inr (inr m))) = met-ended l plain m
+    go h (inr (inl e)) = let s = left_sound l in at_zero o j p h (whole_norm o j p h (length s.0) (length s.1) s.2 doubles) e
+    go h (inr (inr (inl z))) = absurd (by_not_zeros (values_of j) h.factors h.by z)
+    go h (inr (inr (inr m))) = met_ended l plain m
 
-pub ended-exactly : {o : KrylovPhiOptions} {j : Job} {p : Past} → Left o j p → EndedClaim j p
-ended-exactly l doubles plain = (only-causes l, if-causes l doubles plain)
+pub ended_exactly : {o : KrylovPhiOptions} {j : Job} {p : Past} → Left o j p → EndedClaim j p
+ended_exactly l doubles plain = (only_causes l, if_causes l doubles plain)

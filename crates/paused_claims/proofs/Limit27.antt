@@ -16,54 +16,54 @@ use Rattle.paused_run.specs.declared.StepAnswer.{StepAnswer}
 use Rattle.paused_run.specs.declared.StepAnswer.TheVariants.{Refusal, Stepped}
 use Rattle.demand_3.specs.Trace.{Run}
 use Rattle.demand_3.specs.Krylov.{Finished}
-use Rattle.paused_claims.specs.History.{Past, call-on, Steps, in-force, made-with, next, Left, run-so-far}
+use Rattle.paused_claims.specs.History.{Past, call_on, Steps, in_force, made_with, next, Left, run_so_far}
 use Rattle.paused_claims.specs.History as history
 use Rattle.paused_claims.specs.Steps.{Outcome, AtLimit, Exactly27}
-use Rattle.paused_claims.proofs.Known.{some-limit}
-use Rattle.paused_claims.proofs.Standing.{left-sound, left-stands}
-use Rattle.paused_claims.proofs.Steps.{step-done}
+use Rattle.paused_claims.proofs.Known.{some_limit}
+use Rattle.paused_claims.proofs.Standing.{left_sound, left_stands}
+use Rattle.paused_claims.proofs.Steps.{step_done}
 
 module _ {o : KrylovPhiOptions} {j : Job} {p : Past} (l : Left o j p) (i : Input) (e : Steps p i) where
   abbrev u : Run
-  u = run-so-far o j (next o j p i)
+  u = run_so_far o j (next o j p i)
 
   abbrev limit : ℕ
   limit = o.max_substeps
 
   abbrev Ends : StepAnswer → Type 0
-  Ends a = Outcome limit (made-with o j (in-force i.tolerance p.tol) i.job) (run-so-far o j p) u p.run a
+  Ends a = Outcome limit (made_with o j (in_force i.tolerance p.tol) i.job) (run_so_far o j p) u p.run a
 
   some : 0 < limit
-  some = let s = left-sound l in some-limit o j (length s.0) (length s.1) s.2
+  some = let s = left_sound l in some_limit o j (length s.0) (length s.1) s.2
 
   few : length u.settings ≤ limit
-  few = elim (left-stands (history.stepped l i)) [
+  few = elim (left_stands (history.stepped l i)) [
     | inl h ↦ le_trans (le_of_eq (ap length h.settings)) (omega arith)
     | inr h ↦ h.stood.few
   ]
 
-  only : {x : Float} {s : PausedRun} → (call-on p i).answer ≡ Refusal 27 x s → AtLimit limit u x
-  only {x} {s} q = go (subst Ends q (step-done l i e).outcome)
+  only : {x : Float} {s : PausedRun} → (call_on p i).answer ≡ Refusal 27 x s → AtLimit limit u x
+  only {x} {s} q = go (subst Ends q (step_done l i e).outcome)
     where
       go : Ends (Refusal 27 x s) → AtLimit limit u x
-      go (inl g) = record { substeps = g.all; below_one = g.goes_on.below_one; norm-left = g.goes_on.norm-left (subst (λ (n : ℕ). 0 < n) (sym g.all) some); told = g.told }
+      go (inl g) = record { substeps = g.all; below_one = g.goes_on.below_one; norm_left = g.goes_on.norm_left (subst (λ (n : ℕ). 0 < n) (sym g.all) some); told = g.told }
       go (inr g) = elim g.failed.number [ inl n ↦ absurd (omega (arith, n)) | inr n ↦ absurd (omega (arith, n)) ]
 
-  not-reached : {x : Float} → AtLimit limit u x → Finished u → ⊥
+  not_reached : {x : Float} → AtLimit limit u x → Finished u → ⊥
   unfolding lt of_bits
-  not-reached a f = elim f.reached [
-    | inl z ↦ absurd (true≢false (sym z ∙ a.norm-left))
+  not_reached a f = elim f.reached [
+    | inl z ↦ absurd (true≢false (sym z ∙ a.norm_left))
     | inr t ↦ subst (λ (y : Float). T (y ⋖ 1f)) t a.below_one
   ]
 
-  when : {x : Float} → AtLimit limit u x → (s : PausedRun) × ((call-on p i).answer ≡ Refusal 27 x s)
-  when {x} a = go (call-on p i).answer refl (step-done l i e).outcome
+  when : {x : Float} → AtLimit limit u x → (s : PausedRun) × ((call_on p i).answer ≡ Refusal 27 x s)
+  when {x} a = go (call_on p i).answer refl (step_done l i e).outcome
     where
-      go : (b : StepAnswer) → (call-on p i).answer ≡ b → Ends b → (s : PausedRun) × ((call-on p i).answer ≡ Refusal 27 x s)
+      go : (b : StepAnswer) → (call_on p i).answer ≡ b → Ends b → (s : PausedRun) × ((call_on p i).answer ≡ Refusal 27 x s)
       go (Stepped s) q (inl g) = let n = a.substeps in let b = g.below in absurd (omega (arith, n, b))
-      go (Stepped s) q (inr g) = absurd (not-reached a g.finished)
+      go (Stepped s) q (inr g) = absurd (not_reached a g.finished)
       go (Refusal k y s) q (inl g) = (s, q ∙ (λ t. Refusal (g.number t) ((g.told ∙ sym a.told) t) s))
       go (Refusal k y s) q (inr g) = let n = a.substeps in let b = g.failed.fewer in let c = few in absurd (omega (arith, n, b, c))
 
-pub exactly-27 : {o : KrylovPhiOptions} {j : Job} {p : Past} → Left o j p → (i : Input) → Exactly27 o j p i
-exactly-27 l i = record { only = λ e q. only l i e q; when = λ e a. when l i e a }
+pub exactly_27 : {o : KrylovPhiOptions} {j : Job} {p : Past} → Left o j p → (i : Input) → Exactly27 o j p i
+exactly_27 l i = record { only = λ e q. only l i e q; when = λ e a. when l i e a }

@@ -6,74 +6,74 @@ use Prim.Native.Nat.{ℕ, ◌+◌, ◌*◌}
 use lib.ListN.{length}
 use lib.Ieee.{Float, nan}
 use Rattle.checks.specs.First.{Check, refuse, first, before}
-use Rattle.checks.proofs.First.{sound-cons, never-holds}
-use Rattle.checks.proofs.Numbers.{before-append}
-use Rattle.general_operator.specs.Csr.{row-sum-norm}
+use Rattle.checks.proofs.First.{sound_cons, never_holds}
+use Rattle.checks.proofs.Numbers.{before_append}
+use Rattle.general_operator.specs.Csr.{row_sum_norm}
 use Rattle.combination.specs.Combination.{further}
-use Rattle.combination.specs.Checks.{count-checks, time-checks, length-checks, finite-checks, magnitude-checks, memory-checks, vector-checks-by, vector-checks}
-use Rattle.krylov_job.specs.KrylovCall.{bound, dimension, option-checks, bound-checks, run-checks, krylov-checks-by, krylov-checks}
+use Rattle.combination.specs.Checks.{count_checks, time_checks, length_checks, finite_checks, magnitude_checks, memory_checks, vector_checks_by, vector_checks}
+use Rattle.krylov_job.specs.KrylovCall.{bound, dimension, option_checks, bound_checks, run_checks, krylov_checks_by, krylov_checks}
 use Rattle.krylov_job.specs.declared.KrylovPhiOptions.{KrylovPhiOptions}
-use Rattle.paused_run.specs.Paused.{Job, rows, degree, need-of, scaling-of, field-checks, start-checks, Input, tol-in, options-in, over, other-checks, step-checks}
+use Rattle.paused_run.specs.Paused.{Job, rows, degree, need_of, scaling_of, field_checks, start_checks, Input, tol_in, options_in, over, other_checks, step_checks}
 use Rattle.paused_run.specs.declared.PausedRun.{PausedRun}
-use Rattle.demand_3.proofs.Never23.{InRange, check-23, never-23}
+use Rattle.demand_3.proofs.Never23.{InRange, check_23, never_23}
 
 -- 21 and 22 with eta
-abbrev magnitude-of : Job → Float → List Check
-magnitude-of j eta = magnitude-checks (rows j) (further (rows j) j.w) j.tau (degree j) eta
+abbrev magnitude_of : Job → Float → List Check
+magnitude_of j eta = magnitude_checks (rows j) (further (rows j) j.w) j.tau (degree j) eta
 
 -- 24, 26, and 26 of the field
-abbrev behind-22 : Job → ℕ → ℕ → ℕ → List Check
-behind-22 j m memory field = bound-checks (bound j.tau (row-sum-norm j.g.matrix)) ++ (memory-checks memory (need-of j m) ++ field-checks field (rows j + degree j))
+abbrev behind_22 : Job → ℕ → ℕ → ℕ → List Check
+behind_22 j m memory field = bound_checks (bound j.tau (row_sum_norm j.g.matrix)) ++ (memory_checks memory (need_of j m) ++ field_checks field (rows j + degree j))
 
 -- ---- the start
 module _ (o : KrylovPhiOptions) (j : Job) (h : InRange j.g) (output memory field : ℕ) where
-  abbrev up-to-22 : List Check
-  up-to-22 = vector-checks (rows j) (time-checks j.tau) j.count j.w output ++ (option-checks o (dimension (rows j) (degree j) o.m) ++ magnitude-of j (scaling-of j).eta)
+  abbrev up_to_22 : List Check
+  up_to_22 = vector_checks (rows j) (time_checks j.tau) j.count j.w output ++ (option_checks o (dimension (rows j) (degree j) o.m) ++ magnitude_of j (scaling_of j).eta)
 
-  start-parts : start-checks o j output memory field ≡ (j.g.checks ++ (up-to-22 ++ (bound-checks (bound j.tau (row-sum-norm j.g.matrix)) ++ memory-checks memory (need-of j o.m)))) ++ field-checks field (rows j + degree j)
-  unfolding start-checks krylov-checks krylov-checks-by run-checks vector-checks vector-checks-by count-checks time-checks length-checks finite-checks option-checks magnitude-checks
-  start-parts = refl
+  start_parts : start_checks o j output memory field ≡ (j.g.checks ++ (up_to_22 ++ (bound_checks (bound j.tau (row_sum_norm j.g.matrix)) ++ memory_checks memory (need_of j o.m)))) ++ field_checks field (rows j + degree j)
+  unfolding start_checks krylov_checks krylov_checks_by run_checks vector_checks vector_checks_by count_checks time_checks length_checks finite_checks option_checks magnitude_checks
+  start_parts = refl
 
-  pub start-never-23 : first (j.g.checks ++ (up-to-22 ++ (check-23 j.g ∷ behind-22 j o.m memory field))) ≡ first (start-checks o j output memory field)
-  unfolding vector-checks vector-checks-by count-checks time-checks length-checks finite-checks option-checks magnitude-checks bound-checks memory-checks
-  start-never-23 = never-23 j.g h up-to-22 (behind-22 j o.m memory field) ∙ sym (ap first (start-parts ∙ append_assoc j.g.checks _ (field-checks field (rows j + degree j))))
+  pub start_never_23 : first (j.g.checks ++ (up_to_22 ++ (check_23 j.g ∷ behind_22 j o.m memory field))) ≡ first (start_checks o j output memory field)
+  unfolding vector_checks vector_checks_by count_checks time_checks length_checks finite_checks option_checks magnitude_checks bound_checks memory_checks
+  start_never_23 = never_23 j.g h up_to_22 (behind_22 j o.m memory field) ∙ sym (ap first (start_parts ∙ append_assoc j.g.checks _ (field_checks field (rows j + degree j))))
 
-  pub start-no-number : before 23 (start-checks o j output memory field) ≡ start-checks o j output memory field
-  unfolding before vector-checks vector-checks-by count-checks time-checks length-checks finite-checks option-checks magnitude-checks bound-checks memory-checks field-checks
-  start-no-number =
-      ap (before 23) (start-parts ∙ append_assoc j.g.checks _ (field-checks field (rows j + degree j)))
-      ∙ before-append 23 j.g.checks _ h.unnumbered
-      ∙ sym (start-parts ∙ append_assoc j.g.checks _ (field-checks field (rows j + degree j)))
+  pub start_no_number : before 23 (start_checks o j output memory field) ≡ start_checks o j output memory field
+  unfolding before vector_checks vector_checks_by count_checks time_checks length_checks finite_checks option_checks magnitude_checks bound_checks memory_checks field_checks
+  start_no_number =
+      ap (before 23) (start_parts ∙ append_assoc j.g.checks _ (field_checks field (rows j + degree j)))
+      ∙ before_append 23 j.g.checks _ h.unnumbered
+      ∙ sym (start_parts ∙ append_assoc j.g.checks _ (field_checks field (rows j + degree j)))
 
 -- ---- a step on any state
 module _ (s : PausedRun) (field : ℕ) (i : Input) (h : InRange i.job.g) where
   abbrev j : Job
   j = i.job
 
-  abbrev of-lengths : List Check
-  of-lengths = length-checks (length i.output) (rows j) (length j.w) (j.count * rows j) ++ other-checks s j
+  abbrev of_lengths : List Check
+  of_lengths = length_checks (length i.output) (rows j) (length j.w) (j.count * rows j) ++ other_checks s j
 
-  abbrev step-up-to-22 : List Check
-  step-up-to-22 =
-      vector-checks-by (time-checks j.tau) of-lengths j.count j.w ++ (option-checks (options-in s (tol-in i.tolerance s)) (dimension (rows j) (degree j) s.m) ++ magnitude-of j s.eta)
+  abbrev step_up_to_22 : List Check
+  step_up_to_22 =
+      vector_checks_by (time_checks j.tau) of_lengths j.count j.w ++ (option_checks (options_in s (tol_in i.tolerance s)) (dimension (rows j) (degree j) s.m) ++ magnitude_of j s.eta)
 
-  step-parts : step-checks s field i
-      ≡ refuse 31 (over s) nan ∷ ((j.g.checks ++ (step-up-to-22 ++ (bound-checks (bound j.tau (row-sum-norm j.g.matrix)) ++ memory-checks (length i.memory) (need-of j s.m)))) ++ field-checks field (rows j + degree j))
-  unfolding step-checks krylov-checks-by run-checks vector-checks-by count-checks time-checks length-checks other-checks finite-checks option-checks magnitude-checks
-  step-parts = refl
+  step_parts : step_checks s field i
+      ≡ refuse 31 (over s) nan ∷ ((j.g.checks ++ (step_up_to_22 ++ (bound_checks (bound j.tau (row_sum_norm j.g.matrix)) ++ memory_checks (length i.memory) (need_of j s.m)))) ++ field_checks field (rows j + degree j))
+  unfolding step_checks krylov_checks_by run_checks vector_checks_by count_checks time_checks length_checks other_checks finite_checks option_checks magnitude_checks
+  step_parts = refl
 
-  in_a_row : step-checks s field i ≡ (refuse 31 (over s) nan ∷ j.g.checks) ++ (step-up-to-22 ++ behind-22 j s.m (length i.memory) field)
-  unfolding vector-checks-by count-checks time-checks length-checks other-checks finite-checks option-checks magnitude-checks bound-checks memory-checks
-  in_a_row = step-parts ∙ ap (λ (l : List Check). refuse 31 (over s) nan ∷ l) (append_assoc j.g.checks _ (field-checks field (rows j + degree j)))
+  in_a_row : step_checks s field i ≡ (refuse 31 (over s) nan ∷ j.g.checks) ++ (step_up_to_22 ++ behind_22 j s.m (length i.memory) field)
+  unfolding vector_checks_by count_checks time_checks length_checks other_checks finite_checks option_checks magnitude_checks bound_checks memory_checks
+  in_a_row = step_parts ∙ ap (λ (l : List Check). refuse 31 (over s) nan ∷ l) (append_assoc j.g.checks _ (field_checks field (rows j + degree j)))
 
-  pub step-never-23 : first (refuse 31 (over s) nan ∷ (j.g.checks ++ (step-up-to-22 ++ (check-23 j.g ∷ behind-22 j s.m (length i.memory) field)))) ≡ first (step-checks s field i)
-  step-never-23 =
-      never-holds (check-23 j.g) (refuse 31 (over s) nan ∷ j.g.checks) step-up-to-22 (behind-22 j s.m (length i.memory) field) (λ e. h.ranged (sound-cons _ _ _ _ e).1)
+  pub step_never_23 : first (refuse 31 (over s) nan ∷ (j.g.checks ++ (step_up_to_22 ++ (check_23 j.g ∷ behind_22 j s.m (length i.memory) field)))) ≡ first (step_checks s field i)
+  step_never_23 =
+      never_holds (check_23 j.g) (refuse 31 (over s) nan ∷ j.g.checks) step_up_to_22 (behind_22 j s.m (length i.memory) field) (λ e. h.ranged (sound_cons _ _ _ _ e).1)
       ∙ ap first (sym in_a_row)
 
-  pub step-no-number : before 23 (step-checks s field i) ≡ step-checks s field i
-  unfolding before vector-checks-by count-checks time-checks length-checks other-checks finite-checks option-checks magnitude-checks bound-checks memory-checks field-checks
-  step-no-number =
+  pub step_no_number : before 23 (step_checks s field i) ≡ step_checks s field i
+  unfolding before vector_checks_by count_checks time_checks length_checks other_checks finite_checks option_checks magnitude_checks bound_checks memory_checks field_checks
+  step_no_number =
       ap (before 23) in_a_row
-      ∙ ap (λ (l : List Check). refuse 31 (over s) nan ∷ l) (before-append 23 j.g.checks (step-up-to-22 ++ behind-22 j s.m (length i.memory) field) h.unnumbered)
+      ∙ ap (λ (l : List Check). refuse 31 (over s) nan ∷ l) (before_append 23 j.g.checks (step_up_to_22 ++ behind_22 j s.m (length i.memory) field) h.unnumbered)
       ∙ sym in_a_row

@@ -15,60 +15,60 @@ use Rattle.checks.specs.declared.Checked.{Checked}
 use Rattle.checks.specs.declared.Checked.TheVariants.{Sound, Refused}
 use Rattle.krylov_advance.specs.Run.{State, End, finished, refused}
 use Rattle.krylov_job.specs.declared.KrylovPhiOptions.{KrylovPhiOptions}
-use Rattle.paused_run.specs.Paused.{Job, Input, tol-in, setting-of, resumed, moved, step-checks, verdict, substep-of, after-substep, step-unless, step}
+use Rattle.paused_run.specs.Paused.{Job, Input, tol_in, setting_of, resumed, moved, step_checks, verdict, substep_of, after_substep, step_unless, step}
 use Rattle.paused_run.specs.declared.PausedRun.{PausedRun}
 use Rattle.paused_run.specs.declared.StepAnswer.{StepAnswer}
 use Rattle.paused_run.specs.declared.StepAnswer.TheVariants.{Refusal, Stepped}
-use Rattle.paused_claims.specs.History.{Past, run_in, in-force, tol-kept, Left}
+use Rattle.paused_claims.specs.History.{Past, run_in, in_force, tol_kept, Left}
 use Rattle.paused_claims.specs.History as history
 use Rattle.paused_claims.specs.Stays.{Stays, StepStays, LeftStays}
-use Rattle.paused_claims.proofs.Standing.{Refuses, substep-refuses, tol-is, Resting, Moving, left-stands}
+use Rattle.paused_claims.proofs.Standing.{Refuses, substep_refuses, tol_is, Resting, Moving, left_stands}
 
 module _ (s : PausedRun) where
   pub stays_here : Stays s s
   stays_here = record { eta = refl; factors = refl; norm = refl; m = refl; limit = refl; n = refl; count = refl }
 
-  verdict-stays : (tol : Float) (st : Turn State End) → Stays s (run_in (verdict s tol st))
+  verdict_stays : (tol : Float) (st : Turn State End) → Stays s (run_in (verdict s tol st))
   unfolding verdict
-  verdict-stays tol (on t) = go (ltb t.report.substeps s.limit)
+  verdict_stays tol (on t) = go (ltb t.report.substeps s.limit)
     where
       go : (b : Bool) → Stays s (run_in (if b then Stepped (moved s tol t t.report false) else Refusal 27 t.report.est_error (moved s tol t t.report true)))
       go true = record { eta = refl; factors = refl; norm = refl; m = refl; limit = refl; n = refl; count = refl }
       go false = record { eta = refl; factors = refl; norm = refl; m = refl; limit = refl; n = refl; count = refl }
-  verdict-stays tol (out (finished t)) = record { eta = refl; factors = refl; norm = refl; m = refl; limit = refl; n = refl; count = refl }
-  verdict-stays tol (out (refused k x t)) = record { eta = refl; factors = refl; norm = refl; m = refl; limit = refl; n = refl; count = refl }
+  verdict_stays tol (out (finished t)) = record { eta = refl; factors = refl; norm = refl; m = refl; limit = refl; n = refl; count = refl }
+  verdict_stays tol (out (refused k x t)) = record { eta = refl; factors = refl; norm = refl; m = refl; limit = refl; n = refl; count = refl }
 
-  verdict-tol : (tol : Float) (u : State) (st : Turn State End) → Refuses u st → (run_in (verdict s tol st)).tol ≡ tol-kept Sound (verdict s tol st) s.tol tol
+  verdict_tol : (tol : Float) (u : State) (st : Turn State End) → Refuses u st → (run_in (verdict s tol st)).tol ≡ tol_kept Sound (verdict s tol st) s.tol tol
   unfolding verdict
-  verdict-tol tol u (on t) h = go (ltb t.report.substeps s.limit)
+  verdict_tol tol u (on t) h = go (ltb t.report.substeps s.limit)
     where
       pick : Bool → StepAnswer
       pick b = if b then Stepped (moved s tol t t.report false) else Refusal 27 t.report.est_error (moved s tol t t.report true)
 
-      go : (b : Bool) → (run_in (pick b)).tol ≡ tol-kept Sound (pick b) s.tol tol
+      go : (b : Bool) → (run_in (pick b)).tol ≡ tol_kept Sound (pick b) s.tol tol
       go true = refl
       go false = refl
-  verdict-tol tol u (out (finished t)) h = refl
-  verdict-tol tol u (out (refused k x t)) (e, n) =
+  verdict_tol tol u (out (finished t)) h = refl
+  verdict_tol tol u (out (refused k x t)) (e, n) =
       let z : eqb k 27 ≡ false = ne_eqb k 27 (elim n [ inl a ↦ (λ b. omega (arith, a, b)) | inr a ↦ (λ b. omega (arith, a, b)) ]) in
       ap (λ (b : Bool). if b then tol else s.tol) (sym z)
 
   module _ (y : List Float) (i : Input) where
-    stays_by : (c : Checked) → Stays s (run_in (step-unless c s y i).answer)
-    unfolding step-unless after-substep
+    stays_by : (c : Checked) → Stays s (run_in (step_unless c s y i).answer)
+    unfolding step_unless after_substep
     stays_by (Refused k x) = stays_here
-    stays_by Sound = verdict-stays (tol-in i.tolerance s) (substep-of s y i)
+    stays_by Sound = verdict_stays (tol_in i.tolerance s) (substep_of s y i)
 
-    tol-by : (c : Checked) → (run_in (step-unless c s y i).answer).tol ≡ tol-kept c (step-unless c s y i).answer s.tol (in-force i.tolerance s.tol)
-    unfolding step-unless after-substep
-    tol-by (Refused k x) = refl
-    tol-by Sound =
-        verdict-tol (tol-in i.tolerance s) (resumed s y) (substep-of s y i) (substep-refuses (setting-of i.job s.eta s.norm (tol-in i.tolerance s) s.m) (resumed s y))
-        ∙ ap (tol-kept Sound (verdict s (tol-in i.tolerance s) (substep-of s y i)) s.tol) (tol-is i.tolerance s)
+    tol_by : (c : Checked) → (run_in (step_unless c s y i).answer).tol ≡ tol_kept c (step_unless c s y i).answer s.tol (in_force i.tolerance s.tol)
+    unfolding step_unless after_substep
+    tol_by (Refused k x) = refl
+    tol_by Sound =
+        verdict_tol (tol_in i.tolerance s) (resumed s y) (substep_of s y i) (substep_refuses (setting_of i.job s.eta s.norm (tol_in i.tolerance s) s.m) (resumed s y))
+        ∙ ap (tol_kept Sound (verdict s (tol_in i.tolerance s) (substep_of s y i)) s.tol) (tol_is i.tolerance s)
 
     pub step_stays : StepStays s y i
     unfolding step
-    step_stays = record { stays = stays_by (first (step-checks s (length y) i)); tol = tol-by (first (step-checks s (length y) i)) }
+    step_stays = record { stays = stays_by (first (step_checks s (length y) i)); tol = tol_by (first (step_checks s (length y) i)) }
 
 stays_on : {s t u : PausedRun} → Stays s t → Stays t u → Stays s u
 stays_on a b =
@@ -82,13 +82,13 @@ stays_on a b =
       count = b.count ∙ a.count;
     }
 
-began-stays : {o : KrylovPhiOptions} {j : Job} {p : Past} → Left o j p → Stays p.began p.run
-began-stays (history.started output memory field {s} e) = stays_here s
-began-stays (history.stepped {p} l i) = stays_on (began-stays l) (step_stays p.run p.field i).stays
+began_stays : {o : KrylovPhiOptions} {j : Job} {p : Past} → Left o j p → Stays p.began p.run
+began_stays (history.started output memory field {s} e) = stays_here s
+began_stays (history.stepped {p} l i) = stays_on (began_stays l) (step_stays p.run p.field i).stays
 
-tol-told : {o : KrylovPhiOptions} {j : Job} {p : Past} → Resting o j p ⊎ Moving o j p → p.run.tol ≡ p.tol
-tol-told (inl h) = ap (λ (r : PausedRun). r.tol) h.run ∙ sym h.tol
-tol-told (inr h) = ap (λ (r : PausedRun). r.tol) h.stood.run
+tol_told : {o : KrylovPhiOptions} {j : Job} {p : Past} → Resting o j p ⊎ Moving o j p → p.run.tol ≡ p.tol
+tol_told (inl h) = ap (λ (r : PausedRun). r.tol) h.run ∙ sym h.tol
+tol_told (inr h) = ap (λ (r : PausedRun). r.tol) h.stood.run
 
-pub left-stays : {o : KrylovPhiOptions} {j : Job} {p : Past} → Left o j p → LeftStays p
-left-stays l = record { stays = began-stays l; tol = tol-told (left-stands l) }
+pub left_stays : {o : KrylovPhiOptions} {j : Job} {p : Past} → Left o j p → LeftStays p
+left_stays l = record { stays = began_stays l; tol = tol_told (left_stands l) }

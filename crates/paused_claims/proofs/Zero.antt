@@ -10,17 +10,17 @@ use lib.Ieee.Fits.{down_pos}
 use lib.Ieee.Exact.{HasValue, round_exact}
 use Rattle.doubles.specs.F64.{◌⊗◌, +0, is_finite}
 
-finite-value : (x : Float) (s : Bool) (a c : ℕ) → HasValue x s a c → is_finite x ≡ true
-finite-value nan s a c h = absurd h
-finite-value (inf t) s a c h = absurd h
-finite-value (fin t m e) s a c h = refl
+finite_value : (x : Float) (s : Bool) (a c : ℕ) → HasValue x s a c → is_finite x ≡ true
+finite_value nan s a c h = absurd h
+finite_value (inf t) s a c h = absurd h
+finite_value (fin t m e) s a c h = refl
 
-zero-rounded : (s : Bool) (a c : ℕ) → 0 < c → a ≡ 0 → is_finite (round binary64 s a c) ≡ true
-zero-rounded s a c C e =
+zero_rounded : (s : Bool) (a c : ℕ) → 0 < c → a ≡ 0 → is_finite (round binary64 s a c) ≡ true
+zero_rounded s a c C e =
     let f = binary64 in
-    finite-value (round f s a c) s a c
+    finite_value (round f s a c) s a c
     (round_exact f s a c 0 0 C (pow_pos (prec f)) (subst (λ (z : ℕ). z < 2 ^ (low f + suc (emax f))) (sym (zero-mul (2 ^ 0))) (pow_pos (low f + suc (emax f)))) (ap (λ (z : ℕ). z * 2 ^ low f) e ∙ zero-mul (2 ^ low f) ∙ sym (zero-mul c)))
 
-pub zero-times : (s : Bool) (m : ℕ) (d : ℤ) → is_finite (+0 ⊗ fin s m d) ≡ true
+pub zero_times : (s : Bool) (m : ℕ) (d : ℤ) → is_finite (+0 ⊗ fin s m d) ≡ true
 unfolding mul of_bits
-zero-times s m d = zero-rounded _ _ _ (mul-pos (down_pos (pos 0)) (down_pos d)) (ap (λ (z : ℕ). z * (m * up d)) (zero-mul (up (pos 0))) ∙ zero-mul (m * up d))
+zero_times s m d = zero_rounded _ _ _ (mul-pos (down_pos (pos 0)) (down_pos d)) (ap (λ (z : ℕ). z * (m * up d)) (zero-mul (up (pos 0))) ∙ zero-mul (m * up d))

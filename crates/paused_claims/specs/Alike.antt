@@ -3,7 +3,7 @@ use Rattle.std.specs.Prelude.{◌≡◌, List, ℕ, length, Float}
 use Rattle.doubles.specs.F64.{+0}
 use Rattle.checks.specs.First.{first}
 use Rattle.checks.specs.declared.Checked.TheVariants.{Sound}
-use Rattle.paused_run.specs.Paused.{PausedCall, Input, step-checks, step}
+use Rattle.paused_run.specs.Paused.{PausedCall, Input, step_checks, step}
 use Rattle.paused_run.specs.declared.PausedRun.{PausedRun}
 use Rattle.paused_run.specs.declared.Tolerance.{Tolerance}
 use Rattle.paused_run.specs.declared.Tolerance.TheVariants.{Same, New}
@@ -18,7 +18,7 @@ pub record SameStep (c d : PausedCall StepAnswer) : Type 0 where
   pub field : c.field ≡ d.field
 
 abbrev pub Blind : PausedRun → List Float → Type 0
-Blind s y = (i k : Input) → i.tolerance ≡ k.tolerance → i.job ≡ k.job → Sound ≡ first (step-checks s (length y) i) → Sound ≡ first (step-checks s (length y) k) → SameStep (step s y i) (step s y k)
+Blind s y = (i k : Input) → i.tolerance ≡ k.tolerance → i.job ≡ k.job → Sound ≡ first (step_checks s (length y) i) → Sound ≡ first (step_checks s (length y) k) → SameStep (step s y i) (step s y k)
 
 -- ---- 'a new tol for itself and the later ones'
 -- a refusal's number and double; 0 and +0 of none
@@ -26,12 +26,12 @@ abbrev pub number_in : StepAnswer → ℕ
 number_in (Refusal k x s) = k
 number_in (Stepped s) = 0
 
-abbrev pub double-in : StepAnswer → Float
-double-in (Refusal k x s) = x
-double-in (Stepped s) = +0
+abbrev pub double_in : StepAnswer → Float
+double_in (Refusal k x s) = x
+double_in (Stepped s) = +0
 
-abbrev pub run-with-tol : Float → PausedRun → PausedRun
-run-with-tol tol s =
+abbrev pub run_with_tol : Float → PausedRun → PausedRun
+run_with_tol tol s =
     record {
       time = s.time;
       next = s.next;
@@ -53,12 +53,12 @@ bringing t i = record { tolerance = t; job = i.job; output = i.output; memory = 
 -- c is d, the runs handed back but for their tol
 pub record SameButTol (tol : Float) (c d : PausedCall StepAnswer) : Type 0 where
   pub number : number_in c.answer ≡ number_in d.answer
-  pub double : double-in c.answer ≡ double-in d.answer
-  pub run : run-with-tol tol (run_in c.answer) ≡ run_in d.answer
+  pub double : double_in c.answer ≡ double_in d.answer
+  pub run : run_with_tol tol (run_in c.answer) ≡ run_in d.answer
   pub output : c.output ≡ d.output
   pub memory : c.memory ≡ d.memory
   pub field : c.field ≡ d.field
 
 -- a step with a new tol is the step, with none, of the run that has it
 abbrev pub NewTol : PausedRun → List Float → Type 0
-NewTol s y = (i : Input) (tol : Float) → SameButTol tol (step s y (bringing (New tol) i)) (step (run-with-tol tol s) y (bringing Same i))
+NewTol s y = (i : Input) (tol : Float) → SameButTol tol (step s y (bringing (New tol) i)) (step (run_with_tol tol s) y (bringing Same i))

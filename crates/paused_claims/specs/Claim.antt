@@ -17,7 +17,7 @@ pub record RunClaim (o : KrylovPhiOptions) (j : Job) (p : Past) : Type 0 where
   pub stays : LeftStays p
   pub early : (i : Input) → Plain i.job.g → EarlyClaim o j p i
   pub step : (i : Input) → StepClaim o j p i
-  pub at-limit : (i : Input) → Exactly27 o j p i
+  pub at_limit : (i : Input) → Exactly27 o j p i
   pub ended : EndedClaim j p
 
 pub record PausedClaim : Type 0 where
@@ -30,4 +30,4 @@ pub record PausedClaim : Type 0 where
   -- every step, on any state
   pub steps : (s : PausedRun) (y : List Float) (i : Input) → StepStays s y i
   pub blind : (s : PausedRun) (y : List Float) → Blind s y
-  pub new-tol : (s : PausedRun) (y : List Float) → NewTol s y
+  pub new_tol : (s : PausedRun) (y : List Float) → NewTol s y

@@ -5,13 +5,13 @@ use Rattle.doubles.specs.F64.{if◌then◌else◌, ◌⊗◌}
 use Rattle.checks.specs.First.{first}
 use Rattle.checks.specs.declared.Checked.{Checked}
 use Rattle.checks.specs.declared.Checked.TheVariants.{Sound, Refused}
-use Rattle.general_operator.specs.Csr.{row-sum-norm}
-use Rattle.combination.specs.Combination.{further, eta-of, combination-operator}
+use Rattle.general_operator.specs.Csr.{row_sum_norm}
+use Rattle.combination.specs.Combination.{further, eta_of, combination_operator}
 use Rattle.gram_schmidt.specs.Basis.{Setting}
 use Rattle.krylov_advance.specs.Run.{setting}
 use Rattle.krylov_job.specs.KrylovCall.{bound}
 use Rattle.krylov_job.specs.declared.KrylovPhiOptions.{KrylovPhiOptions}
-use Rattle.paused_run.specs.Paused.{Job, PausedCall, start, Input, step-checks, step}
+use Rattle.paused_run.specs.Paused.{Job, PausedCall, start, Input, step_checks, step}
 use Rattle.paused_run.specs.declared.PausedRun.{PausedRun}
 use Rattle.paused_run.specs.declared.Tolerance.{Tolerance}
 use Rattle.paused_run.specs.declared.Tolerance.TheVariants.{Same, New}
@@ -20,30 +20,30 @@ use Rattle.paused_run.specs.declared.StepAnswer.{StepAnswer}
 use Rattle.paused_run.specs.declared.StepAnswer.TheVariants.{Refusal, Stepped}
 use Rattle.demand_3.specs.Trace.{Run}
 use Rattle.demand_3.specs.Krylov.{euclidean}
-use Rattle.demand_3.specs.Demand3.{krylov-run, clamped}
+use Rattle.demand_3.specs.Demand3.{krylov_run, clamped}
 
 -- ---- what the start alone gives
 -- the run of the whole call with the start's options and job
 abbrev pub whole : KrylovPhiOptions → Job → Run
-whole o j = krylov-run j.g j.tau j.count j.w o
+whole o j = krylov_run j.g j.tau j.count j.w o
 
 -- n + d, and M
-abbrev pub values-in : Job → ℕ
-values-in j = j.g.matrix.n + (j.count - 1)
+abbrev pub values_in : Job → ℕ
+values_in j = j.g.matrix.n + (j.count - 1)
 
-abbrev pub dimension-in : KrylovPhiOptions → Job → ℕ
-dimension-in o j = clamped o.m (values-in j)
+abbrev pub dimension_in : KrylovPhiOptions → Job → ℕ
+dimension_in o j = clamped o.m (values_in j)
 
 -- the eta of a job's own vectors
-abbrev pub own-eta : Job → Float
-own-eta j = (eta-of j.g.matrix.n (further j.g.matrix.n j.w) j.tau (j.count - 1)).eta
+abbrev pub own_eta : Job → Float
+own_eta j = (eta_of j.g.matrix.n (further j.g.matrix.n j.w) j.tau (j.count - 1)).eta
 
 -- what a substep is made with, of a run started with o and j: matrix, tau and vectors of the job i that the step brings, the tol in force times the first norm;
 -- eta, first norm and M of the start
-abbrev pub made-with : KrylovPhiOptions → Job → Float → Job → Setting
-made-with o j tol i =
+abbrev pub made_with : KrylovPhiOptions → Job → Float → Job → Setting
+made_with o j tol i =
     let q = i.g.matrix in
-    setting (combination-operator q (further q.n i.w) i.tau (i.count - 1) (own-eta j)) i.tau (bound i.tau (row-sum-norm q)) (tol ⊗ euclidean (whole o j).field) (dimension-in o j)
+    setting (combination_operator q (further q.n i.w) i.tau (i.count - 1) (own_eta j)) i.tau (bound i.tau (row_sum_norm q)) (tol ⊗ euclidean (whole o j).field) (dimension_in o j)
 
 -- ---- what the calls leave
 -- the run that the start handed back; the run and its field as they were left; what its steps brought and what they answered; the tol in force, and what its
@@ -58,11 +58,11 @@ pub record Past : Type 0 where
   pub settings : List Setting
 
 -- a step on it, and its first check that holds
-abbrev pub call-on : Past → Input → PausedCall StepAnswer
-call-on p i = step p.run p.field i
+abbrev pub call_on : Past → Input → PausedCall StepAnswer
+call_on p i = step p.run p.field i
 
 abbrev pub checked : Past → Input → Checked
-checked p i = first (step-checks p.run (length p.field) i)
+checked p i = first (step_checks p.run (length p.field) i)
 
 -- it is not refused early
 abbrev pub Steps : Past → Input → Type 0
@@ -74,43 +74,43 @@ run_in (Refusal k x s) = s
 run_in (Stepped s) = s
 
 -- the tol in force at a step: 'a new tol for itself and the later ones'
-abbrev pub in-force : Tolerance → Float → Float
-in-force Same tol = tol
-in-force (New x) tol = x
+abbrev pub in_force : Tolerance → Float → Float
+in_force Same tol = tol
+in_force (New x) tol = x
 
 -- the tol after it: an early refusal, 28 and 29 leave the one before
-abbrev pub tol-kept : Checked → StepAnswer → Float → Float → Float
-tol-kept (Refused j y) a before now = before
-tol-kept Sound (Stepped s) before now = now
-tol-kept Sound (Refusal k x s) before now = if eqb k 27 then now else before
+abbrev pub tol_kept : Checked → StepAnswer → Float → Float → Float
+tol_kept (Refused j y) a before now = before
+tol_kept Sound (Stepped s) before now = now
+tol_kept Sound (Refusal k x s) before now = if eqb k 27 then now else before
 
 -- one more setting, unless it was refused early
 abbrev pub one_more : Checked → Setting → List Setting
 one_more (Refused k x) p = []
 one_more Sound p = p ∷ []
 
-abbrev pub at-start : KrylovPhiOptions → PausedRun → List Float → Past
-at-start o s y = record { began = s; run = s; field = y; inputs = []; answers = []; tol = o.tol; settings = [] }
+abbrev pub at_start : KrylovPhiOptions → PausedRun → List Float → Past
+at_start o s y = record { began = s; run = s; field = y; inputs = []; answers = []; tol = o.tol; settings = [] }
 
 abbrev pub next : KrylovPhiOptions → Job → Past → Input → Past
 next o j p i =
-    let c = call-on p i in
-    let tol = in-force i.tolerance p.tol in
+    let c = call_on p i in
+    let tol = in_force i.tolerance p.tol in
     record {
       began = p.began;
       run = run_in c.answer;
       field = c.field;
       inputs = p.inputs ++ (i ∷ []);
       answers = p.answers ++ (c.answer ∷ []);
-      tol = tol-kept (checked p i) c.answer p.tol tol;
-      settings = p.settings ++ one_more (checked p i) (made-with o j tol i.job);
+      tol = tol_kept (checked p i) c.answer p.tol tol;
+      settings = p.settings ++ one_more (checked p i) (made_with o j tol i.job);
     }
 
 -- started with o and j, and any steps after that
 pub data Left (o : KrylovPhiOptions) (j : Job) : Past → Type 0 where
-  started : (output memory field : List Float) {s : PausedRun} → (start o j output memory field).answer ≡ Started s → Left o j (at-start o s (start o j output memory field).field)
+  started : (output memory field : List Float) {s : PausedRun} → (start o j output memory field).answer ≡ Started s → Left o j (at_start o s (start o j output memory field).field)
   stepped : {p : Past} → Left o j p → (i : Input) → Left o j (next o j p i)
 
 -- its substeps so far, each with its own setting, from the start of the whole call
-abbrev pub run-so-far : KrylovPhiOptions → Job → Past → Run
-run-so-far o j p = record { first = (whole o j).first; settings = p.settings; field = (whole o j).field; prescale = (whole o j).prescale }
+abbrev pub run_so_far : KrylovPhiOptions → Job → Past → Run
+run_so_far o j p = record { first = (whole o j).first; settings = p.settings; field = (whole o j).field; prescale = (whole o j).prescale }

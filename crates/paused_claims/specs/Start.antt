@@ -4,14 +4,14 @@ use Rattle.std.specs.Float.{nan}
 use Rattle.lists.specs.Window.{window}
 use Rattle.doubles.specs.F64.{◌⊗◌, +0, 1f}
 use Rattle.vectors.specs.Vectors.{scale}
-use Rattle.pow2.specs.Pow2.{pow2-scale}
+use Rattle.pow2.specs.Pow2.{pow2_scale}
 use Rattle.pow2.specs.declared.Prescale.TheVariants.{By}
 use Rattle.checks.specs.First.{Check, first}
 use Rattle.checks.specs.declared.Checked.TheVariants.{Sound, Refused}
-use Rattle.general_operator.specs.Csr.{row-sum-norm}
+use Rattle.general_operator.specs.Csr.{row_sum_norm}
 use Rattle.combination.specs.Call.{cleared}
-use Rattle.krylov_advance.specs.Run.{first-length}
-use Rattle.krylov_job.specs.KrylovCall.{bound, krylov-need, krylov-checks}
+use Rattle.krylov_advance.specs.Run.{first_length}
+use Rattle.krylov_job.specs.KrylovCall.{bound, krylov_need, krylov_checks}
 use Rattle.krylov_job.specs.declared.KrylovPhiOptions.{KrylovPhiOptions}
 use Rattle.paused_run.specs.Paused.{Job, PausedCall, leaves}
 use Rattle.paused_run.specs.declared.PausedRun.{PausedRun}
@@ -19,30 +19,30 @@ use Rattle.paused_run.specs.declared.StartAnswer.{StartAnswer}
 use Rattle.paused_run.specs.declared.StartAnswer.TheVariants.{Refusal, Started}
 use Rattle.demand_3.specs.Krylov.{euclidean, Zeros}
 use Rattle.demand_3.specs.Demand3.{start_of}
-use Rattle.paused_claims.specs.History.{values-in, dimension-in, own-eta}
+use Rattle.paused_claims.specs.History.{values_in, dimension_in, own_eta}
 
 -- the n + d values from which the whole call starts
 abbrev pub values_of : Job → List Float
 values_of j = start_of j.g j.tau j.count j.w
 
 -- 'every check': those of the whole call
-abbrev pub job-checks : KrylovPhiOptions → Job → List Float → List Float → List Check
-job-checks o j output memory = krylov-checks j.g j.tau j.count j.w o (length output) (length memory)
+abbrev pub job_checks : KrylovPhiOptions → Job → List Float → List Float → List Check
+job_checks o j output memory = krylov_checks j.g j.tau j.count j.w o (length output) (length memory)
 
 -- what the whole call needs of the working memory
-abbrev pub need-in : KrylovPhiOptions → Job → Job → ℕ
-need-in o j i = krylov-need i.g.matrix.n (i.count - 1) (dimension-in o j) i.g.stored
+abbrev pub need_in : KrylovPhiOptions → Job → Job → ℕ
+need_in o j i = krylov_need i.g.matrix.n (i.count - 1) (dimension_in o j) i.g.stored
 
 -- a start is refused by k with x exactly so: the whole call is refused early so; or not, and the lent field is not n + d doubles ('another length: 26')
 abbrev pub Refuses : KrylovPhiOptions → Job → List Float → List Float → List Float → ℕ → Float → Type 0
 Refuses o j output memory field k x =
-    (Refused k x ≡ first (job-checks o j output memory)) ⊎ ((Sound ≡ first (job-checks o j output memory)) × (length field ≡ values-in j → ⊥) × (k ≡ 26) × (x ≡ nan))
+    (Refused k x ≡ first (job_checks o j output memory)) ⊎ ((Sound ≡ first (job_checks o j output memory)) × (length field ≡ values_in j → ⊥) × (k ≡ 26) × (x ≡ nan))
 
 -- 'elapsed time, .. report, .. eta, .. beside tol, m, limit, n, count': at time 0, with no substep
 pub record Unstepped (o : KrylovPhiOptions) (j : Job) (s : PausedRun) : Type 0 where
   pub time : s.time ≡ +0
   pub report : s.report ≡ record { matvecs = 0; substeps = 0; rejected = 0; est_error = +0; shortest = +0; last = +0 }
-  pub eta : s.eta ≡ own-eta j
+  pub eta : s.eta ≡ own_eta j
   pub tol : s.tol ≡ o.tol
   pub m : s.m ≡ o.m
   pub limit : s.limit ≡ o.max_substeps
@@ -59,26 +59,26 @@ pub record Idle (o : KrylovPhiOptions) (j : Job) (s : PausedRun) (c : PausedCall
   pub ended : s.ended ≡ true
   pub field : c.field ≡ values_of j
   pub output : c.output ≡ window 0 j.g.matrix.n (values_of j)
-  pub cleared-memory : c.memory ≡ cleared (need-in o j j) memory
+  pub cleared_memory : c.memory ≡ cleared (need_in o j j) memory
 
 -- any other: the values scaled by a power of two, their norm, and the step that the whole call proposes first
 pub record Ready (o : KrylovPhiOptions) (j : Job) (s : PausedRun) (c : PausedCall StartAnswer) (memory : List Float) : Type 0 where
   pub unstepped : Unstepped o j s
-  pub factors : pow2-scale (values_of j) ≡ By s.factors
+  pub factors : pow2_scale (values_of j) ≡ By s.factors
   pub field : c.field ≡ scale s.factors.down (values_of j)
   pub norm : s.norm ≡ euclidean c.field
-  pub next : s.next ≡ first-length (dimension-in o j) (bound j.tau (row-sum-norm j.g.matrix)) (o.tol ⊗ euclidean c.field) (euclidean c.field)
+  pub next : s.next ≡ first_length (dimension_in o j) (bound j.tau (row_sum_norm j.g.matrix)) (o.tol ⊗ euclidean c.field) (euclidean c.field)
   pub ended : s.ended ≡ false
   -- 'output and working memory are left as after a whole run that stopped there'
   pub output : c.output ≡ window 0 j.g.matrix.n (scale s.factors.up c.field)
-  pub cleared-memory : c.memory ≡ cleared (need-in o j j) memory
+  pub cleared_memory : c.memory ≡ cleared (need_in o j j) memory
 
 pub record StartClaim (o : KrylovPhiOptions) (j : Job) (output memory field : List Float) (c : PausedCall StartAnswer) : Type 0 where
   -- refused exactly so, and then nothing is changed
-  pub only-refused : (k : ℕ) (x : Float) → c.answer ≡ Refusal k x → Refuses o j output memory field k x
-  pub if-refused : (k : ℕ) (x : Float) → Refuses o j output memory field k x → c ≡ leaves (Refusal k x) output memory field
+  pub only_refused : (k : ℕ) (x : Float) → c.answer ≡ Refusal k x → Refuses o j output memory field k x
+  pub if_refused : (k : ℕ) (x : Float) → Refuses o j output memory field k x → c ≡ leaves (Refusal k x) output memory field
   -- else it hands back a run
-  pub if-accepted : Sound ≡ first (job-checks o j output memory) → length field ≡ values-in j → (s : PausedRun) × (c.answer ≡ Started s)
-  pub only-accepted : {s : PausedRun} → c.answer ≡ Started s → (Sound ≡ first (job-checks o j output memory)) × (length field ≡ values-in j)
+  pub if_accepted : Sound ≡ first (job_checks o j output memory) → length field ≡ values_in j → (s : PausedRun) × (c.answer ≡ Started s)
+  pub only_accepted : {s : PausedRun} → c.answer ≡ Started s → (Sound ≡ first (job_checks o j output memory)) × (length field ≡ values_in j)
   pub idle : {s : PausedRun} → c.answer ≡ Started s → Zeros (values_of j) → Idle o j s c memory
   pub ready : {s : PausedRun} → c.answer ≡ Started s → (Zeros (values_of j) → ⊥) → Ready o j s c memory

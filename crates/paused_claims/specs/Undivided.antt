@@ -2,63 +2,63 @@
 -- undivided one'). Whatever output and working memory its steps bring, and with steps refused early in between. Definitions only.
 use Rattle.std.specs.Prelude.{◌≡◌, true, false, List, [], ◌∷◌, ℕ, suc, ◌≤◌, length, Float}
 use Rattle.combination.specs.Call.{Call, ends}
-use Rattle.krylov_job.specs.KrylovCall.{phi-combination-krylov}
+use Rattle.krylov_job.specs.KrylovCall.{phi_combination_krylov}
 use Rattle.krylov_job.specs.declared.KrylovPhiOptions.{KrylovPhiOptions}
 use Rattle.krylov_job.specs.declared.KrylovAnswer.{KrylovAnswer}
-use Rattle.krylov_job.specs.declared.KrylovAnswer.TheVariants as krylov-answer
+use Rattle.krylov_job.specs.declared.KrylovAnswer.TheVariants as krylov_answer
 use Rattle.paused_run.specs.Paused.{Job, PausedCall, start, Input}
 use Rattle.paused_run.specs.declared.PausedRun.{PausedRun}
 use Rattle.paused_run.specs.declared.StartAnswer.TheVariants.{Started}
 use Rattle.paused_run.specs.declared.StepAnswer.{StepAnswer}
 use Rattle.paused_run.specs.declared.StepAnswer.TheVariants.{Refusal, Stepped}
 use Rattle.demand_3.specs.Krylov.{Each, Zeros}
-use Rattle.paused_claims.specs.History.{Past, call-on, Steps, in-force, at-start, next}
-use Rattle.paused_claims.specs.Start.{values_of, need-in}
+use Rattle.paused_claims.specs.History.{Past, call_on, Steps, in_force, at_start, next}
+use Rattle.paused_claims.specs.Start.{values_of, need_in}
 
 -- the start's job again, and no new tol or the start's
 pub record Unchanged (o : KrylovPhiOptions) (j : Job) (i : Input) : Type 0 where
   pub job : i.job ≡ j
-  pub tol : in-force i.tolerance o.tol ≡ o.tol
+  pub tol : in_force i.tolerance o.tol ≡ o.tol
 
 -- a run as it was left, each of whose steps was refused early or unchanged
 pub data LeftSame (o : KrylovPhiOptions) (j : Job) : Past → Type 0 where
-  started : (output memory field : List Float) {s : PausedRun} → (start o j output memory field).answer ≡ Started s → LeftSame o j (at-start o s (start o j output memory field).field)
+  started : (output memory field : List Float) {s : PausedRun} → (start o j output memory field).answer ≡ Started s → LeftSame o j (at_start o s (start o j output memory field).field)
   stepped : {p : Past} → LeftSame o j p → (i : Input) → (Steps p i → Unchanged o j i) → LeftSame o j (next o j p i)
 
 -- the whole call with this limit
 abbrev pub undivided : KrylovPhiOptions → Job → ℕ → List Float → List Float → Call KrylovAnswer
-undivided o j limit output memory = phi-combination-krylov j.g j.tau j.count j.w (record { tol = o.tol; m = o.m; max_substeps = limit }) output memory
+undivided o j limit output memory = phi_combination_krylov j.g j.tau j.count j.w (record { tol = o.tol; m = o.m; max_substeps = limit }) output memory
 
 -- after its k-th step that was not refused early: where the run goes on, output and working memory are those of the whole call with the limit k, which 27 refuses with the
 -- estimate; where it ends, they and the report or the refusal are the whole call's
 abbrev pub AsWhole : KrylovPhiOptions → Job → ℕ → List Float → List Float → PausedCall StepAnswer → StepAnswer → Type 0
 AsWhole o j k output memory c (Stepped s) =
-    (s.ended ≡ false → undivided o j k output memory ≡ ends (krylov-answer.Refusal 27 s.report.est_error) c.output c.memory)
-    × (s.ended ≡ true → undivided o j o.max_substeps output memory ≡ ends (krylov-answer.Result s.report) c.output c.memory)
-AsWhole o j k output memory c (Refusal r x s) = undivided o j o.max_substeps output memory ≡ ends (krylov-answer.Refusal r x) c.output c.memory
+    (s.ended ≡ false → undivided o j k output memory ≡ ends (krylov_answer.Refusal 27 s.report.est_error) c.output c.memory)
+    × (s.ended ≡ true → undivided o j o.max_substeps output memory ≡ ends (krylov_answer.Result s.report) c.output c.memory)
+AsWhole o j k output memory c (Refusal r x s) = undivided o j o.max_substeps output memory ≡ ends (krylov_answer.Refusal r x) c.output c.memory
 
 -- with the whole output, and enough working memory
 pub record Served (o : KrylovPhiOptions) (j : Job) (i : Input) : Type 0 where
   pub unchanged : Unchanged o j i
   pub output : length i.output ≡ j.g.matrix.n
-  pub memory : need-in o j j ≤ length i.memory
+  pub memory : need_in o j j ≤ length i.memory
 
-abbrev pub all-next : KrylovPhiOptions → Job → Past → List Input → Past
-all-next o j p [] = p
-all-next o j p (i ∷ l) = all-next o j (next o j p i) l
+abbrev pub all_next : KrylovPhiOptions → Job → Past → List Input → Past
+all_next o j p [] = p
+all_next o j p (i ∷ l) = all_next o j (next o j p i) l
 
 pub record UndividedClaim (o : KrylovPhiOptions) (j : Job) (p : Past) : Type 0 where
   -- p has had as many steps that were not refused early as it has settings
-  pub as-whole : (i : Input) → Steps p i → Unchanged o j i → AsWhole o j (suc (length p.settings)) i.output i.memory (call-on p i) (call-on p i).answer
+  pub as_whole : (i : Input) → Steps p i → Unchanged o j i → AsWhole o j (suc (length p.settings)) i.output i.memory (call_on p i) (call_on p i).answer
   -- which are at most max_substeps
   pub few : length p.settings ≤ o.max_substeps
   -- until it ends, a step that is served whole is not refused early
   pub goes_on : p.run.ended ≡ false → (i : Input) → Served o j i → Steps p i
   -- so it ends
-  pub ends_by : (l : List Input) → Each (Served o j) l → o.max_substeps ≤ length l → (all-next o j p l).run.ended ≡ true
+  pub ends_by : (l : List Input) → Each (Served o j) l → o.max_substeps ≤ length l → (all_next o j p l).run.ended ≡ true
 
--- of an all-zero start the start's call itself
+-- of an all_zero start the start's call itself
 abbrev pub ZeroWhole : KrylovPhiOptions → Job → List Float → List Float → List Float → Type 0
 ZeroWhole o j output memory field =
     let c = start o j output memory field in
-    (s : PausedRun) → c.answer ≡ Started s → Zeros (values_of j) → undivided o j o.max_substeps output memory ≡ ends (krylov-answer.Result s.report) c.output c.memory
+    (s : PausedRun) → c.answer ≡ Started s → Zeros (values_of j) → undivided o j o.max_substeps output memory ≡ ends (krylov_answer.Result s.report) c.output c.memory

@@ -4,8 +4,8 @@ ghost use Rattle.lists.specs.Window.{window};
 ghost use Rattle.vectors.specs.Vectors.{scale};
 ghost use Rattle.checks.specs.First.{first};
 ghost use Rattle.checks.specs.declared.Checked.TheVariants.{Sound};
-ghost use Rattle.paused_run.specs.Paused.{tol-in, options-in, over, moved, stopped, verdict};
-ghost use Rattle.paused_run.specs.Inner.{other-checks-by, fresh-of, state, turned};
+ghost use Rattle.paused_run.specs.Paused.{tol_in, options_in, over, moved, stopped, verdict};
+ghost use Rattle.paused_run.specs.Inner.{other_checks_by, fresh_of, state, turned};
 
 use checks::Checked;
 use krylov_advance::{Control, KrylovPhiReport, Progress};
@@ -70,7 +70,7 @@ pub fn fresh(
     ended: bool,
 ) -> PausedRun
     requires { j.d ≤ 3 }
-    ensures { result ≡ fresh-of o j f norm next ended }
+    ensures { result ≡ fresh_of o j f norm next ended }
 {
     PausedRun {
         time: 0.0,
@@ -97,7 +97,7 @@ pub fn fresh(
 
 // The tolerance in force.
 pub fn tol_in(tolerance: Tolerance, run: PausedRun) -> f64
-    ensures { result ≡ tol-in tolerance run }
+    ensures { result ≡ tol_in tolerance run }
 {
     match tolerance {
         Tolerance::Same => run.tol,
@@ -107,7 +107,7 @@ pub fn tol_in(tolerance: Tolerance, run: PausedRun) -> f64
 
 // The run's options with it.
 pub fn options_in(run: PausedRun, tol: f64) -> KrylovPhiOptions
-    ensures { result ≡ options-in run tol }
+    ensures { result ≡ options_in run tol }
 {
     KrylovPhiOptions {
         tol: tol,
@@ -140,7 +140,7 @@ fn is_other(run: PausedRun, n: usize, count: usize) -> bool
 
 // 16: another n or count than the start's.
 pub fn check_other(run: PausedRun, n: usize, count: usize, long: usize) -> Checked
-    ensures { result ≡ first (other-checks-by run n count long) }
+    ensures { result ≡ first (other_checks_by run n count long) }
 {
     if is_other(run, n, count) {
         return Checked::Refused(16, float::count(long));

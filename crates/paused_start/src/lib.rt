@@ -2,17 +2,17 @@
 ghost use Rattle.std.specs.Prelude.{◌≡◌, false, List, ℕ, ◌+◌, ◌≤◌, length, Float};
 ghost use Rattle.lists.specs.Window.{window};
 ghost use Rattle.vectors.specs.Vectors.{scale};
-ghost use Rattle.pow2.specs.Pow2.{pow2-scale};
+ghost use Rattle.pow2.specs.Pow2.{pow2_scale};
 ghost use Rattle.checks.specs.First.{Check, first};
 ghost use Rattle.checks.specs.declared.Checked.TheVariants.{Sound};
 ghost use Rattle.general_operator.specs.Csr.{csr};
 ghost use Rattle.generator_action.specs.Mass.{given};
 ghost use Rattle.generator_action.specs.Generator.{forward};
 ghost use Rattle.generator_action.specs.Known.{Passed};
-ghost use Rattle.combination.specs.Combination.{combination-start};
+ghost use Rattle.combination.specs.Combination.{combination_start};
 ghost use Rattle.combination.specs.Call.{cleared};
 ghost use Rattle.paused_run.specs.Paused.{leaves, start, over};
-ghost use Rattle.paused_run.specs.Inner.{job-over, first_of, begun-of};
+ghost use Rattle.paused_run.specs.Inner.{job_over, first_of, begun_of};
 
 use checks::Checked;
 use generator_action::{MatrixAnswer, Shape};
@@ -51,7 +51,7 @@ fn begin(
 ) -> StartAnswer
     requires d_bound { (j.d ≤ 3) × (j.k.m ≤ 128) × (j.need ≤ length work.old) × (j.g.n ≤ length w.now) }
     requires out_len { (length out.old ≡ j.g.n) × (length field.old ≡ j.g.n + j.d) }
-    ensures { leaves result out.new work.new field.new ≡ begun-of o j (combination-start j.g.n w.now j.d j.eta.inv) (cleared j.need work.old) (pow2-scale (combination-start j.g.n w.now j.d j.eta.inv)) }
+    ensures { leaves result out.new work.new field.new ≡ begun_of o j (combination_start j.g.n w.now j.d j.eta.inv) (cleared j.need work.old) (pow2_scale (combination_start j.g.n w.now j.d j.eta.inv)) }
 {
     let n = j.g.n;
     start_vectors::combination_start(n, w, j.d, j.eta.inv, field);
@@ -79,7 +79,7 @@ pub fn started(
     field: &mut [f64],
 ) -> StartAnswer
     requires { (g.n ≤ 1000000) × (g.stored ≤ 16777216) }
-    ensures { (gs : List Check) (starts cols : List ℕ) (vals mass : List Float) → Sound ≡ first gs → Passed (csr g.n starts cols vals) (given g.with_mass mass) g → leaves result out.new work.new field.new ≡ start o (job-over gs g starts cols vals mass tau count w.now) out.old work.old field.old }
+    ensures { (gs : List Check) (starts cols : List ℕ) (vals mass : List Float) → Sound ≡ first gs → Passed (csr g.n starts cols vals) (given g.with_mass mass) g → leaves result out.new work.new field.new ≡ start o (job_over gs g starts cols vals mass tau count w.now) out.old work.old field.old }
 {
     let none = Checked::Sound;
     let j = krylov_job::admit_job(g, tau, count, w, Eta::Own, o, out.len(), none, work.len());

@@ -8,7 +8,7 @@ ghost use Rattle.generator_action.specs.Generator.{forward};
 ghost use Rattle.generator_action.specs.Known.{Passed};
 ghost use Rattle.krylov_advance.specs.Run.{substep};
 ghost use Rattle.paused_run.specs.Paused.{leaves, over, step};
-ghost use Rattle.paused_run.specs.Inner.{job-over};
+ghost use Rattle.paused_run.specs.Inner.{job_over};
 
 use checks::Checked;
 use generator_action::{MatrixAnswer, Shape};
@@ -34,7 +34,7 @@ pub fn stepped(
 ) -> StepAnswer
     requires passed { Passed (csr g.n starts.now cols.now vals.now) (given g.with_mass mass.now) g }
     requires run_value { over run ≡ false }
-    ensures { (gs : List Check) → Sound ≡ first gs → leaves result out.new work.new field.new ≡ step run field.old (record { tolerance = tolerance; job = job-over gs g starts.now cols.now vals.now mass.now tau count w.now; output = out.old; memory = work.old }) }
+    ensures { (gs : List Check) → Sound ≡ first gs → leaves result out.new work.new field.new ≡ step run field.old (record { tolerance = tolerance; job = job_over gs g starts.now cols.now vals.now mass.now tau count w.now; output = out.old; memory = work.old }) }
 {
     let n = g.n;
     let tol = paused_run::tol_in(tolerance, run);

@@ -7,8 +7,8 @@ ghost use Rattle.generator_action.specs.Mass.{given};
 ghost use Rattle.generator_action.specs.Generator.{forward};
 ghost use Rattle.generator_action.specs.Known.{Passed};
 ghost use Rattle.combination.specs.Call.{ends};
-ghost use Rattle.taylor_schedule.specs.Inner.{after-checks};
-ghost use Rattle.taylor_job.specs.Calls.{phi-action};
+ghost use Rattle.taylor_schedule.specs.Inner.{after_checks};
+ghost use Rattle.taylor_job.specs.Calls.{phi_action};
 
 use checks::Checked;
 use generator_action::{MatrixAnswer, Shape};
@@ -29,7 +29,7 @@ pub fn acted(
     work: &mut [f64],
 ) -> TaylorAnswer
     requires { Passed (csr g.n starts.now cols.now vals.now) (given g.with_mass mass.now) g }
-    ensures { (gs : List Check) → Sound ≡ first gs → ends result out.new work.new ≡ phi-action (after-checks gs (csr g.n starts.now cols.now vals.now) (given g.with_mass mass.now) g) tau cap k v.now out.old work.old }
+    ensures { (gs : List Check) → Sound ≡ first gs → ends result out.new work.new ≡ phi_action (after_checks gs (csr g.n starts.now cols.now vals.now) (given g.with_mass mass.now) g) tau cap k v.now out.old work.old }
 {
     let j = admission::admit_action(g, tau, cap, k, v, out.len(), g.n, work.len());
     let checked = j.checked;
@@ -55,7 +55,7 @@ pub fn phi_action(
     out: &mut [f64],
     work: &mut [f64],
 ) -> TaylorAnswer
-    ensures { ends result out.new work.new ≡ phi-action (forward (csr n starts.now cols.now vals.now) (given with_mass mass.now)) tau cap k v.now out.old work.old }
+    ensures { ends result out.new work.new ≡ phi_action (forward (csr n starts.now cols.now vals.now) (given with_mass mass.now)) tau cap k v.now out.old work.old }
 {
     let matrix = generator_checks::check_generator(n, starts, cols, vals, with_mass, mass);
     let MatrixAnswer::Norm(norm, _) = matrix else {

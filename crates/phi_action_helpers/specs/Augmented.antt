@@ -3,9 +3,9 @@
 use Rattle.std.specs.Prelude.{List, ◌++◌, ℕ, ◌+◌, ltb, get_or, Float}
 use Rattle.std.specs.Float.Ieee.{neg}
 use Rattle.lists.specs.Loop.{iter, tabulate}
-use Rattle.lists.specs.Window.{window, open-Window}
+use Rattle.lists.specs.Window.{window, open_window}
 use Rattle.doubles.specs.F64.{if◌then◌else◌, ◌⊕◌, ◌⊖◌, ◌⊗◌, +0, at}
-use Rattle.general_operator.specs.Csr.{Csr, apply-generator, open-Csr}
+use Rattle.general_operator.specs.Csr.{Csr, apply_generator, open_csr}
 use Rattle.phi_action_helpers.specs.declared.Scales.{Scales}
 
 -- G = -matrix; W has `count` columns that are not 0, at most 3: column j is gains[j] times the n values from places[j] of the vectors; J shifts the d values of the chain up by one
@@ -29,12 +29,12 @@ unfoldable pub coupled : List Float → List ℕ → ℕ → List Float → ℕ 
 coupled vectors places count sc i acc = iter (λ j a. a ⊕ at sc j ⊗ at vectors (get_or places j 0 + i)) count acc
 
 -- the generator's share of a row
-unfoldable pub generator-term : Scales → Float → Float → Float
-generator-term k av u = if k.shifted then k.tau ⊗ av ⊖ k.mu ⊗ u else k.tau ⊗ av
+unfoldable pub generator_term : Scales → Float → Float → Float
+generator_term k av u = if k.shifted then k.tau ⊗ av ⊖ k.mu ⊗ u else k.tau ⊗ av
 
 -- value i of the chain of d
-unfoldable pub chain-term : Scales → ℕ → List Float → ℕ → Float
-chain-term k d c i =
+unfoldable pub chain_term : Scales → ℕ → List Float → ℕ → Float
+chain_term k d c i =
     if ltb (i + 1) d then (if k.shifted then k.one ⊗ at c (i + 1) ⊖ k.mu ⊗ at c i else k.one ⊗ at c (i + 1))
     else (if k.shifted then neg (k.mu ⊗ at c i) else +0)
 
@@ -42,20 +42,20 @@ chain-term k d c i =
 unfoldable pub top : Augmented → Scales → List Float → List Float → List Float → List Float
 top b k av u c =
     let sc = scalars b.gains b.count k.one c in
-    tabulate b.matrix.n (λ i. coupled b.vectors b.places b.count sc i (generator-term k (at av i) (at u i)))
+    tabulate b.matrix.n (λ i. coupled b.vectors b.places b.count sc i (generator_term k (at av i) (at u i)))
 
 -- the chain of a product
 unfoldable pub bottom : Scales → ℕ → List Float → List Float
-bottom k d c = tabulate d (chain-term k d c)
+bottom k d c = tabulate d (chain_term k d c)
 
 -- one product with the operator
-unfoldable pub aug-matvec : Augmented → Scales → List Float → List Float
-aug-matvec b k x =
+unfoldable pub aug_matvec : Augmented → Scales → List Float → List Float
+aug_matvec b k x =
     let u = window 0 b.matrix.n x in
     let c = window b.matrix.n b.d x in
-    top b k (apply-generator b.matrix u) u c ++ bottom k b.d c
+    top b k (apply_generator b.matrix u) u c ++ bottom k b.d c
 
--- to compute: a line `unfolding open-Augmented` opens every definition of this file and of those below it
-unfoldable pub open-Augmented : Unit {0}
-unfolding scalars coupled generator-term chain-term top bottom aug-matvec open-Window open-Csr
-open-Augmented = tt
+-- to compute: a line `unfolding open_augmented` opens every definition of this file and of those below it
+unfoldable pub open_augmented : Unit {0}
+unfolding scalars coupled generator_term chain_term top bottom aug_matvec open_window open_csr
+open_augmented = tt

@@ -4,10 +4,10 @@ ghost use Rattle.lists.specs.Loop.{tabulate};
 ghost use Rattle.lists.specs.Window.{window, splice};
 ghost use Rattle.lists.specs.Bounds.{Apart};
 ghost use Rattle.doubles.specs.F64.{◌⊕◌, ◌⊗◌, at};
-ghost use Rattle.general_operator.specs.Csr.{apply-generator};
-ghost use Rattle.phi_action_helpers.specs.Augmented.{scalars, coupled, generator-term, chain-term, bottom, aug-matvec};
+ghost use Rattle.general_operator.specs.Csr.{apply_generator};
+ghost use Rattle.phi_action_helpers.specs.Augmented.{scalars, coupled, generator_term, chain_term, bottom, aug_matvec};
 ghost use Rattle.phi_action_helpers.specs.Sweeps.{shifted};
-ghost use Rattle.phi_action_helpers.specs.Laid.{matrix-at, operator-at, Ready, added};
+ghost use Rattle.phi_action_helpers.specs.Laid.{matrix_at, operator_at, Ready, added};
 
 // The schedule: s sweeps of degree m, and the shift mu, 0 for none.
 #[derive(Drop)]
@@ -68,7 +68,7 @@ pub fn scalars(gains: [f64; 3], count: usize, one: f64, c: &[f64]) -> [f64; 3]
 
 // The generator's share of a row.
 pub fn generator_term(k: Scales, av: f64, u: f64) -> f64
-    ensures { result ≡ generator-term k av u }
+    ensures { result ≡ generator_term k av u }
 {
     if k.shifted {
         k.tau * av - k.mu * u
@@ -81,7 +81,7 @@ pub fn generator_term(k: Scales, av: f64, u: f64) -> f64
 fn generator_terms_in(k: Scales, work: &mut [f64], w: usize, av: usize, n: usize)
     requires n_in_bounds { (w + n ≤ length work.old) × (av + n ≤ length work.old) }
     requires apart { Apart w av n }
-    ensures { work.new ≡ splice w (tabulate n (λ i. generator-term k (at work.old (av + i)) (at work.old (w + i)))) work.old }
+    ensures { work.new ≡ splice w (tabulate n (λ i. generator_term k (at work.old (av + i)) (at work.old (w + i)))) work.old }
 {
     for i in 0..n {
         work[w + i] = generator_term(k, work[av + i], work[w + i]);
@@ -133,7 +133,7 @@ fn top_in(
     requires count_bound { (count ≤ 3) × ((j : ℕ) → j < count → get_or places j 0 + n ≤ length vectors.now) }
     requires n_in_bounds { (w + n ≤ length work.old) × (av + n ≤ length work.old) }
     requires apart { Apart w av n }
-    ensures { work.new ≡ splice w (tabulate n (λ i. coupled vectors.now places count sc i (generator-term k (at work.old (av + i)) (at work.old (w + i))))) work.old }
+    ensures { work.new ≡ splice w (tabulate n (λ i. coupled vectors.now places count sc i (generator_term k (at work.old (av + i)) (at work.old (w + i))))) work.old }
 {
     generator_terms_in(k, work, w, av, n);
     columns_in(vectors, places, sc, count, work, w, n);
@@ -142,7 +142,7 @@ fn top_in(
 // Value i of the product's chain.
 fn chain_term(k: Scales, c: &[f64], i: usize) -> f64
     requires { i < length c.now }
-    ensures { result ≡ chain-term k (length c.now) c.now i }
+    ensures { result ≡ chain_term k (length c.now) c.now i }
 {
     if i + 1 < c.len() {
         if k.shifted {
@@ -181,7 +181,7 @@ pub fn aug_matvec(
     k: Scales,
 )
     requires { Ready l b starts.now cols.now vals.now vectors.now work.old }
-    ensures { work.new ≡ splice l.w (aug-matvec (operator-at l b starts.now cols.now vals.now vectors.now work.old) k (window l.w (l.n + l.d) work.old)) (splice l.av (apply-generator (matrix-at l starts.now cols.now vals.now work.old) (window l.w l.n work.old)) work.old) }
+    ensures { work.new ≡ splice l.w (aug_matvec (operator_at l b starts.now cols.now vals.now vectors.now work.old) k (window l.w (l.n + l.d) work.old)) (splice l.av (apply_generator (matrix_at l starts.now cols.now vals.now work.old) (window l.w l.n work.old)) work.old) }
 {
     let n = l.n;
     let d = l.d;
@@ -214,7 +214,7 @@ pub fn aug_product(
 )
     requires ready { Ready l b starts.now cols.now vals.now vectors.now work.old }
     requires d_bound { (src + (l.n + l.d) ≤ l.w) × (l.w + (l.n + l.d) ≤ l.q) × (k.shifted ≡ false) }
-    ensures { work.new ≡ splice l.w (aug-matvec (operator-at l b starts.now cols.now vals.now vectors.now work.old) k (window src (l.n + l.d) work.old)) work.old }
+    ensures { work.new ≡ splice l.w (aug_matvec (operator_at l b starts.now cols.now vals.now vectors.now work.old) k (window src (l.n + l.d) work.old)) work.old }
 {
     let n = l.n;
     let d = l.d;

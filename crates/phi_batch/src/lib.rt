@@ -8,11 +8,11 @@ ghost use Rattle.general_operator.specs.Csr.{csr};
 ghost use Rattle.generator_action.specs.Mass.{given};
 ghost use Rattle.generator_action.specs.Generator.{forward};
 ghost use Rattle.generator_action.specs.Known.{Passed};
-ghost use Rattle.phi_action_helpers.specs.Laid.{operator-at, Ready, Lined};
+ghost use Rattle.phi_action_helpers.specs.Laid.{operator_at, Ready, Lined};
 ghost use Rattle.combination.specs.Call.{ends};
-ghost use Rattle.taylor_schedule.specs.Inner.{Coupled, matrix-of, after-checks};
-ghost use Rattle.taylor_job.specs.Inner.{layout, operator-by, job-end, Allowed};
-ghost use Rattle.taylor_job.specs.Calls.{batched, phi-action-batched};
+ghost use Rattle.taylor_schedule.specs.Inner.{Coupled, matrix_of, after_checks};
+ghost use Rattle.taylor_job.specs.Inner.{layout, operator_by, job_end, Allowed};
+ghost use Rattle.taylor_job.specs.Calls.{batched, phi_action_batched};
 
 use checks::Checked;
 use generator_action::{MatrixAnswer, Shape};
@@ -35,8 +35,8 @@ fn sweep_batch(
     requires ready { Ready x.l x.b starts.now cols.now vals.now v.now work.old }
     requires lined { Lined x.l × (x.p.s ≤ 4294967295) × (x.p.m ≤ 30) × (x.l.d ≡ 3) }
     requires v_len { (length v.now ≡ x.l.n) × (count ≤ 4) × (length out.old ≡ count * x.l.n) }
-    ensures value { result ≡ (batched (operator-at x.l x.b starts.now cols.now vals.now v.now work.old) x.tau v.now inv count x.p).applied }
-    ensures out_after { out.new ≡ (batched (operator-at x.l x.b starts.now cols.now vals.now v.now work.old) x.tau v.now inv count x.p).fields }
+    ensures value { result ≡ (batched (operator_at x.l x.b starts.now cols.now vals.now v.now work.old) x.tau v.now inv count x.p).applied }
+    ensures out_after { out.new ≡ (batched (operator_at x.l x.b starts.now cols.now vals.now v.now work.old) x.tau v.now inv count x.p).fields }
     ensures kept { Kept 0 x.l.q +0 work.old work.new }
 {
     let n = x.l.n;
@@ -63,7 +63,7 @@ fn run_batch(
     requires allowed { Allowed starts.now cols.now vals.now mass.now work.old j }
     requires coupled { Coupled j.b j.g.n j.d (length v.now) }
     requires d_value { (j.d ≡ 3) × (length v.now ≡ j.g.n) × (count ≤ 4) × (length out.old ≡ count * j.g.n) }
-    ensures { ends result out.new work.new ≡ job-end j (matrix-of j.g starts.now cols.now vals.now mass.now) (batched (operator-by j (matrix-of j.g starts.now cols.now vals.now mass.now) v.now) j.tau v.now j.inv count) work.old }
+    ensures { ends result out.new work.new ≡ job_end j (matrix_of j.g starts.now cols.now vals.now mass.now) (batched (operator_by j (matrix_of j.g starts.now cols.now vals.now mass.now) v.now) j.tau v.now j.inv count) work.old }
 {
     let g = j.g;
     let l = taylor_job::layout(g.n, j.d, g.with_mass);
@@ -94,7 +94,7 @@ pub fn acted_batched(
     work: &mut [f64],
 ) -> TaylorAnswer
     requires { Passed (csr g.n starts.now cols.now vals.now) (given g.with_mass mass.now) g }
-    ensures { (gs : List Check) → Sound ≡ first gs → ends result out.new work.new ≡ phi-action-batched (after-checks gs (csr g.n starts.now cols.now vals.now) (given g.with_mass mass.now) g) tau cap p v.now out.old work.old }
+    ensures { (gs : List Check) → Sound ≡ first gs → ends result out.new work.new ≡ phi_action_batched (after_checks gs (csr g.n starts.now cols.now vals.now) (given g.with_mass mass.now) g) tau cap p v.now out.old work.old }
 {
     let index = combination::check_index(p);
     let Checked::Sound = index else {
@@ -124,7 +124,7 @@ pub fn phi_action_batched(
     out: &mut [f64],
     work: &mut [f64],
 ) -> TaylorAnswer
-    ensures { ends result out.new work.new ≡ phi-action-batched (forward (csr n starts.now cols.now vals.now) (given with_mass mass.now)) tau cap p v.now out.old work.old }
+    ensures { ends result out.new work.new ≡ phi_action_batched (forward (csr n starts.now cols.now vals.now) (given with_mass mass.now)) tau cap p v.now out.old work.old }
 {
     let matrix = generator_checks::check_generator(n, starts, cols, vals, with_mass, mass);
     let MatrixAnswer::Norm(norm, _) = matrix else {

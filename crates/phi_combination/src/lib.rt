@@ -7,8 +7,8 @@ ghost use Rattle.generator_action.specs.Mass.{given};
 ghost use Rattle.generator_action.specs.Generator.{forward};
 ghost use Rattle.generator_action.specs.Known.{Passed};
 ghost use Rattle.combination.specs.Call.{ends};
-ghost use Rattle.taylor_schedule.specs.Inner.{after-checks};
-ghost use Rattle.taylor_job.specs.Calls.{phi-combination};
+ghost use Rattle.taylor_schedule.specs.Inner.{after_checks};
+ghost use Rattle.taylor_job.specs.Calls.{phi_combination};
 
 use checks::Checked;
 use generator_action::{MatrixAnswer, Shape};
@@ -29,7 +29,7 @@ pub fn combined(
     work: &mut [f64],
 ) -> TaylorAnswer
     requires { Passed (csr g.n starts.now cols.now vals.now) (given g.with_mass mass.now) g }
-    ensures { (gs : List Check) → Sound ≡ first gs → ends result out.new work.new ≡ phi-combination (after-checks gs (csr g.n starts.now cols.now vals.now) (given g.with_mass mass.now) g) tau cap count w.now out.old work.old }
+    ensures { (gs : List Check) → Sound ≡ first gs → ends result out.new work.new ≡ phi_combination (after_checks gs (csr g.n starts.now cols.now vals.now) (given g.with_mass mass.now) g) tau cap count w.now out.old work.old }
 {
     let n = g.n;
     let time = combination::check_plan(tau, cap);
@@ -63,7 +63,7 @@ pub fn phi_combination(
     out: &mut [f64],
     work: &mut [f64],
 ) -> TaylorAnswer
-    ensures { ends result out.new work.new ≡ phi-combination (forward (csr n starts.now cols.now vals.now) (given with_mass mass.now)) tau cap count w.now out.old work.old }
+    ensures { ends result out.new work.new ≡ phi_combination (forward (csr n starts.now cols.now vals.now) (given with_mass mass.now)) tau cap count w.now out.old work.old }
 {
     let matrix = generator_checks::check_generator(n, starts, cols, vals, with_mass, mass);
     let MatrixAnswer::Norm(norm, _) = matrix else {

@@ -7,8 +7,8 @@ ghost use Rattle.generator_action.specs.Mass.{given};
 ghost use Rattle.generator_action.specs.Generator.{forward};
 ghost use Rattle.generator_action.specs.Known.{Passed};
 ghost use Rattle.combination.specs.Call.{ends};
-ghost use Rattle.taylor_schedule.specs.Inner.{after-checks};
-ghost use Rattle.krylov_job.specs.KrylovCall.{phi-combination-krylov};
+ghost use Rattle.taylor_schedule.specs.Inner.{after_checks};
+ghost use Rattle.krylov_job.specs.KrylovCall.{phi_combination_krylov};
 
 use checks::Checked;
 use generator_action::{MatrixAnswer, Shape};
@@ -29,7 +29,7 @@ pub fn combined(
     work: &mut [f64],
 ) -> KrylovAnswer
     requires { Passed (csr g.n starts.now cols.now vals.now) (given g.with_mass mass.now) g }
-    ensures { (gs : List Check) → Sound ≡ first gs → ends result out.new work.new ≡ phi-combination-krylov (after-checks gs (csr g.n starts.now cols.now vals.now) (given g.with_mass mass.now) g) tau count w.now o out.old work.old }
+    ensures { (gs : List Check) → Sound ≡ first gs → ends result out.new work.new ≡ phi_combination_krylov (after_checks gs (csr g.n starts.now cols.now vals.now) (given g.with_mass mass.now) g) tau count w.now o out.old work.old }
 {
     let n = g.n;
     let sound = Checked::Sound;
@@ -57,7 +57,7 @@ pub fn phi_combination_krylov(
     out: &mut [f64],
     work: &mut [f64],
 ) -> KrylovAnswer
-    ensures { ends result out.new work.new ≡ phi-combination-krylov (forward (csr n starts.now cols.now vals.now) (given with_mass mass.now)) tau count w.now o out.old work.old }
+    ensures { ends result out.new work.new ≡ phi_combination_krylov (forward (csr n starts.now cols.now vals.now) (given with_mass mass.now)) tau count w.now o out.old work.old }
 {
     let matrix = generator_checks::check_generator(n, starts, cols, vals, with_mass, mass);
     let MatrixAnswer::Norm(norm, _) = matrix else {

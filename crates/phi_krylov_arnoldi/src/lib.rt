@@ -5,11 +5,11 @@ ghost use Rattle.lists.specs.Frame.{Kept};
 ghost use Rattle.doubles.specs.F64.{+0};
 ghost use Rattle.phi_action_helpers.specs.declared.Coupling.{Coupling};
 ghost use Rattle.phi_action_helpers.specs.declared.Layout.{Layout};
-ghost use Rattle.phi_action_helpers.specs.Laid.{matrix-at};
-ghost use Rattle.gram_schmidt.specs.Memory.{setting-at, Room};
-ghost use Rattle.krylov_advance.specs.Run.{first-length, substep, relative-report};
+ghost use Rattle.phi_action_helpers.specs.Laid.{matrix_at};
+ghost use Rattle.gram_schmidt.specs.Memory.{setting_at, Room};
+ghost use Rattle.krylov_advance.specs.Run.{first_length, substep, relative_report};
 ghost use Rattle.krylov_advance.specs.declared.KrylovPhiReport.{KrylovPhiReport};
-ghost use Rattle.krylov_advance.specs.Memory.{products, state-at, progress-at};
+ghost use Rattle.krylov_advance.specs.Memory.{products, state_at, progress_at};
 
 use gram_schmidt::{BasisAnswer, Krylov};
 use krylov_advance::{Control, KrylovPhiReport, Progress};
@@ -26,7 +26,7 @@ const MIN_POSITIVE: f64 = 2.2250738585072014e-308;
 // The first length proposed.
 pub fn first_length(m: usize, anorm: f64, tol: f64, beta: f64) -> f64
     requires { m ≤ 128 }
-    ensures { result ≡ first-length m anorm tol beta }
+    ensures { result ≡ first_length m anorm tol beta }
 {
     let m1 = float::count(m) + 1.0;
     let fact = power::power(m1 / E, (m + 1) as u64) * sqrt::sqrt(TWO_PI * m1);
@@ -57,9 +57,9 @@ pub fn substep(
     c: Control,
     r: KrylovPhiReport,
 ) -> Progress
-    requires room { Room l b k (matrix-at l starts.now cols.now vals.now work.old) (length vals.now) (length vectors.now) (length work.old) }
+    requires room { Room l b k (matrix_at l starts.now cols.now vals.now work.old) (length vals.now) (length vectors.now) (length work.old) }
     requires m_bound { (k.m ≤ 128) × (r.matvecs ≤ 1000000000) × (r.substeps ≤ 1000000) × (r.rejected ≤ 1000000000) }
-    ensures work_after { progress-at l k result work.new ≡ substep (setting-at l b k (matrix-at l starts.now cols.now vals.now work.old) vectors.now) (state-at l k c r work.old) }
+    ensures work_after { progress_at l k result work.new ≡ substep (setting_at l b k (matrix_at l starts.now cols.now vals.now work.old) vectors.now) (state_at l k c r work.old) }
     ensures kept { Kept 0 l.q +0 work.old work.new }
 {
     let basis = arnoldi::arnoldi(starts, cols, vals, vectors, work, l, b, k, c.beta);
@@ -85,7 +85,7 @@ pub fn substep(
 }
 
 pub fn relative_report(r: KrylovPhiReport, beta: f64) -> KrylovPhiReport
-    ensures { result ≡ relative-report r beta }
+    ensures { result ≡ relative_report r beta }
 {
     KrylovPhiReport {
         matvecs: r.matvecs,

@@ -1,12 +1,12 @@
 -- The sweep plan (phi_action.rs, `phi_schedule`; phi_shift.rs, `sweep_plan`). Definitions only.
 use Rattle.std.specs.Prelude.{Bool, true, not, ◌&&◌, ◌≡◌, ℕ, ◌*◌, ◌<◌, ltb, Float}
 use Rattle.std.specs.Float.Ieee.{eq}
-use Rattle.doubles.specs.F64.{if◌then◌else◌, ◌⊕◌, ◌⊗◌, ◌⩽◌, +0, 2f, abs, is_finite, maxNum}
+use Rattle.doubles.specs.F64.{if◌then◌else◌, ◌⊕◌, ◌⊗◌, ◌⩽◌, +0, 2f, abs, is_finite, max_num}
 use Rattle.general_operator.specs.Csr.{Csr}
-use Rattle.csr_shift.specs.Shift.{negated-csr-shift, open-Shift}
+use Rattle.csr_shift.specs.Shift.{negated_csr_shift, open_shift}
 use Rattle.csr_shift.specs.declared.Shift.{Shift}
 use Rattle.csr_shift.specs.declared.Shift.TheVariants.{Unshifted, By}
-use Rattle.expmv.specs.Select.{select-s-m, admissible, cost, Least, open-Select}
+use Rattle.expmv.specs.Select.{select_s_m, admissible, cost, Least, open_select}
 use Rattle.expmv.specs.declared.Selected.{Selected}
 use Rattle.expmv.specs.declared.Selected.TheVariants.{NoRow, Row}
 use Rattle.phi_action_helpers.specs.declared.SweepPlan.{SweepPlan}
@@ -18,45 +18,45 @@ unfoldable pub argument : Float → Float → Float
 argument tau norm = (tau ⊗ norm ⊕ 2f) ⊗ 2f
 
 -- the bound of the shifted one: the shift counts on the chain too
-unfoldable pub shifted-bound : Float → Float → Float → Float
-shifted-bound tau mu norm = maxNum (tau ⊗ norm) (abs mu) ⊕ 2f
+unfoldable pub shifted_bound : Float → Float → Float → Float
+shifted_bound tau mu norm = max_num (tau ⊗ norm) (abs mu) ⊕ 2f
 
 abbrev pub plan : ℕ → ℕ → Float → SweepPlan
 plan s m mu = record { s = s; m = m; mu = mu }
 
 -- the shifted row, if there is one and it costs strictly less
-unfoldable pub cheaper-shifted : ℕ → ℕ → Float → Selected → SweepPlan
-cheaper-shifted s m mu NoRow = plan s m +0
-cheaper-shifted s m mu (Row s₂ m₂) = if ltb (s₂ * m₂) (s * m) then plan s₂ m₂ mu else plan s m +0
+unfoldable pub cheaper_shifted : ℕ → ℕ → Float → Selected → SweepPlan
+cheaper_shifted s m mu NoRow = plan s m +0
+cheaper_shifted s m mu (Row s₂ m₂) = if ltb (s₂ * m₂) (s * m) then plan s₂ m₂ mu else plan s m +0
 
 -- a shift that is no number, 0 or of a norm that is none is not taken
 unfoldable pub usable : Float → Float → Float → Bool
-usable tau mu norm = not (eq mu +0) && (is_finite mu && (is_finite norm && (+0 ⩽ norm && is_finite (shifted-bound tau mu norm))))
+usable tau mu norm = not (eq mu +0) && (is_finite mu && (is_finite norm && (+0 ⩽ norm && is_finite (shifted_bound tau mu norm))))
 
 unfoldable pub with_shift : ℕ → Float → ℕ → ℕ → Shift → SweepPlan
-with_shift m-max tau s m Unshifted = plan s m +0
-with_shift m-max tau s m (By g norm) =
+with_shift m_max tau s m Unshifted = plan s m +0
+with_shift m_max tau s m (By g norm) =
     let mu = tau ⊗ g in
-    if usable tau mu norm then cheaper-shifted s m mu (select-s-m m-max (shifted-bound tau mu norm ⊗ 2f)) else plan s m +0
+    if usable tau mu norm then cheaper_shifted s m mu (select_s_m m_max (shifted_bound tau mu norm ⊗ 2f)) else plan s m +0
 
-unfoldable pub plan-of : ℕ → Float → Csr → Float → Selected → PlanAnswer
-plan-of m-max tau q norm NoRow = NoPlan
-plan-of m-max tau q norm (Row s m) = Plan (with_shift m-max tau s m (negated-csr-shift q norm))
+unfoldable pub plan_of : ℕ → Float → Csr → Float → Selected → PlanAnswer
+plan_of m_max tau q norm NoRow = NoPlan
+plan_of m_max tau q norm (Row s m) = Plan (with_shift m_max tau s m (negated_csr_shift q norm))
 
--- `sweep_plan` of the generator -q with the norm: the highest degree is m-max
-unfoldable pub sweep-plan : ℕ → Float → Csr → Float → PlanAnswer
-sweep-plan m-max tau q norm = plan-of m-max tau q norm (select-s-m m-max (argument tau norm))
+-- `sweep_plan` of the generator -q with the norm: the highest degree is m_max
+unfoldable pub sweep_plan : ℕ → Float → Csr → Float → PlanAnswer
+sweep_plan m_max tau q norm = plan_of m_max tau q norm (select_s_m m_max (argument tau norm))
 
 -- What is chosen (document 01, 'expmv.rs', 'phi_shift.rs'): the first row of least cost that the unshifted argument admits; or, of the shifted argument, the
 -- first of least cost, where it costs strictly less than each row that the unshifted one admits.
-pub data Chosen (m-max : ℕ) (tau : Float) (q : Csr) (norm : Float) (p : SweepPlan) : Type 0 where
-  unshifted : p.mu ≡ +0 → (i : ℕ) → Least m-max (argument tau norm) 22 p.s p.m i → Chosen m-max tau q norm p
-  shifted : (g norm₂ : Float) → negated-csr-shift q norm ≡ By g norm₂ → p.mu ≡ tau ⊗ g
-      → (i : ℕ) → Least m-max (shifted-bound tau p.mu norm₂ ⊗ 2f) 22 p.s p.m i
-      → ((j : ℕ) → j < 22 → admissible m-max (argument tau norm) j ≡ true → p.s * p.m < cost (argument tau norm) j)
-      → Chosen m-max tau q norm p
+pub data Chosen (m_max : ℕ) (tau : Float) (q : Csr) (norm : Float) (p : SweepPlan) : Type 0 where
+  unshifted : p.mu ≡ +0 → (i : ℕ) → Least m_max (argument tau norm) 22 p.s p.m i → Chosen m_max tau q norm p
+  shifted : (g norm₂ : Float) → negated_csr_shift q norm ≡ By g norm₂ → p.mu ≡ tau ⊗ g
+      → (i : ℕ) → Least m_max (shifted_bound tau p.mu norm₂ ⊗ 2f) 22 p.s p.m i
+      → ((j : ℕ) → j < 22 → admissible m_max (argument tau norm) j ≡ true → p.s * p.m < cost (argument tau norm) j)
+      → Chosen m_max tau q norm p
 
--- to compute: a line `unfolding open-Plan` opens every definition of this file and of those below it
-unfoldable pub open-Plan : Unit {0}
-unfolding argument shifted-bound cheaper-shifted usable with_shift plan-of sweep-plan open-Shift open-Select
-open-Plan = tt
+-- to compute: a line `unfolding open_plan` opens every definition of this file and of those below it
+unfoldable pub open_plan : Unit {0}
+unfolding argument shifted_bound cheaper_shifted usable with_shift plan_of sweep_plan open_shift open_select
+open_plan = tt

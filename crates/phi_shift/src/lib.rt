@@ -1,7 +1,7 @@
 // The sweep plan: unshifted, or shifted where that costs strictly less.
 ghost use Rattle.std.specs.Prelude.{◌≡◌};
 ghost use Rattle.general_operator.specs.Csr.{csr, Valid};
-ghost use Rattle.phi_shift.specs.Plan.{argument, shifted-bound, cheaper-shifted, usable, with_shift, sweep-plan};
+ghost use Rattle.phi_shift.specs.Plan.{argument, shifted_bound, cheaper_shifted, usable, with_shift, sweep_plan};
 
 use csr_shift::Shift;
 use expmv::Selected;
@@ -22,7 +22,7 @@ pub fn argument(tau: f64, norm: f64) -> f64
 }
 
 fn shifted_bound(tau: f64, mu: f64, norm: f64) -> f64
-    ensures { result ≡ shifted-bound tau mu norm }
+    ensures { result ≡ shifted_bound tau mu norm }
 {
     float::max(tau * norm, float::abs(mu)) + 2.0
 }
@@ -47,7 +47,7 @@ fn usable(tau: f64, mu: f64, norm: f64) -> bool
 
 // The shifted row only where it costs strictly less.
 fn cheaper_shifted(s: u32, m: u32, mu: f64, row: Selected) -> SweepPlan
-    ensures { result ≡ cheaper-shifted s m mu row }
+    ensures { result ≡ cheaper_shifted s m mu row }
 {
     let Selected::Row(s2, m2) = row else {
         return SweepPlan {
@@ -102,7 +102,7 @@ pub fn sweep_plan(
     norm: f64,
 ) -> PlanAnswer
     requires { Valid (csr n starts.now cols.now vals.now) }
-    ensures { result ≡ sweep-plan m_max tau (csr n starts.now cols.now vals.now) norm }
+    ensures { result ≡ sweep_plan m_max tau (csr n starts.now cols.now vals.now) norm }
 {
     let row = expmv::select_s_m(m_max, argument(tau, norm));
     let Selected::Row(s, m) = row else {

@@ -5,10 +5,10 @@ use Prim.Native.Nat.{ℕ}
 use lib.Ieee.{Float}
 use Rattle.generator_action.specs.Generator.{Generator}
 use Rattle.combination.specs.Call.{Call, ends}
-use Rattle.taylor_job.specs.Calls.{phi-combination}
+use Rattle.taylor_job.specs.Calls.{phi_combination}
 use Rattle.taylor_job.specs.declared.TaylorAnswer.{TaylorAnswer}
-use Rattle.krylov_job.specs.KrylovCall.{phi-combination-krylov}
-use Rattle.phi_solver.specs.Combine.{of-taylor, of-krylov, answering, combine}
+use Rattle.krylov_job.specs.KrylovCall.{phi_combination_krylov}
+use Rattle.phi_solver.specs.Combine.{of_taylor, of_krylov, answering, combine}
 use Rattle.krylov_job.specs.declared.KrylovAnswer.{KrylovAnswer}
 use Rattle.krylov_job.specs.declared.KrylovPhiOptions.{KrylovPhiOptions}
 use Rattle.phi_solver.specs.declared.PhiAnswer.{PhiAnswer}
@@ -20,11 +20,11 @@ unfolding answering
 answered f x {r} {out₁} {w₁} {c} er ec = (λ i. ends (er i) out₁ w₁) ∙ ap (answering f) ec
 
 module _ (g : Generator) (tau : Float) (count : ℕ) (w out w₀ : List Float) {s : PhiSolver} {r : PhiAnswer} {out₁ w₁ : List Float} where
-  pub by-taylor : {cap : ℕ} {x : TaylorAnswer} → s ≡ Taylor cap → r ≡ of-taylor x → ends x out₁ w₁ ≡ phi-combination g tau cap count w out w₀ → ends r out₁ w₁ ≡ combine s g tau count w out w₀
+  pub by_taylor : {cap : ℕ} {x : TaylorAnswer} → s ≡ Taylor cap → r ≡ of_taylor x → ends x out₁ w₁ ≡ phi_combination g tau cap count w out w₀ → ends r out₁ w₁ ≡ combine s g tau count w out w₀
   unfolding combine
-  by-taylor {cap} {x} es er ec = rw es (answered of-taylor x er ec)
+  by_taylor {cap} {x} es er ec = rw es (answered of_taylor x er ec)
 
-  pub by-krylov : {o : KrylovPhiOptions} {x : KrylovAnswer} → s ≡ Krylov o → r ≡ of-krylov x → ends x out₁ w₁ ≡ phi-combination-krylov g tau count w o out w₀
+  pub by_krylov : {o : KrylovPhiOptions} {x : KrylovAnswer} → s ≡ Krylov o → r ≡ of_krylov x → ends x out₁ w₁ ≡ phi_combination_krylov g tau count w o out w₀
       → ends r out₁ w₁ ≡ combine s g tau count w out w₀
   unfolding combine
-  by-krylov {o} {x} es er ec = rw es (answered of-krylov x er ec)
+  by_krylov {o} {x} es er ec = rw es (answered of_krylov x er ec)

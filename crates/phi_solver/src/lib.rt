@@ -4,7 +4,7 @@ ghost use Rattle.general_operator.specs.Csr.{csr};
 ghost use Rattle.generator_action.specs.Mass.{given};
 ghost use Rattle.generator_action.specs.Generator.{forward};
 ghost use Rattle.combination.specs.Call.{ends};
-ghost use Rattle.phi_solver.specs.Combine.{of-taylor, of-krylov, combine};
+ghost use Rattle.phi_solver.specs.Combine.{of_taylor, of_krylov, combine};
 
 use gram_schmidt::Krylov;
 use krylov_advance::KrylovPhiReport;
@@ -27,7 +27,7 @@ pub enum PhiAnswer {
 }
 
 pub fn of_taylor(answer: TaylorAnswer) -> PhiAnswer
-    ensures { result ≡ of-taylor answer }
+    ensures { result ≡ of_taylor answer }
 {
     match answer {
         TaylorAnswer::Refusal(k, x) => PhiAnswer::Refusal(k, x),
@@ -36,7 +36,7 @@ pub fn of_taylor(answer: TaylorAnswer) -> PhiAnswer
 }
 
 pub fn of_krylov(answer: KrylovAnswer) -> PhiAnswer
-    ensures { result ≡ of-krylov answer }
+    ensures { result ≡ of_krylov answer }
 {
     match answer {
         KrylovAnswer::Refusal(k, x) => PhiAnswer::Refusal(k, x),

@@ -7,30 +7,30 @@ use lib.Ieee.{Float, nan, inf, fin, neg}
 use Rattle.doubles.specs.F64.{nat, bits, +0, 1f}
 use Rattle.pow2.specs.declared.Scaling.{Scaling}
 use Rattle.pow2.specs.declared.Prescale.TheVariants.{By, None}
-use Rattle.pow2.specs.Pow2.{ceil-log2, eta-scaling, pow2-scale, scale_of, factors, open-Pow2}
+use Rattle.pow2.specs.Pow2.{ceil_log2, eta_scaling, pow2_scale, scale_of, factors, open_pow2}
 
 abbrev etas : Float → Float → Scaling
 etas e i = record { eta = e; inv = i }
 
 -- 3, 1 and 0; then the largest double, a subnormal, minus 3, an infinity and NaN
-eta : map eta-scaling (nat 3 ∷ nat 1 ∷ +0 ∷ bits 0x7fef_ffff_ffff_ffff ∷ bits 1 ∷ neg (nat 3) ∷ inf false ∷ nan ∷ [])
+eta : map eta_scaling (nat 3 ∷ nat 1 ∷ +0 ∷ bits 0x7fef_ffff_ffff_ffff ∷ bits 1 ∷ neg (nat 3) ∷ inf false ∷ nan ∷ [])
     ≡ etas (fin false 1 (negsuc 1)) (nat 4) ∷ etas 1f 1f ∷ etas 1f 1f ∷ etas (fin false 1 (negsuc 999)) (fin false 1 (pos 1000)) ∷ etas (fin false 1 (pos 1000)) (fin false 1 (negsuc 999)) ∷ etas 1f 1f ∷ etas 1f 1f ∷ etas 1f 1f ∷ []
-unfolding open-Pow2
+unfolding open_pow2
 eta = refl
 
 -- 3, 1, 2 ^ -1022, the largest double, an infinity, NaN, 0 and a subnormal
-logs : map ceil-log2 (nat 3 ∷ nat 1 ∷ bits 0x10_0000_0000_0000 ∷ bits 0x7fef_ffff_ffff_ffff ∷ inf true ∷ nan ∷ +0 ∷ bits 1 ∷ [])
+logs : map ceil_log2 (nat 3 ∷ nat 1 ∷ bits 0x10_0000_0000_0000 ∷ bits 0x7fef_ffff_ffff_ffff ∷ inf true ∷ nan ∷ +0 ∷ bits 1 ∷ [])
     ≡ pos 2 ∷ pos 0 ∷ negsuc 1021 ∷ pos 1024 ∷ pos 1024 ∷ pos 1025 ∷ negsuc 999 ∷ negsuc 999 ∷ []
-unfolding open-Pow2
+unfolding open_pow2
 logs = refl
 
 -- (3, -1), the empty list, zeros of both signs, a NaN beside them, the smallest double, 2 ^ -1023, the largest double, an infinity
-scales : map pow2-scale ((nat 3 ∷ neg 1f ∷ []) ∷ [] ∷ (+0 ∷ neg +0 ∷ []) ∷ (nan ∷ neg +0 ∷ []) ∷ (bits 1 ∷ []) ∷ (bits 0x8_0000_0000_0000 ∷ []) ∷ (bits 0x7fef_ffff_ffff_ffff ∷ []) ∷ (nan ∷ inf true ∷ 1f ∷ []) ∷ [])
+scales : map pow2_scale ((nat 3 ∷ neg 1f ∷ []) ∷ [] ∷ (+0 ∷ neg +0 ∷ []) ∷ (nan ∷ neg +0 ∷ []) ∷ (bits 1 ∷ []) ∷ (bits 0x8_0000_0000_0000 ∷ []) ∷ (bits 0x7fef_ffff_ffff_ffff ∷ []) ∷ (nan ∷ inf true ∷ 1f ∷ []) ∷ [])
     ≡ By (scale_of (pos 1)) ∷ None ∷ None ∷ None ∷ By (scale_of (negsuc 1022)) ∷ By (scale_of (negsuc 1022)) ∷ By (scale_of (pos 1023)) ∷ By (scale_of (pos 1023)) ∷ []
-unfolding open-Pow2
+unfolding open_pow2
 scales = refl
 
 -- the farthest exponents that have factors, and those next to them
 reach : map factors (negsuc 1023 ∷ negsuc 1022 ∷ pos 1023 ∷ pos 1024 ∷ []) ≡ None ∷ By (scale_of (negsuc 1022)) ∷ By (scale_of (pos 1023)) ∷ None ∷ []
-unfolding open-Pow2
+unfolding open_pow2
 reach = refl

@@ -12,19 +12,19 @@ use lib.Dec.{T, lt→ltb, eqb}
 use lib.ListN.{length}
 use lib.Ieee.{Float, nan, inf, fin, up, down, lt, eq, of_bits}
 use borrow.Author.Tests.{eqb-false, le-ltb}
-use Rattle.doubles.proofs.Extremes.{nonneg-max}
+use Rattle.doubles.proofs.Extremes.{nonneg_max}
 use Rattle.lists.specs.Loop.{iter}
-use Rattle.doubles.specs.F64.{if◌then◌else◌, ◌⋖◌, +0, at, abs, is_finite, replaced, maxNum, nonneg}
-use Rattle.doubles.proofs.Compare.{zero-below, zero-cases, zero-equal}
+use Rattle.doubles.specs.F64.{if◌then◌else◌, ◌⋖◌, +0, at, abs, is_finite, replaced, max_num, nonneg}
+use Rattle.doubles.proofs.Compare.{zero_below, zero_cases, zero_equal}
 use Rattle.pow2.specs.Pow2.{sup}
 
-pub nonneg-sup : (x : List Float) → T (nonneg (sup x))
+pub nonneg_sup : (x : List Float) → T (nonneg (sup x))
 unfolding sup iter of_bits
-nonneg-sup x = go (length x)
+nonneg_sup x = go (length x)
   where
-    go : (n : ℕ) → T (nonneg (iter (λ i m. maxNum m (abs (at x i))) n +0))
+    go : (n : ℕ) → T (nonneg (iter (λ i m. max_num m (abs (at x i))) n +0))
     go zero = tt
-    go (suc n) = nonneg-max (iter (λ i m. maxNum m (abs (at x i))) n +0) (at x n) (go n)
+    go (suc n) = nonneg_max (iter (λ i m. max_num m (abs (at x i))) n +0) (at x n) (go n)
 
 pub above_zero : (b : Float) → T (nonneg b) → eq b +0 ≡ false → T (+0 ⋖ b)
 unfolding lt eq of_bits
@@ -55,66 +55,66 @@ NoDigit (fin s zero e) = Unit
 NoDigit (fin s (suc m) e) = ⊥
 
 no_digit : (x : Float) → IsZero x → NoDigit x
-no_digit = zero-cases NoDigit (λ s e. tt)
+no_digit = zero_cases NoDigit (λ s e. tt)
 
-large-first : (a : ℕ) (e : ℤ) (d : ℤ) → (fin false a e ⋖ fin false 0 d) ≡ false
+large_first : (a : ℕ) (e : ℤ) (d : ℤ) → (fin false a e ⋖ fin false 0 d) ≡ false
 unfolding lt
-large-first a e d = le-ltb (a * up e * down d) (0 * up d * down e) (rw (zero-mul (up d), zero-mul (down e)) (omega arith))
+large_first a e d = le-ltb (a * up e * down d) (0 * up d * down e) (rw (zero-mul (up d), zero-mul (down e)) (omega arith))
 
 -- a maximum is 0 only of zeros
-max-zero : (m v : Float) → T (nonneg m) → is_finite v ≡ true → IsZero (maxNum m (abs v)) → IsZero m × IsZero v
-unfolding maxNum replaced
-max-zero nan v h f z = absurd h
-max-zero (inf true) v h f z = absurd h
-max-zero (inf false) nan h f z = absurd (true≢false (sym f))
-max-zero (inf false) (inf s) h f z = absurd (true≢false (sym f))
-max-zero (inf false) (fin s n d) h f z = absurd (no_digit (inf false) (unfold lt in z))
-max-zero (fin true a e) v h f z = absurd h
-max-zero (fin false a e) nan h f z = absurd (true≢false (sym f))
-max-zero (fin false a e) (inf s) h f z = absurd (true≢false (sym f))
-max-zero (fin false zero e) (fin s zero d) h f z = (zero-equal false e, zero-equal s d)
-max-zero (fin false zero e) (fin s (suc n) d) h f z = absurd (no_digit (fin false (suc n) d) (rw (zero-below e n d) at z))
-max-zero (fin false (suc a) e) (fin s zero d) h f z = absurd (no_digit (fin false (suc a) e) (rw (large-first (suc a) e d) at z))
-max-zero (fin false (suc a) e) (fin s (suc n) d) h f z = absurd (go (fin false (suc a) e ⋖ fin false (suc n) d) z)
+max_zero : (m v : Float) → T (nonneg m) → is_finite v ≡ true → IsZero (max_num m (abs v)) → IsZero m × IsZero v
+unfolding max_num replaced
+max_zero nan v h f z = absurd h
+max_zero (inf true) v h f z = absurd h
+max_zero (inf false) nan h f z = absurd (true≢false (sym f))
+max_zero (inf false) (inf s) h f z = absurd (true≢false (sym f))
+max_zero (inf false) (fin s n d) h f z = absurd (no_digit (inf false) (unfold lt in z))
+max_zero (fin true a e) v h f z = absurd h
+max_zero (fin false a e) nan h f z = absurd (true≢false (sym f))
+max_zero (fin false a e) (inf s) h f z = absurd (true≢false (sym f))
+max_zero (fin false zero e) (fin s zero d) h f z = (zero_equal false e, zero_equal s d)
+max_zero (fin false zero e) (fin s (suc n) d) h f z = absurd (no_digit (fin false (suc n) d) (rw (zero_below e n d) at z))
+max_zero (fin false (suc a) e) (fin s zero d) h f z = absurd (no_digit (fin false (suc a) e) (rw (large_first (suc a) e d) at z))
+max_zero (fin false (suc a) e) (fin s (suc n) d) h f z = absurd (go (fin false (suc a) e ⋖ fin false (suc n) d) z)
   where
     go : (b : Bool) → IsZero (if b then fin false (suc n) d else fin false (suc a) e) → ⊥
     go true z = no_digit (fin false (suc n) d) z
     go false z = no_digit (fin false (suc a) e) z
 
-zero-max : (m v : Float) → IsZero m → IsZero v → IsZero (maxNum m (abs v))
-unfolding maxNum replaced
-zero-max nan v z y = absurd (no_digit nan z)
-zero-max (inf s) v z y = absurd (no_digit (inf s) z)
-zero-max (fin s a e) nan z y = absurd (no_digit nan y)
-zero-max (fin s a e) (inf t) z y = absurd (no_digit (inf t) y)
-zero-max (fin s a e) (fin t (suc n) d) z y = absurd (no_digit (fin t (suc n) d) y)
-zero-max (fin s a e) (fin t zero d) z y = go (fin s a e ⋖ fin false 0 d)
+zero_max : (m v : Float) → IsZero m → IsZero v → IsZero (max_num m (abs v))
+unfolding max_num replaced
+zero_max nan v z y = absurd (no_digit nan z)
+zero_max (inf s) v z y = absurd (no_digit (inf s) z)
+zero_max (fin s a e) nan z y = absurd (no_digit nan y)
+zero_max (fin s a e) (inf t) z y = absurd (no_digit (inf t) y)
+zero_max (fin s a e) (fin t (suc n) d) z y = absurd (no_digit (fin t (suc n) d) y)
+zero_max (fin s a e) (fin t zero d) z y = go (fin s a e ⋖ fin false 0 d)
   where
     go : (b : Bool) → IsZero (if b then fin false 0 d else fin s a e)
-    go true = zero-equal false d
+    go true = zero_equal false d
     go false = z
 
-pub sup-zero : (x : List Float) → ((i : ℕ) → i < length x → is_finite (at x i) ≡ true) → eq (sup x) +0 ≡ true → (i : ℕ) → i < length x → eq (at x i) +0 ≡ true
+pub sup_zero : (x : List Float) → ((i : ℕ) → i < length x → is_finite (at x i) ≡ true) → eq (sup x) +0 ≡ true → (i : ℕ) → i < length x → eq (at x i) +0 ≡ true
 unfolding sup iter of_bits
-sup-zero x f = go (length x) f
+sup_zero x f = go (length x) f
   where
     step : ℕ → Float → Float
-    step i m = maxNum m (abs (at x i))
+    step i m = max_num m (abs (at x i))
 
     clear : (n : ℕ) → T (nonneg (iter step n +0))
     clear zero = tt
-    clear (suc n) = nonneg-max (iter step n +0) (at x n) (clear n)
+    clear (suc n) = nonneg_max (iter step n +0) (at x n) (clear n)
 
     go : (n : ℕ) → ((i : ℕ) → i < n → is_finite (at x i) ≡ true) → IsZero (iter step n +0) → (i : ℕ) → i < n → IsZero (at x i)
     go zero f z i l = absurd (omega (arith, l))
     go (suc n) f z i l =
-        let h = max-zero (iter step n +0) (at x n) (clear n) (f n (omega arith)) z in
+        let h = max_zero (iter step n +0) (at x n) (clear n) (f n (omega arith)) z in
         ⊎_elim (λ (e : i ≡ n). subst (λ (k : ℕ). IsZero (at x k)) (sym e) h.1) (λ (k : i < n). go n (λ j m. f j (omega (arith, m))) h.0 i k) (eq-or-lt_of_le (le_of_suc-le-suc l))
 
-pub zero-sup : (x : List Float) → ((i : ℕ) → i < length x → eq (at x i) +0 ≡ true) → eq (sup x) +0 ≡ true
+pub zero_sup : (x : List Float) → ((i : ℕ) → i < length x → eq (at x i) +0 ≡ true) → eq (sup x) +0 ≡ true
 unfolding sup iter
-zero-sup x h = go (length x) h
+zero_sup x h = go (length x) h
   where
-    go : (n : ℕ) → ((i : ℕ) → i < n → IsZero (at x i)) → IsZero (iter (λ i m. maxNum m (abs (at x i))) n +0)
+    go : (n : ℕ) → ((i : ℕ) → i < n → IsZero (at x i)) → IsZero (iter (λ i m. max_num m (abs (at x i))) n +0)
     go zero h = unfold eq of_bits in refl
-    go (suc n) h = zero-max _ (at x n) (go n (λ i l. h i (omega (arith, l)))) (h n (omega arith))
+    go (suc n) h = zero_max _ (at x n) (go n (λ i l. h i (omega (arith, l)))) (h n (omega arith))

@@ -11,19 +11,19 @@ use lib.Ieee.Bits.{nan_bits_is}
 use borrow.Author.Tests.{ne_eqb, le-ltb, le-leb, lt-leb}
 use mir.Syntax.{w32}
 use mir.Val.{to_z, of_z}
-use Rattle.doubles.proofs.Patterns.{positive-fields}
+use Rattle.doubles.proofs.Patterns.{positive_fields}
 use Rattle.pow2.proofs.Integers.{held, mag_sum}
 
 -- ---- a pattern with no digits is a power of two
-fields-power : (x : ℕ) → x < 2046 → of_fields binary64 false (suc x) 0 ≡ fin false 1 (minus (x + 52) 1074)
+fields_power : (x : ℕ) → x < 2046 → of_fields binary64 false (suc x) 0 ≡ fin false 1 (minus (x + 52) 1074)
 unfolding of_fields odd
-fields-power x h = rw (ne_eqb (suc x) 2047 (λ (e : suc x ≡ 2047). omega arith))
+fields_power x h = rw (ne_eqb (suc x) 2047 (λ (e : suc x ≡ 2047). omega arith))
 
-pub power-bits : (x : ℕ) → x < 2046 → of_bits binary64 (suc x * 4503599627370496) ≡ fin false 1 (minus (x + 52) 1074)
-power-bits x h =
+pub power_bits : (x : ℕ) → x < 2046 → of_bits binary64 (suc x * 4503599627370496) ≡ fin false 1 (minus (x + 52) 1074)
+power_bits x h =
     let f : suc x * 4503599627370496 / 4503599627370496 ≡ suc x = omega arith in
     let d : suc x * 4503599627370496 % 4503599627370496 ≡ 0 = omega arith in
-    positive-fields (suc x * 4503599627370496) (omega arith) ∙ rw (f, d) (fields-power x h)
+    positive_fields (suc x * 4503599627370496) (omega arith) ∙ rw (f, d) (fields_power x h)
 
 -- ---- the exponent's field of 2 ^ e
 pub record Biased (e : ℤ) : Type 0 where
@@ -49,18 +49,18 @@ biased (negsuc n) h =
     }
 
 -- the code's `1023 + e`, and the pattern that it makes of it
-pub biased-read : (e : ℤ) (h : mag e < 1022) → to_z w32 (of_z w32 (pos 1023 +ℤ to_z w32 (of_z w32 e))) ≡ pos (suc (biased e h).x)
-biased-read e h =
+pub biased_read : (e : ℤ) (h : mag e < 1022) → to_z w32 (of_z w32 (pos 1023 +ℤ to_z w32 (of_z w32 e))) ≡ pos (suc (biased e h).x)
+biased_read e h =
     ap (λ (z : ℤ). to_z w32 (of_z w32 (pos 1023 +ℤ z))) (held e (omega arith))
     ∙ held (pos 1023 +ℤ e) (omega (arith, mag_sum (pos 1023) e))
     ∙ (biased e h).is
 
-pub power-pattern : (e : ℤ) → mag e < 1022 → of_bits binary64 (nat_abs (to_z w32 (of_z w32 (pos 1023 +ℤ to_z w32 (of_z w32 e)))) * 4503599627370496 % 18446744073709551616) ≡ fin false 1 e
-power-pattern e h =
+pub power_pattern : (e : ℤ) → mag e < 1022 → of_bits binary64 (nat_abs (to_z w32 (of_z w32 (pos 1023 +ℤ to_z w32 (of_z w32 e)))) * 4503599627370496 % 18446744073709551616) ≡ fin false 1 e
+power_pattern e h =
     let b = biased e h in
     let s : suc b.x * 4503599627370496 % 18446744073709551616 ≡ suc b.x * 4503599627370496 = omega (arith, b.under) in
-    rw (biased-read e h, s) (power-bits b.x b.under ∙ ap (fin false 1) b.back)
+    rw (biased_read e h, s) (power_bits b.x b.under ∙ ap (fin false 1) b.back)
 
-pub finite-pattern : (b : ℕ) {s : Bool} {m : ℕ} {e : ℤ} → of_bits binary64 b ≡ fin s m e → T (not (nan_bits binary64 b))
+pub finite_pattern : (b : ℕ) {s : Bool} {m : ℕ} {e : ℤ} → of_bits binary64 b ≡ fin s m e → T (not (nan_bits binary64 b))
 unfolding is_nan
-finite-pattern b p = rw (nan_bits_is binary64 b, p) tt
+finite_pattern b p = rw (nan_bits_is binary64 b, p) tt

@@ -7,31 +7,31 @@ use native.Mathlib.Omega.{arith}
 use lib.Dec.{ltb}
 use lib.IntN.{ℤ, pos, negsuc, nat_abs, ◌-ℤ◌, +ℤ_one, -ℤ_one}
 use borrow.Author.Tests.{ltb-false, lt-ltb, le-ltb}
-use Rattle.lists.proofs.Bounds.{lt-or-le}
+use Rattle.lists.proofs.Bounds.{lt_or_le}
 use Rattle.pow2.specs.declared.Scale.{Scale}
 use Rattle.pow2.specs.declared.Prescale.TheVariants.{By, None}
 use Rattle.pow2.specs.Pow2.{clamp, signum, factors, scale_of}
-use Rattle.pow2.proofs.Rounded.{factors-inside, factors-outside}
+use Rattle.pow2.proofs.Rounded.{factors_inside, factors_outside}
 
 -- what the walk ends at
 abbrev pub end : ℤ → ℤ
 end e = clamp e (negsuc 1022) (pos 1023)
 
-end-inside : (e : ℤ) → nat_abs e < 1024 → end e ≡ e
+end_inside : (e : ℤ) → nat_abs e < 1024 → end e ≡ e
 unfolding clamp
-end-inside (pos n) h = rw (le-ltb 1023 n (omega arith))
-end-inside (negsuc n) h = rw (le-ltb 1022 n (omega arith))
+end_inside (pos n) h = rw (le-ltb 1023 n (omega arith))
+end_inside (negsuc n) h = rw (le-ltb 1022 n (omega arith))
 
 -- the factors of an exponent that has them are those of the walk's end
 pub found : (e : ℤ) (s : Scale) → factors e ≡ By s → s ≡ scale_of (end e)
-found e s p = elim (lt-or-le (nat_abs e) 1024) [
-  | inl l ↦ let q = factors-inside e l in rw (end-inside e l) (cc)
-  | inr g ↦ let q = factors-outside e g in cc
+found e s p = elim (lt_or_le (nat_abs e) 1024) [
+  | inl l ↦ let q = factors_inside e l in rw (end_inside e l) (cc)
+  | inr g ↦ let q = factors_outside e g in cc
 ]
 
-pub none-outside : (e : ℤ) → factors e ≡ None → 1024 ≤ nat_abs e
-none-outside e p = elim (lt-or-le (nat_abs e) 1024) [
-  | inl l ↦ let q = factors-inside e l in let z : ◌≡◌ {A = ℕ} 0 1 = cc in omega arith
+pub none_outside : (e : ℤ) → factors e ≡ None → 1024 ≤ nat_abs e
+none_outside e p = elim (lt_or_le (nat_abs e) 1024) [
+  | inl l ↦ let q = factors_inside e l in let z : ◌≡◌ {A = ℕ} 0 1 = cc in omega arith
   | inr g ↦ g
 ]
 

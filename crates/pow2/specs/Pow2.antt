@@ -3,7 +3,7 @@ use Rattle.std.specs.Prelude.{Bool, false, ◌&&◌, List, ℕ, zero, suc, ◌/�
 use Rattle.std.specs.Int.Signed.{lt_z}
 use lib.Ieee.{Float, fin, binary64, up, down, round, size, eq, ne, to_bits}
 use Rattle.lists.specs.Loop.{iter}
-use Rattle.doubles.specs.F64.{if◌then◌else◌, ◌⋖◌, +0, 1f, at, abs, is_finite, maxNum}
+use Rattle.doubles.specs.F64.{if◌then◌else◌, ◌⋖◌, +0, 1f, at, abs, is_finite, max_num}
 use Rattle.doubles.specs.Value.{val}
 use Rattle.pow2.specs.declared.Scaling.{Scaling}
 use Rattle.pow2.specs.declared.Scale.{Scale}
@@ -25,31 +25,31 @@ abbrev pub field : ℕ → ℕ
 field b = b / 2 ^ 52 % 2048
 
 -- `ceil_log2`: for a normal x above 0 the least e with x ≤ 2 ^ e; -1000 for zero and subnormals; the sign is not looked at; 1024 of an infinity, 1025 of NaN
-unfoldable pub ceil-log2 : Float → ℤ
-ceil-log2 x =
+unfoldable pub ceil_log2 : Float → ℤ
+ceil_log2 x =
     let b = to_bits binary64 x in
     let exp = pos (field b) -ℤ pos 1023 in
     if eqb (field b) 0 then negsuc 999 else (if eqb (b % 2 ^ 52) 0 then exp else (exp +ℤ pos 1))
 
 -- `exact_pow2`: 2 ^ e
-abbrev pub exact-pow2 : ℤ → Float
-exact-pow2 e = fin false 1 e
+abbrev pub exact_pow2 : ℤ → Float
+exact_pow2 e = fin false 1 e
 
 -- 2 ^ -e and 2 ^ e
-abbrev pub eta-of : ℤ → Scaling
-eta-of e = record { eta = exact-pow2 (neg_ℤ e); inv = exact-pow2 e }
+abbrev pub eta_of : ℤ → Scaling
+eta_of e = record { eta = exact_pow2 (neg_ℤ e); inv = exact_pow2 e }
 
 -- `eta_scaling`: eta = 2 ^ -e and 1 / eta, with e = `ceil_log2` clamped to -1000 .. 1000; 1 and 1 where the magnitude is 0, negative or not finite
-unfoldable pub eta-scaling : Float → Scaling
-eta-scaling x = if +0 ⋖ x && is_finite x then eta-of (clamp (ceil-log2 x) (negsuc 999) (pos 1000)) else record { eta = 1f; inv = 1f }
+unfoldable pub eta_scaling : Float → Scaling
+eta_scaling x = if +0 ⋖ x && is_finite x then eta_of (clamp (ceil_log2 x) (negsuc 999) (pos 1000)) else record { eta = 1f; inv = 1f }
 
 -- the sup-norm: Rust's fold of `f64::max` over the absolute values from +0; a NaN is dropped
 unfoldable pub sup : List Float → Float
-sup x = iter (λ i m. maxNum m (abs (at x i))) (length x) +0
+sup x = iter (λ i m. max_num m (abs (at x i))) (length x) +0
 
 -- `pow2_f64`: 2 ^ k, rounded: +infinity from 2 ^ 1024 on, and 0 below 2 ^ -1074
-unfoldable pub pow2-f64 : ℤ → Float
-pow2-f64 k = round binary64 false (up k) (down k)
+unfoldable pub pow2_f64 : ℤ → Float
+pow2_f64 k = round binary64 false (up k) (down k)
 
 -- finite and not 0
 unfoldable pub usable : Float → Bool
@@ -58,7 +58,7 @@ usable x = is_finite x && ne x +0
 -- `factors`: 2 ^ -e and 2 ^ e, where both are finite and not 0
 unfoldable pub factors : ℤ → Prescale
 factors e =
-    if usable (pow2-f64 (neg_ℤ e)) && usable (pow2-f64 e) then By (record { down = pow2-f64 (neg_ℤ e); up = pow2-f64 e }) else None
+    if usable (pow2_f64 (neg_ℤ e)) && usable (pow2_f64 e) then By (record { down = pow2_f64 (neg_ℤ e); up = pow2_f64 e }) else None
 
 -- ⌊log₂ x⌋ of an x above 0, 1024 of an infinity: x is `val` units of 2 ^ -1074, and a number of k binary digits is 2 ^ (k - 1) or more
 unfoldable pub exponent : Float → ℤ
@@ -66,13 +66,13 @@ exponent x = pos (size (val (to_bits binary64 x))) -ℤ pos 1075
 
 -- 2 ^ -e and 2 ^ e
 abbrev pub scale_of : ℤ → Scale
-scale_of e = record { down = exact-pow2 (neg_ℤ e); up = exact-pow2 e }
+scale_of e = record { down = exact_pow2 (neg_ℤ e); up = exact_pow2 e }
 
--- `pow2_scale`: 2 ^ -e and 2 ^ e, e the exponent of the largest magnitude, moved toward 0 to where both are finite and not 0; none for an all-zero slice
-unfoldable pub pow2-scale : List Float → Prescale
-pow2-scale rhs = if eq (sup rhs) +0 then None else By (scale_of (clamp (exponent (sup rhs)) (negsuc 1022) (pos 1023)))
+-- `pow2_scale`: 2 ^ -e and 2 ^ e, e the exponent of the largest magnitude, moved toward 0 to where both are finite and not 0; none for an all_zero slice
+unfoldable pub pow2_scale : List Float → Prescale
+pow2_scale rhs = if eq (sup rhs) +0 then None else By (scale_of (clamp (exponent (sup rhs)) (negsuc 1022) (pos 1023)))
 
--- to compute: a line `unfolding open-Pow2` opens every definition of this file and of those below it
-unfoldable pub open-Pow2 : Unit {0}
-unfolding lib.Ieee.ne clamp ceil-log2 eta-scaling sup pow2-f64 usable factors exponent pow2-scale Rattle.doubles.specs.F64.open-F64 Rattle.lists.specs.Loop.open-Loop
-open-Pow2 = tt
+-- to compute: a line `unfolding open_pow2` opens every definition of this file and of those below it
+unfoldable pub open_pow2 : Unit {0}
+unfolding lib.Ieee.ne clamp ceil_log2 eta_scaling sup pow2_f64 usable factors exponent pow2_scale Rattle.doubles.specs.F64.open_f64 Rattle.lists.specs.Loop.open_loop
+open_pow2 = tt

@@ -2,7 +2,7 @@
 ghost use Rattle.std.specs.Prelude.{◌≡◌, ◌<◌, T, pos, negsuc};
 ghost use Rattle.std.specs.Int.Signed.{mag};
 ghost use Rattle.doubles.specs.F64.{◌⋖◌, +0};
-ghost use Rattle.pow2.specs.Pow2.{clamp, signum, field, ceil-log2, exact-pow2, eta-scaling, sup, pow2-f64, usable, factors, exponent, scale_of, pow2-scale};
+ghost use Rattle.pow2.specs.Pow2.{clamp, signum, field, ceil_log2, exact_pow2, eta_scaling, sup, pow2_f64, usable, factors, exponent, scale_of, pow2_scale};
 
 use float::{abs, is_finite, max};
 
@@ -62,7 +62,7 @@ fn field(bits: u64) -> i32
 
 // The bits of a NaN are not defined, but its field is 2047 and its digits are not 0.
 pub fn ceil_log2(x: f64) -> i32
-    ensures { result ≡ ceil-log2 x }
+    ensures { result ≡ ceil_log2 x }
 {
     if x != x {
         return 1025;
@@ -82,13 +82,13 @@ pub fn ceil_log2(x: f64) -> i32
 // 2 ^ e for e from -1022 up and below 1022.
 fn exact_pow2(e: i32) -> f64
     requires { mag e < 1022 }
-    ensures { result ≡ exact-pow2 e }
+    ensures { result ≡ exact_pow2 e }
 {
     f64::from_bits(((1023 + e) as u64) << 52)
 }
 
 pub fn eta_scaling(max_mag: f64) -> Scaling
-    ensures { result ≡ eta-scaling max_mag }
+    ensures { result ≡ eta_scaling max_mag }
 {
     if max_mag > 0.0 {
         if is_finite(max_mag) {
@@ -116,7 +116,7 @@ pub fn sup(x: &[f64]) -> f64
 // 2 ^ k, rounded, for k from -2042 up and below 2042: a product of two exact powers.
 fn pow2_f64(k: i32) -> f64
     requires { mag k < 2042 }
-    ensures { result ≡ pow2-f64 k }
+    ensures { result ≡ pow2_f64 k }
 {
     let half = k / 2;
     exact_pow2(half) * exact_pow2(k - half)
@@ -178,7 +178,7 @@ fn walk(exp: i32) -> Scale
 
 // Total: an infinity has the exponent 1024, from which the walk goes to 1023, and a NaN is dropped by `sup`.
 pub fn pow2_scale(rhs: &[f64]) -> Prescale
-    ensures { result ≡ pow2-scale rhs.now }
+    ensures { result ≡ pow2_scale rhs.now }
 {
     let bmax = sup(rhs);
     if bmax == 0.0 {

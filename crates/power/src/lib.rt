@@ -1,7 +1,7 @@
 // A power with a whole exponent, and the root of a whole order.
 ghost use Rattle.std.specs.Prelude.{◌≡◌, ◌+◌, ◌<◌, T};
 ghost use Rattle.lists.specs.Greatest.{greatest};
-ghost use Rattle.doubles.specs.F64.{INF-BITS, nonneg};
+ghost use Rattle.doubles.specs.F64.{INF_BITS, nonneg};
 ghost use Rattle.power.specs.Power.{power, within, root};
 
 use doubles::{INF_BITS, ONE_BITS};
@@ -61,7 +61,7 @@ fn exp2(z: f64) -> f64 {
 // Where the search for the root begins: 2 to the power log2(t) / q, and one step of Newton's method, which is
 // for nearly every normal t the root or the pattern next to it. Any pattern would do; a near one saves products.
 fn first_guess(t: f64, q: u64) -> u64
-    ensures { (0 < result) × (result < INF-BITS) }
+    ensures { (0 < result) × (result < INF_BITS) }
 {
     let order = std::num::nearest_u64_to_f64(q);
     let y = exp2(log2(t) / order);
@@ -106,7 +106,7 @@ fn longer(step: u64) -> u64
 // pattern and go on in growing steps until they pass the root; then each halves what is left between.
 fn root_bits(t: f64, q: u64) -> u64
     requires { T (nonneg t) }
-    ensures { (result ≡ greatest (within t q) 63 0) × (result < INF-BITS) }
+    ensures { (result ≡ greatest (within t q) 63 0) × (result < INF_BITS) }
 {
     let mut lo = 0u64;
     let mut hi = INF_BITS;

@@ -4,9 +4,9 @@ ghost use Rattle.lists.specs.Find.{find};
 ghost use Rattle.vectors.specs.Vectors.{scale};
 ghost use Rattle.pow2.specs.Pow2.{sup};
 ghost use Rattle.checks.specs.First.{first};
-ghost use Rattle.combination.specs.Checks.{not-finite-at, finite-checks};
-ghost use Rattle.weighted_columns.specs.Inner.{powers-of};
-ghost use Rattle.ambient_checks.specs.Inner.{places, field_of, early-checks, record-job};
+ghost use Rattle.combination.specs.Checks.{not_finite_at, finite_checks};
+ghost use Rattle.weighted_columns.specs.Inner.{powers_of};
+ghost use Rattle.ambient_checks.specs.Inner.{places, field_of, early_checks, record_job};
 
 use checks::Checked;
 use generator_action::Shape;
@@ -15,7 +15,7 @@ use weighted_columns::Powers;
 
 // The first place at which load x level is not finite, all places if there is none.
 fn first_bad_product(load: &[f64], level: f64) -> usize
-    ensures { result ≡ find (not-finite-at (scale level load.now)) (length load.now) }
+    ensures { result ≡ find (not_finite_at (scale level load.now)) (length load.now) }
 {
     for i in 0..load.len() {
         if !float::is_finite(load[i] * level) {
@@ -27,7 +27,7 @@ fn first_bad_product(load: &[f64], level: f64) -> usize
 
 // 17 of load x level.
 fn check_products(load: &[f64], level: f64) -> Checked
-    ensures { result ≡ first (finite-checks (scale level load.now)) }
+    ensures { result ≡ first (finite_checks (scale level load.now)) }
 {
     let i = first_bad_product(load, level);
     if i < load.len() {
@@ -50,7 +50,7 @@ fn sup_of_products(load: &[f64], level: f64) -> f64
 // The weight of w_1, which is load x level, and its share of the magnitude; an all-zero vector has none.
 fn powers_of_products(n: usize, load: &[f64], level: f64, duration: f64) -> Powers
     requires { length load.now ≡ n }
-    ensures { result ≡ powers-of n (scale level load.now) duration 1 }
+    ensures { result ≡ powers_of n (scale level load.now) duration 1 }
 {
     let w_sup = sup_of_products(load, level);
     if w_sup == 0.0 {
@@ -74,7 +74,7 @@ pub fn check_record(
     out: &[f64],
     load: &[f64],
 ) -> Checked
-    ensures { result ≡ first (early-checks duration level (field_of initial field.now out.now) load.now) }
+    ensures { result ≡ first (early_checks duration level (field_of initial field.now out.now) load.now) }
 {
     let time = combination::check_plan(duration, expmv::M_MAX);
     let products = check_products(load, level);
@@ -89,7 +89,7 @@ pub fn check_record(
 // 21, 22 and 24 to 26 of a record. A record needs n doubles more than its combination.
 pub fn admit_record(g: Shape, duration: f64, level: f64, load: &[f64], memory: usize) -> Job
     requires { (length load.now ≡ g.n) × (g.n ≤ 1000000) × (g.stored ≤ 16777216) }
-    ensures { result ≡ record-job g duration level load.now memory }
+    ensures { result ≡ record_job g duration level load.now memory }
 {
     let p = powers_of_products(g.n, load, level, duration);
     let eta = pow2::eta_scaling(p.sum);

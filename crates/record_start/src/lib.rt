@@ -3,13 +3,13 @@ ghost use Rattle.std.specs.Prelude.{◌≡◌, ◌+◌, ◌-◌, ◌≤◌, leng
 ghost use Rattle.lists.specs.Window.{splice};
 ghost use Rattle.vectors.specs.Vectors.{scale};
 ghost use Rattle.checks.specs.First.{first};
-ghost use Rattle.combination.specs.Combination.{combination-start};
+ghost use Rattle.combination.specs.Combination.{combination_start};
 ghost use Rattle.ambient_checks.specs.Inner.{field_of};
 
 // The first field of a record's run, at the front of the lent memory.
 pub fn start_record(initial: bool, field: &[f64], out: &[f64], n: usize, inv: f64, work: &mut [f64])
     requires { (length (field_of initial field.now out.now) ≡ n) × (n + 1 ≤ length work.old) }
-    ensures { work.new ≡ splice 0 (combination-start n (field_of initial field.now out.now) 1 inv) work.old }
+    ensures { work.new ≡ splice 0 (combination_start n (field_of initial field.now out.now) 1 inv) work.old }
 {
     if initial {
         start_vectors::combination_start(n, field, 1, inv, work);

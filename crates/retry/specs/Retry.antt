@@ -1,8 +1,8 @@
 -- Step control (phi_krylov_arnoldi.rs, `trial_steps`): whether a length is accepted, and the length tried next. Definitions only.
 use Rattle.std.specs.Prelude.{Bool, ℕ, Float}
 use Rattle.doubles.specs.F64.{◌⊗◌, ◌⊘◌, ◌⩽◌, bits}
-use Rattle.power.specs.Power.{root, open-Power}
-use Rattle.round2.specs.Rounded.{round2, open-Rounded}
+use Rattle.power.specs.Power.{root, open_power}
+use Rattle.round2.specs.Rounded.{round2, open_rounded}
 
 -- 0.9 and 1.2, safety factors (Sidje 1998): of the length tried next, and of the error allowed
 abbrev pub GAMMA : Float
@@ -19,7 +19,7 @@ accepts tol t err = err ⩽ DELTA ⊗ t ⊗ tol
 unfoldable pub retry : ℕ → Float → Float → Float → Float
 retry q tol t err = round2 (GAMMA ⊗ t ⊗ root (t ⊗ tol ⊘ err) q)
 
--- to compute: a line `unfolding open-Retry` opens every definition of this file and of those below it
-unfoldable pub open-Retry : Unit {0}
-unfolding retry open-Power open-Rounded
-open-Retry = tt
+-- to compute: a line `unfolding open_retry` opens every definition of this file and of those below it
+unfoldable pub open_retry : Unit {0}
+unfolding retry open_power open_rounded
+open_retry = tt

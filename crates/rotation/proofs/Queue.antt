@@ -11,40 +11,40 @@ use borrow.Author.Tests.{ltb-true, leb-false}
 use Rattle.lists.specs.Loop.{tabulate}
 use Rattle.lists.specs.Window.{splice}
 use Rattle.lists.proofs.Tests.{and_both}
-use Rattle.lists.proofs.Find.{find-le, find-before}
-use Rattle.lists.proofs.Loop.{Filled, started, turned₀, length-tabulate, tabulate-ext}
-use Rattle.lists.proofs.Window.{splice-snoc, splice-parts}
+use Rattle.lists.proofs.Find.{find_le, find_before}
+use Rattle.lists.proofs.Loop.{Filled, started, turned₀, length_tabulate, tabulate_ext}
+use Rattle.lists.proofs.Window.{splice_snoc, splice_parts}
 use Rattle.paused_run.specs.declared.PausedRun.{PausedRun}
-use Rattle.rotation.specs.Unit.{waiting, queue-of, next_place, lowest-free, room, back}
-use Rattle.rotation.specs.Inner.{count_of, shifted, seat-of, end_of, passed-of}
+use Rattle.rotation.specs.Unit.{waiting, queue_of, next_place, lowest_free, room, back}
+use Rattle.rotation.specs.Inner.{count_of, shifted, seat_of, end_of, passed_of}
 use Rattle.rotation.specs.declared.Rotation.{Rotation}
 
 -- ---- a queue that is filled from the front
-drop-replicate : {A : Type 0} (n m : ℕ) (z : A) → drop n (replicate m z) ≡ replicate (m - n) z
-drop-replicate zero m z =
+drop_replicate : {A : Type 0} (n m : ℕ) (z : A) → drop n (replicate m z) ≡ replicate (m - n) z
+drop_replicate zero m z =
     let e : m ≡ m - 0 = omega arith in
     ap (λ (k : ℕ). replicate k z) e
-drop-replicate (suc n) zero z =
+drop_replicate (suc n) zero z =
     let e : 0 ≡ 0 - suc n = omega arith in
     ap (λ (k : ℕ). replicate k z) e
-drop-replicate (suc n) (suc m) z =
+drop_replicate (suc n) (suc m) z =
     let e : m - n ≡ suc m - suc n = omega arith in
-    drop-replicate n m z ∙ ap (λ (k : ℕ). replicate k z) e
+    drop_replicate n m z ∙ ap (λ (k : ℕ). replicate k z) e
 
-filled-queue : (i last : ℕ) (f : ℕ → ℕ) {w : List ℕ} → i < 16 → Filled 0 i f (replicate 16 16) w → set w i last ≡ tabulate i f ++ (last ∷ replicate (15 - i) 16)
-filled-queue i last f {w} l h =
+filled_queue : (i last : ℕ) (f : ℕ → ℕ) {w : List ℕ} → i < 16 → Filled 0 i f (replicate 16 16) w → set w i last ≡ tabulate i f ++ (last ∷ replicate (15 - i) 16)
+filled_queue i last f {w} l h =
     let vs = tabulate i f in
     let all : List ℕ = replicate 16 16 in
-    let long = length-tabulate i f in
+    let long = length_tabulate i f in
     let more = length-append vs (last ∷ []) in
     let here : i ≡ 0 + length vs = omega (arith, long) in
     let rest : 16 - (0 + length (vs ++ (last ∷ []))) ≡ 15 - i = omega (arith, long, more) in
     let sixteen : length all ≡ 16 = refl in
     ap (λ (x : List ℕ). set x i last) h.is
     ∙ ap (λ (k : ℕ). set (splice 0 vs all) k last) here
-    ∙ splice-snoc 0 vs all last
-    ∙ sym (splice-parts 0 (vs ++ (last ∷ [])) all (omega (arith, long, more, l, sixteen)))
-    ∙ ap (λ (x : List ℕ). (vs ++ (last ∷ [])) ++ x) (drop-replicate (0 + length (vs ++ (last ∷ []))) 16 16)
+    ∙ splice_snoc 0 vs all last
+    ∙ sym (splice_parts 0 (vs ++ (last ∷ [])) all (omega (arith, long, more, l, sixteen)))
+    ∙ ap (λ (x : List ℕ). (vs ++ (last ∷ [])) ++ x) (drop_replicate (0 + length (vs ++ (last ∷ []))) 16 16)
     ∙ ap (λ (k : ℕ). (vs ++ (last ∷ [])) ++ replicate k 16) rest
     ∙ append_assoc vs (last ∷ []) (replicate (15 - i) 16)
 
@@ -52,34 +52,34 @@ filled-queue i last f {w} l h =
 abbrev Shifted : List ℕ → ℕ → ℕ → List ℕ → Type 0
 Shifted queue from k w = Filled {A = ℕ} 0 (k - from) (λ j. get_or queue (from + j) 0) (replicate 16 16) w
 
-pub shift-start : (queue : List ℕ) (from : ℕ) → Shifted queue from from (replicate 16 16)
-shift-start queue from =
+pub shift_start : (queue : List ℕ) (from : ℕ) → Shifted queue from from (replicate 16 16)
+shift_start queue from =
     let none : 0 ≡ from - from = omega arith in
     subst (λ (i : ℕ). Filled {A = ℕ} 0 i (λ j. get_or queue (from + j) 0) (replicate 16 16) (replicate 16 16)) none (started 0 (λ j. get_or queue (from + j) 0) (replicate 16 16))
 
-pub shift-more : (queue : List ℕ) (from k : ℕ) {w : List ℕ} → from ≤ k → Shifted queue from k w → Shifted queue from (k + 1) (set w (k - from) (get_or queue k 0))
-shift-more queue from k {w} l h =
+pub shift_more : (queue : List ℕ) (from k : ℕ) {w : List ℕ} → from ≤ k → Shifted queue from k w → Shifted queue from (k + 1) (set w (k - from) (get_or queue k 0))
+shift_more queue from k {w} l h =
     let here : k ≡ from + (k - from) = omega (arith, l) in
     let more : k - from + 1 ≡ k + 1 - from = omega (arith, l) in
     subst (λ (i : ℕ). Filled {A = ℕ} 0 i (λ j. get_or queue (from + j) 0) (replicate 16 16) (set w (k - from) (get_or queue k 0))) more
     (turned₀ h (ap (λ (j : ℕ). get_or queue j 0) here))
 
-pub shift-done : (queue : List ℕ) (from to k last : ℕ) {w : List ℕ} → k ≤ to → to ≤ k → to - from < 16 → Shifted queue from k w → set w (to - from) last ≡ shifted queue from to last
-shift-done queue from to k last {w} a b l h =
+pub shift_done : (queue : List ℕ) (from to k last : ℕ) {w : List ℕ} → k ≤ to → to ≤ k → to - from < 16 → Shifted queue from k w → set w (to - from) last ≡ shifted queue from to last
+shift_done queue from to k last {w} a b l h =
     let all : k - from ≡ to - from = omega (arith, a, b) in
-    filled-queue (to - from) last (λ j. get_or queue (from + j) 0) l (subst (λ (i : ℕ). Filled {A = ℕ} 0 i (λ j. get_or queue (from + j) 0) (replicate 16 16) w) all h)
+    filled_queue (to - from) last (λ j. get_or queue (from + j) 0) l (subst (λ (i : ℕ). Filled {A = ℕ} 0 i (λ j. get_or queue (from + j) 0) (replicate 16 16) w) all h)
 
 -- ---- sixteen numbers that hold those that wait
-one-behind : (l : List ℕ) (k last : ℕ) → length l ≡ k → queue-of (l ++ (last ∷ [])) ≡ l ++ (last ∷ replicate (15 - k) 16)
-unfolding queue-of
-one-behind l k last e =
+one_behind : (l : List ℕ) (k last : ℕ) → length l ≡ k → queue_of (l ++ (last ∷ [])) ≡ l ++ (last ∷ replicate (15 - k) 16)
+unfolding queue_of
+one_behind l k last e =
     let more = length-append l (last ∷ []) in
     let rest : 16 - length (l ++ (last ∷ [])) ≡ 15 - k = omega (arith, e, more) in
     append_assoc l (last ∷ []) _ ∙ ap (λ (n : ℕ). l ++ (last ∷ replicate n 16)) rest
 
-none-behind : (l : List ℕ) (k : ℕ) → length l ≡ k → k < 16 → queue-of (l ++ []) ≡ l ++ (16 ∷ replicate (15 - k) 16)
-unfolding queue-of
-none-behind l k e h =
+none_behind : (l : List ℕ) (k : ℕ) → length l ≡ k → k < 16 → queue_of (l ++ []) ≡ l ++ (16 ∷ replicate (15 - k) 16)
+unfolding queue_of
+none_behind l k e h =
     let rest : 16 - length l ≡ suc (15 - k) = omega (arith, e, h) in
     ap (λ (x : List ℕ). x ++ replicate (16 - length x) 16) (append-nil l) ∙ ap (λ (n : ℕ). l ++ replicate n 16) rest
 
@@ -87,28 +87,28 @@ module _ (u : Rotation) where
   abbrev at_place : ℕ → ℕ
   at_place k = get_or u.queue k 0
 
-  pub count-few : count_of u.queue ≤ 16
-  count-few = find-le (λ k. leb 16 (at_place k)) 16
+  pub count_few : count_of u.queue ≤ 16
+  count_few = find_le (λ k. leb 16 (at_place k)) 16
 
-  pub length-waiting : length (waiting u) ≡ count_of u.queue
+  pub length_waiting : length (waiting u) ≡ count_of u.queue
   unfolding waiting
-  length-waiting = length-tabulate _ _
+  length_waiting = length_tabulate _ _
 
   -- those that wait are places
-  pub place-below : (k : ℕ) → k < count_of u.queue → at_place k < 16
-  place-below k l = leb-false 16 (at_place k) (find-before (λ j. leb 16 (at_place j)) 16 k l)
+  pub place_below : (k : ℕ) → k < count_of u.queue → at_place k < 16
+  place_below k l = leb-false 16 (at_place k) (find_before (λ j. leb 16 (at_place j)) 16 k l)
 
   -- none waits, or the first and the others
-  pub waits-none : count_of u.queue ≡ 0 → waiting u ≡ []
+  pub waits_none : count_of u.queue ≡ 0 → waiting u ≡ []
   unfolding waiting tabulate
-  waits-none e = ap (λ (k : ℕ). tabulate k at_place) e
+  waits_none e = ap (λ (k : ℕ). tabulate k at_place) e
 
   abbrev others : List ℕ
   others = tabulate (count_of u.queue - 1) (λ k. at_place (suc k))
 
-  pub waits-some : (count_of u.queue ≡ 0 → ⊥) → waiting u ≡ at_place 0 ∷ others
+  pub waits_some : (count_of u.queue ≡ 0 → ⊥) → waiting u ≡ at_place 0 ∷ others
   unfolding waiting tabulate
-  waits-some h =
+  waits_some h =
       let z : count_of u.queue ≡ suc (count_of u.queue - 1) = go _ h in
       ap (λ (k : ℕ). tabulate k at_place) z
     where
@@ -116,59 +116,59 @@ module _ (u : Rotation) where
       go zero h = absurd (h refl)
       go (suc k) h = omega arith
 
-  pub next-none : count_of u.queue ≡ 0 → 16 ≡ next_place u
+  pub next_none : count_of u.queue ≡ 0 → 16 ≡ next_place u
   unfolding next_place
-  next-none e = rw (waits-none e) refl
+  next_none e = rw (waits_none e) refl
 
-  pub next-some : (count_of u.queue ≡ 0 → ⊥) → at_place 0 ≡ next_place u
+  pub next_some : (count_of u.queue ≡ 0 → ⊥) → at_place 0 ≡ next_place u
   unfolding next_place
-  next-some h = rw (waits-some h) refl
+  next_some h = rw (waits_some h) refl
 
   -- a run goes behind those that wait
-  pub behind-all : (k p : ℕ) → k ≡ count_of u.queue → shifted u.queue 0 k p ≡ queue-of (waiting u ++ (p ∷ []))
+  pub behind_all : (k p : ℕ) → k ≡ count_of u.queue → shifted u.queue 0 k p ≡ queue_of (waiting u ++ (p ∷ []))
   unfolding waiting
-  behind-all k p e =
+  behind_all k p e =
       ap (λ (n : ℕ). shifted u.queue 0 n p) e
-      ∙ ap (λ (l : List ℕ). l ++ (p ∷ replicate (15 - (count_of u.queue - 0)) 16)) (tabulate-ext _ _ at_place (λ j l. ap at_place (zero-add j)))
+      ∙ ap (λ (l : List ℕ). l ++ (p ∷ replicate (15 - (count_of u.queue - 0)) 16)) (tabulate_ext _ _ at_place (λ j l. ap at_place (zero-add j)))
       ∙ ap (λ (n : ℕ). tabulate n at_place ++ (p ∷ replicate (15 - n) 16)) (let z : count_of u.queue - 0 ≡ count_of u.queue = omega arith in z)
-      ∙ sym (one-behind (tabulate (count_of u.queue) at_place) (count_of u.queue) p (length-tabulate _ _))
+      ∙ sym (one_behind (tabulate (count_of u.queue) at_place) (count_of u.queue) p (length_tabulate _ _))
 
   -- the first leaves, or goes behind the others
-  moved-others : (k last : ℕ) → k ≡ count_of u.queue → shifted u.queue 1 k last ≡ others ++ (last ∷ replicate (15 - (count_of u.queue - 1)) 16)
-  moved-others k last e =
+  moved_others : (k last : ℕ) → k ≡ count_of u.queue → shifted u.queue 1 k last ≡ others ++ (last ∷ replicate (15 - (count_of u.queue - 1)) 16)
+  moved_others k last e =
       ap (λ (n : ℕ). shifted u.queue 1 n last) e
-      ∙ ap (λ (l : List ℕ). l ++ (last ∷ replicate (15 - (count_of u.queue - 1)) 16)) (tabulate-ext _ _ (λ j. at_place (suc j)) (λ j l. ap at_place (let z : 1 + j ≡ suc j = omega arith in z)))
+      ∙ ap (λ (l : List ℕ). l ++ (last ∷ replicate (15 - (count_of u.queue - 1)) 16)) (tabulate_ext _ _ (λ j. at_place (suc j)) (λ j l. ap at_place (let z : 1 + j ≡ suc j = omega arith in z)))
 
-  length-others : length others ≡ count_of u.queue - 1
-  length-others = length-tabulate _ _
+  length_others : length others ≡ count_of u.queue - 1
+  length_others = length_tabulate _ _
 
   module _ (k : ℕ) (e : k ≡ count_of u.queue) (some : k ≡ 0 → ⊥) (s : PausedRun) where
     is_some : count_of u.queue ≡ 0 → ⊥
     is_some z = some (e ∙ z)
 
-    queue-back : (b : Bool) → shifted u.queue 1 k (end_of (at_place 0) b) ≡ queue-of (others ++ back (at_place 0) b)
-    queue-back true = moved-others k 16 e ∙ sym (none-behind others _ length-others (omega (arith, count-few, e)))
-    queue-back false = moved-others k (at_place 0) e ∙ sym (one-behind others _ (at_place 0) length-others)
+    queue_back : (b : Bool) → shifted u.queue 1 k (end_of (at_place 0) b) ≡ queue_of (others ++ back (at_place 0) b)
+    queue_back true = moved_others k 16 e ∙ sym (none_behind others _ length_others (omega (arith, count_few, e)))
+    queue_back false = moved_others k (at_place 0) e ∙ sym (one_behind others _ (at_place 0) length_others)
 
-    pub passed-on-is : {last : ℕ} {queue : List ℕ} → last ≡ end_of (at_place 0) s.ended → queue ≡ shifted u.queue 1 k last
-        → record { places = set u.places (at_place 0) s; queue = queue } ≡ passed-of u (waiting u) s
-    passed-on-is el eq =
-        let q = eq ∙ ap (λ (x : ℕ). shifted u.queue 1 k x) el ∙ queue-back s.ended in
-        (λ i. record { places = set u.places (at_place 0) s; queue = q i }) ∙ rw (waits-some is_some) refl
+    pub passed_on_is : {last : ℕ} {queue : List ℕ} → last ≡ end_of (at_place 0) s.ended → queue ≡ shifted u.queue 1 k last
+        → record { places = set u.places (at_place 0) s; queue = queue } ≡ passed_of u (waiting u) s
+    passed_on_is el eq =
+        let q = eq ∙ ap (λ (x : ℕ). shifted u.queue 1 k x) el ∙ queue_back s.ended in
+        (λ i. record { places = set u.places (at_place 0) s; queue = q i }) ∙ rw (waits_some is_some) refl
 
   -- ---- room
-  pub room-is : {p k : ℕ} → p ≡ lowest-free u → k ≡ count_of u.queue → (ltb p 16 && ltb k 16) ≡ room u
+  pub room_is : {p k : ℕ} → p ≡ lowest_free u → k ≡ count_of u.queue → (ltb p 16 && ltb k 16) ≡ room u
   unfolding room
-  room-is ep ek = rw (ep, ek, ← length-waiting) refl
+  room_is ep ek = rw (ep, ek, ← length_waiting) refl
 
-  pub has_room : room u ≡ true → (lowest-free u < 16) × (count_of u.queue < 16)
+  pub has_room : room u ≡ true → (lowest_free u < 16) × (count_of u.queue < 16)
   unfolding room
   has_room e =
       let b = and_both _ _ e in
-      (ltb-true _ _ b.0, subst (λ (n : ℕ). n < 16) length-waiting (ltb-true _ _ b.1))
+      (ltb-true _ _ b.0, subst (λ (n : ℕ). n < 16) length_waiting (ltb-true _ _ b.1))
 
-  pub seat-is : (s : PausedRun) {k p : ℕ} {queue : List ℕ} → room u ≡ true → p ≡ lowest-free u → k ≡ count_of u.queue → queue ≡ shifted u.queue 0 k p
-      → record { unit = record { places = set u.places p s; queue = queue }; place = p } ≡ seat-of u s
-  seat-is s {k} {p} {queue} e ep ek eq =
-      let q = eq ∙ behind-all k p ek in
+  pub seat_is : (s : PausedRun) {k p : ℕ} {queue : List ℕ} → room u ≡ true → p ≡ lowest_free u → k ≡ count_of u.queue → queue ≡ shifted u.queue 0 k p
+      → record { unit = record { places = set u.places p s; queue = queue }; place = p } ≡ seat_of u s
+  seat_is s {k} {p} {queue} e ep ek eq =
+      let q = eq ∙ behind_all k p ek in
       (λ i. record { unit = record { places = set u.places p s; queue = q i }; place = p }) ∙ rw (e, ep) refl

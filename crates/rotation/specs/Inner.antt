@@ -6,7 +6,7 @@ use Rattle.doubles.specs.F64.{if◌then◌else◌}
 use Rattle.paused_run.specs.declared.PausedRun.{PausedRun}
 use Rattle.rotation.specs.declared.Rotation.{Rotation}
 use Rattle.rotation.specs.declared.Seat.{Seat}
-use Rattle.rotation.specs.Unit.{vacant, run_at, lowest-free, room, seated, passed_on}
+use Rattle.rotation.specs.Unit.{vacant, run_at, lowest_free, room, seated, passed_on}
 
 -- how many places wait
 abbrev pub count_of : List ℕ → ℕ
@@ -17,12 +17,12 @@ abbrev pub shifted : List ℕ → ℕ → ℕ → ℕ → List ℕ
 shifted queue from to last = tabulate (to - from) (λ k. get_or queue (from + k) 0) ++ (last ∷ replicate (15 - (to - from)) 16)
 
 -- the run in a place of 0 to 15
-abbrev pub run-in-place : Rotation → ℕ → PausedRun
-run-in-place u p = if ltb p 16 then run_at u p else vacant
+abbrev pub run_in_place : Rotation → ℕ → PausedRun
+run_in_place u p = if ltb p 16 then run_at u p else vacant
 
 -- a new run where there is room
-abbrev pub seat-of : Rotation → PausedRun → Seat
-seat-of u s = if room u then record { unit = seated u s; place = lowest-free u } else record { unit = u; place = 16 }
+abbrev pub seat_of : Rotation → PausedRun → Seat
+seat_of u s = if room u then record { unit = seated u s; place = lowest_free u } else record { unit = u; place = 16 }
 
 -- what a place whose turn is over puts at the end: 16, none, where its run has ended
 abbrev pub end_of : ℕ → Bool → ℕ
@@ -30,6 +30,6 @@ end_of p true = 16
 end_of p false = p
 
 -- the first of those that wait after its turn
-abbrev pub passed-of : Rotation → List ℕ → PausedRun → Rotation
-passed-of u [] s = u
-passed-of u (p ∷ l) s = passed_on u p l s
+abbrev pub passed_of : Rotation → List ℕ → PausedRun → Rotation
+passed_of u [] s = u
+passed_of u (p ∷ l) s = passed_on u p l s

@@ -4,12 +4,12 @@ use Rattle.std.specs.Float.{nan}
 use Rattle.lists.specs.Find.{find}
 use Rattle.lists.specs.Loop.{tabulate}
 use Rattle.doubles.specs.F64.{+0, 1f}
-use Rattle.krylov_advance.specs.Run.{empty-report}
+use Rattle.krylov_advance.specs.Run.{empty_report}
 use Rattle.krylov_job.specs.declared.KrylovPhiOptions.{KrylovPhiOptions}
 use Rattle.paused_run.specs.Paused.{Job, Input, PausedCall, leaves, start, step}
 use Rattle.paused_run.specs.declared.PausedRun.{PausedRun}
 use Rattle.paused_run.specs.declared.StartAnswer.{StartAnswer}
-use Rattle.paused_run.specs.declared.StartAnswer.TheVariants as start-answer
+use Rattle.paused_run.specs.declared.StartAnswer.TheVariants as start_answer
 use Rattle.paused_run.specs.declared.StepAnswer.{StepAnswer}
 use Rattle.paused_run.specs.declared.StepAnswer.TheVariants.{Refusal, Stepped}
 use Rattle.rotation.specs.declared.Rotation.{Rotation}
@@ -21,7 +21,7 @@ vacant =
     record {
       time = +0;
       next = +0;
-      report = empty-report;
+      report = empty_report;
       eta = 1f;
       factors = record { down = 1f; up = 1f };
       norm = +0;
@@ -63,8 +63,8 @@ unfoldable pub waiting : Rotation → List ℕ
 waiting u = tabulate (find (λ k. leb 16 (get_or u.queue k 0)) 16) (λ k. get_or u.queue k 0)
 
 -- sixteen numbers that hold them
-unfoldable pub queue-of : List ℕ → List ℕ
-queue-of l = l ++ replicate (16 - length l) 16
+unfoldable pub queue_of : List ℕ → List ℕ
+queue_of l = l ++ replicate (16 - length l) 16
 
 -- 'Asked, the unit names the place whose turn is next, or 16 if no run waits'
 abbrev pub first_of : List ℕ → ℕ
@@ -80,44 +80,44 @@ pub record UnitCall (A : Type 0) : Type 0 where
   pub place : ℕ
   pub call : PausedCall A
 
-abbrev pub unit-call : {A : Type 0} → Rotation → ℕ → PausedCall A → UnitCall A
-unit-call u p c = record { unit = u; place = p; call = c }
+abbrev pub unit_call : {A : Type 0} → Rotation → ℕ → PausedCall A → UnitCall A
+unit_call u p c = record { unit = u; place = p; call = c }
 
 -- ---- a new run
 -- 'the lowest free place of 0 to 15', 16 if there is none
-unfoldable pub lowest-free : Rotation → ℕ
-lowest-free u = find (λ p. (run_at u p).ended) 16
+unfoldable pub lowest_free : Rotation → ℕ
+lowest_free u = find (λ p. (run_at u p).ended) 16
 
 -- there is one, and the queue has room, as it has in every unit that a call left
 unfoldable pub room : Rotation → Bool
-room u = ltb (lowest-free u) 16 && ltb (length (waiting u)) 16
+room u = ltb (lowest_free u) 16 && ltb (length (waiting u)) 16
 
 -- 'A new run joins the end'
 abbrev pub seated : Rotation → PausedRun → Rotation
-seated u s = record { places = set u.places (lowest-free u) s; queue = queue-of (waiting u ++ (lowest-free u ∷ [])) }
+seated u s = record { places = set u.places (lowest_free u) s; queue = queue_of (waiting u ++ (lowest_free u ∷ [])) }
 
 -- by whether the run has ended at its start ('takes none') and whether there is room (32)
-abbrev pub admitted-by : Bool → Bool → Rotation → PausedRun → PausedCall StartAnswer → PausedCall StartAnswer → UnitCall StartAnswer
-admitted-by true free u s c full = unit-call u 16 c
-admitted-by false true u s c full = unit-call (seated u s) (lowest-free u) c
-admitted-by false false u s c full = unit-call u 16 full
+abbrev pub admitted_by : Bool → Bool → Rotation → PausedRun → PausedCall StartAnswer → PausedCall StartAnswer → UnitCall StartAnswer
+admitted_by true free u s c full = unit_call u 16 c
+admitted_by false true u s c full = unit_call (seated u s) (lowest_free u) c
+admitted_by false false u s c full = unit_call u 16 full
 
 -- 'It refuses with 32, after all checks of the job itself, a seventeenth unfinished run': a refused start is refused as it is
 unfoldable pub admitted : Rotation → StartAnswer → PausedCall StartAnswer → PausedCall StartAnswer → UnitCall StartAnswer
-admitted u (start-answer.Refusal k x) c full = unit-call u 16 c
-admitted u (start-answer.Started s) c full = admitted-by s.ended (room u) u s c full
+admitted u (start_answer.Refusal k x) c full = unit_call u 16 c
+admitted u (start_answer.Started s) c full = admitted_by s.ended (room u) u s c full
 
 -- c: as the start leaves output, working memory and field; full: nothing is changed
 unfoldable pub join : Rotation → KrylovPhiOptions → Job → List Float → List Float → List Float → UnitCall StartAnswer
 join u o j output memory field =
     let c = start o j output memory field in
-    admitted u c.answer c (leaves (start-answer.Refusal 32 nan) output memory field)
+    admitted u c.answer c (leaves (start_answer.Refusal 32 nan) output memory field)
 
 -- ---- a turn
 -- the run that a step hands back: after an early refusal the run as it was
-abbrev pub run-left : StepAnswer → PausedRun
-run-left (Refusal k x s) = s
-run-left (Stepped s) = s
+abbrev pub run_left : StepAnswer → PausedRun
+run_left (Refusal k x s) = s
+run_left (Stepped s) = s
 
 -- 'an ended run leaves'; any other goes to the end: 'A turn refused early counts and passes on'
 abbrev pub back : ℕ → Bool → List ℕ
@@ -125,14 +125,14 @@ back p true = []
 back p false = p ∷ []
 
 abbrev pub passed_on : Rotation → ℕ → List ℕ → PausedRun → Rotation
-passed_on u p l s = record { places = set u.places p s; queue = queue-of (l ++ back p s.ended) }
+passed_on u p l s = record { places = set u.places p s; queue = queue_of (l ++ back p s.ended) }
 
 -- the run whose turn it is makes one step on the field y; 'if no run waits; a turn is then refused with 31', and nothing is changed
-unfoldable pub turn-of : List ℕ → Rotation → List Float → Input → UnitCall StepAnswer
-turn-of [] u y i = unit-call u 16 (leaves (Refusal 31 nan vacant) i.output i.memory y)
-turn-of (p ∷ l) u y i =
+unfoldable pub turn_of : List ℕ → Rotation → List Float → Input → UnitCall StepAnswer
+turn_of [] u y i = unit_call u 16 (leaves (Refusal 31 nan vacant) i.output i.memory y)
+turn_of (p ∷ l) u y i =
     let c = step (run_at u p) y i in
-    unit-call (passed_on u p l (run-left c.answer)) p c
+    unit_call (passed_on u p l (run_left c.answer)) p c
 
 unfoldable pub turn : Rotation → List Float → Input → UnitCall StepAnswer
-turn u y i = turn-of (waiting u) u y i
+turn u y i = turn_of (waiting u) u y i

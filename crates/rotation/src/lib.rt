@@ -1,7 +1,7 @@
 // Up to sixteen paused runs on one unit, in rotation, one substep at a time: the places and the queue.
 ghost use Rattle.std.specs.Prelude.{◌≡◌, ◌-◌, ◌≤◌, ◌<◌};
-ghost use Rattle.rotation.specs.Unit.{vacant, empty, waiting, next_place, lowest-free, room};
-ghost use Rattle.rotation.specs.Inner.{count_of, shifted, run-in-place, seat-of, end_of, passed-of};
+ghost use Rattle.rotation.specs.Unit.{vacant, empty, waiting, next_place, lowest_free, room};
+ghost use Rattle.rotation.specs.Inner.{count_of, shifted, run_in_place, seat_of, end_of, passed_of};
 
 use krylov_advance::KrylovPhiReport;
 use paused_run::PausedRun;
@@ -86,7 +86,7 @@ pub fn next_place(unit: Rotation) -> usize
 
 // The run in a place; beyond the last that of a place never taken.
 pub fn run_at(unit: Rotation, p: usize) -> PausedRun
-    ensures { result ≡ run-in-place unit p }
+    ensures { result ≡ run_in_place unit p }
 {
     if p < 16 {
         return unit.places[p];
@@ -96,7 +96,7 @@ pub fn run_at(unit: Rotation, p: usize) -> PausedRun
 
 // The lowest place whose run has ended, 16 if there is none.
 fn lowest_free(unit: Rotation) -> usize
-    ensures { result ≡ lowest-free unit }
+    ensures { result ≡ lowest_free unit }
 {
     let mut p = 0;
     while p < 16 {
@@ -134,7 +134,7 @@ fn shifted(queue: [usize; 16], from: usize, to: usize, last: usize) -> [usize; 1
 
 // A new run behind those that wait, in the lowest free place; where there is no room the unit stays as it is.
 pub fn seated(unit: Rotation, run: PausedRun) -> Seat
-    ensures { result ≡ seat-of unit run }
+    ensures { result ≡ seat_of unit run }
 {
     if room(unit) {
         let p = lowest_free(unit);
@@ -167,7 +167,7 @@ fn end_of(p: usize, ended: bool) -> usize
 
 // The run whose turn was next after that turn: it leaves or goes to the end.
 pub fn passed_on(unit: Rotation, run: PausedRun) -> Rotation
-    ensures { result ≡ passed-of unit (waiting unit) run }
+    ensures { result ≡ passed_of unit (waiting unit) run }
 {
     let queue = unit.queue;
     let k = count_in(queue);

@@ -6,18 +6,18 @@ use mathlib.Core.Option.{none}
 use Prim.Native.Nat.{ℕ, ◌+◌}
 use lib.ListN.{replicate}
 use lib.Ieee.{Float}
-use Rattle.lists.specs.Find.{open-Find}
-use Rattle.lists.specs.Loop.{open-Loop}
+use Rattle.lists.specs.Find.{open_find}
+use Rattle.lists.specs.Loop.{open_loop}
 use Rattle.doubles.specs.F64.{bits, nat, 1f, +0}
 use Rattle.general_operator.specs.Csr.{csr}
 use Rattle.generator_action.specs.Generator.{forward}
 use Rattle.krylov_job.specs.declared.KrylovPhiOptions.{KrylovPhiOptions}
-use Rattle.paused_run.specs.Paused.{Job, open-Paused}
+use Rattle.paused_run.specs.Paused.{Job, open_paused}
 use Rattle.paused_run.specs.declared.Tolerance.TheVariants.{Same}
-use Rattle.paused_run.specs.declared.StartAnswer.TheVariants as start-answer
-use Rattle.rotation.specs.Unit.{empty, waiting, queue-of, next_place, lowest-free, room, admitted, join, turn-of, turn}
+use Rattle.paused_run.specs.declared.StartAnswer.TheVariants as start_answer
+use Rattle.rotation.specs.Unit.{empty, waiting, queue_of, next_place, lowest_free, room, admitted, join, turn_of, turn}
 use Rattle.paused_claims.specs.Alike.{number_in}
-use Rattle.rotation_claims.specs.History.{Act, joins, takes-turn, Event, joined, turned, unit-after, event-of, unit-from, events-from, unfinished-from, unfinished}
+use Rattle.rotation_claims.specs.History.{Act, joins, takes_turn, Event, joined, turned, unit_after, event_of, unit_from, events_from, unfinished_from, unfinished}
 use Rattle.rotation_claims.specs.Order.{place_in}
 
 -- 1e-10
@@ -36,7 +36,7 @@ comes n x = joins options (barrel n x) (replicate n (nat 7)) (replicate 60 (nat 
 
 -- a turn with the matrix of n rows and the field of m
 abbrev serves : ℕ → ℕ → Act
-serves n m = takes-turn (record { tolerance = Same; job = barrel n 1f; output = replicate n (nat 7); memory = replicate 60 (nat 9) }) (replicate m 1f)
+serves n m = takes_turn (record { tolerance = Same; job = barrel n 1f; output = replicate n (nat 7); memory = replicate 60 (nat 9) }) (replicate m 1f)
 
 -- three rows come, then two; zeros take no place; the first has its turn and ends; the second is brought the matrix of three rows (16), then goes on; one row takes place 0 again; both have
 -- their turns; none waits
@@ -45,18 +45,18 @@ acts = comes 3 1f ∷ comes 2 1f ∷ comes 2 +0 ∷ serves 3 3 ∷ serves 3 2 �
 
 -- 0, or the refusal's number
 abbrev number_of : Event → ℕ
-number_of (joined o j q c) = elim c.answer [ start-answer.Refusal k x ↦ k | start-answer.Started s ↦ 0 ]
+number_of (joined o j q c) = elim c.answer [ start_answer.Refusal k x ↦ k | start_answer.Started s ↦ 0 ]
 number_of (turned i y q c) = number_in c.answer
 
-places : map place_in (events-from empty acts) ≡ 0 ∷ 1 ∷ 16 ∷ 0 ∷ 1 ∷ 0 ∷ 1 ∷ 0 ∷ 16 ∷ []
-unfolding open-Paused open-Find open-Loop empty waiting queue-of next_place lowest-free room admitted join turn-of turn unit-after event-of unit-from events-from
+places : map place_in (events_from empty acts) ≡ 0 ∷ 1 ∷ 16 ∷ 0 ∷ 1 ∷ 0 ∷ 1 ∷ 0 ∷ 16 ∷ []
+unfolding open_paused open_find open_loop empty waiting queue_of next_place lowest_free room admitted join turn_of turn unit_after event_of unit_from events_from
 places = refl
 
-numbers : map number_of (events-from empty acts) ≡ 0 ∷ 0 ∷ 0 ∷ 0 ∷ 16 ∷ 0 ∷ 0 ∷ 0 ∷ 31 ∷ []
-unfolding open-Paused open-Find open-Loop empty waiting queue-of next_place lowest-free room admitted join turn-of turn unit-after event-of unit-from events-from
+numbers : map number_of (events_from empty acts) ≡ 0 ∷ 0 ∷ 0 ∷ 0 ∷ 16 ∷ 0 ∷ 0 ∷ 0 ∷ 31 ∷ []
+unfolding open_paused open_find open_loop empty waiting queue_of next_place lowest_free room admitted join turn_of turn unit_after event_of unit_from events_from
 numbers = refl
 
 -- after the second barrel came both are unfinished; place 2 is free
 after_two : (unfinished (comes 3 1f ∷ comes 2 1f ∷ []) 0 ≡ true) × (unfinished (comes 3 1f ∷ comes 2 1f ∷ []) 1 ≡ true) × (unfinished (comes 3 1f ∷ comes 2 1f ∷ []) 2 ≡ false)
-unfolding open-Paused open-Find open-Loop empty waiting queue-of next_place lowest-free room admitted join turn-of turn unit-after event-of unit-from events-from unfinished-from
+unfolding open_paused open_find open_loop empty waiting queue_of next_place lowest_free room admitted join turn_of turn unit_after event_of unit_from events_from unfinished_from
 after_two = (refl, refl, refl)

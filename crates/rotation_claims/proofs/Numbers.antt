@@ -10,80 +10,80 @@ use lib.Ieee.{Float, nan}
 use Rattle.lists.specs.Walk.{Turn, on, out}
 use Rattle.doubles.specs.F64.{if◌then◌else◌}
 use Rattle.checks.specs.First.{Check, refuse, first, before}
-use Rattle.checks.proofs.First.{unless, first-cons}
-use Rattle.checks.proofs.Numbers.{before-append, not-by}
+use Rattle.checks.proofs.First.{unless, first_cons}
+use Rattle.checks.proofs.Numbers.{before_append, not_by}
 use Rattle.checks.specs.declared.Checked.{Checked}
 use Rattle.checks.specs.declared.Checked.TheVariants.{Sound, Refused}
-use Rattle.combination.specs.Checks.{count-checks, time-checks, length-checks, finite-checks, magnitude-checks, memory-checks, vector-checks-by}
+use Rattle.combination.specs.Checks.{count_checks, time_checks, length_checks, finite_checks, magnitude_checks, memory_checks, vector_checks_by}
 use Rattle.krylov_advance.specs.Run.{State, End, finished, refused}
-use Rattle.krylov_job.specs.KrylovCall.{option-checks, bound-checks, run-checks, krylov-checks-by, krylov-checks}
+use Rattle.krylov_job.specs.KrylovCall.{option_checks, bound_checks, run_checks, krylov_checks_by, krylov_checks}
 use Rattle.krylov_job.specs.declared.KrylovPhiOptions.{KrylovPhiOptions}
-use Rattle.paused_run.specs.Paused.{Job, rows, degree, field-checks, Input, tol-in, options-in, over, other-checks, step-checks, moved, verdict, substep-of, after-substep, step-unless, step}
+use Rattle.paused_run.specs.Paused.{Job, rows, degree, field_checks, Input, tol_in, options_in, over, other_checks, step_checks, moved, verdict, substep_of, after_substep, step_unless, step}
 use Rattle.paused_run.specs.declared.PausedRun.{PausedRun}
-use Rattle.paused_run.specs.declared.StepAnswer.TheVariants as step-answer
+use Rattle.paused_run.specs.declared.StepAnswer.TheVariants as step_answer
 use Rattle.paused_claims.specs.Alike.{number_in}
-use Rattle.paused_claims.proofs.Standing.{Refuses, substep-refuses}
+use Rattle.paused_claims.proofs.Standing.{Refuses, substep_refuses}
 
 -- k is none of the numbers of a start's own checks
 module _ (o : KrylovPhiOptions) (j : Job) (output memory : ℕ) where
   abbrev own : List Check
-  own = krylov-checks j.g j.tau j.count j.w o output memory
+  own = krylov_checks j.g j.tau j.count j.w o output memory
 
-  pub none-32 : before 32 j.g.checks ≡ j.g.checks → before 32 own ≡ own
-  unfolding before krylov-checks krylov-checks-by vector-checks-by count-checks time-checks length-checks finite-checks option-checks run-checks magnitude-checks bound-checks memory-checks
-  none-32 h = before-append 32 j.g.checks _ h
+  pub none_32 : before 32 j.g.checks ≡ j.g.checks → before 32 own ≡ own
+  unfolding before krylov_checks krylov_checks_by vector_checks_by count_checks time_checks length_checks finite_checks option_checks run_checks magnitude_checks bound_checks memory_checks
+  none_32 h = before_append 32 j.g.checks _ h
 
-  pub none-23 : before 23 j.g.checks ≡ j.g.checks → before 23 own ≡ own
-  unfolding before krylov-checks krylov-checks-by vector-checks-by count-checks time-checks length-checks finite-checks option-checks run-checks magnitude-checks bound-checks memory-checks
-  none-23 h = before-append 23 j.g.checks _ h
+  pub none_23 : before 23 j.g.checks ≡ j.g.checks → before 23 own ≡ own
+  unfolding before krylov_checks krylov_checks_by vector_checks_by count_checks time_checks length_checks finite_checks option_checks run_checks magnitude_checks bound_checks memory_checks
+  none_23 h = before_append 23 j.g.checks _ h
 
 -- nor of a step's
-pub step-none-23 : (s : PausedRun) (field : ℕ) (i : Input) → before 23 i.job.g.checks ≡ i.job.g.checks → before 23 (step-checks s field i) ≡ step-checks s field i
-unfolding before step-checks krylov-checks-by vector-checks-by count-checks time-checks length-checks other-checks finite-checks option-checks run-checks magnitude-checks bound-checks memory-checks field-checks
-step-none-23 s field i h =
+pub step_none_23 : (s : PausedRun) (field : ℕ) (i : Input) → before 23 i.job.g.checks ≡ i.job.g.checks → before 23 (step_checks s field i) ≡ step_checks s field i
+unfolding before step_checks krylov_checks_by vector_checks_by count_checks time_checks length_checks other_checks finite_checks option_checks run_checks magnitude_checks bound_checks memory_checks field_checks
+step_none_23 s field i h =
     let j = i.job in
     ap (λ (l : List Check). refuse 31 (over s) nan ∷ l)
-    (ap (before 23) (append_assoc j.g.checks _ (field-checks field (rows j + degree j))) ∙ before-append 23 j.g.checks _ h ∙ sym (append_assoc j.g.checks _ (field-checks field (rows j + degree j))))
+    (ap (before 23) (append_assoc j.g.checks _ (field_checks field (rows j + degree j))) ∙ before_append 23 j.g.checks _ h ∙ sym (append_assoc j.g.checks _ (field_checks field (rows j + degree j))))
 
 -- 31 is the first alone
 abbrev behind : PausedRun → ℕ → Input → List Check
 behind s field i =
     let j = i.job in
-    krylov-checks-by j.g j.tau j.count j.w s.eta (length-checks (length i.output) (rows j) (length j.w) (j.count * rows j) ++ other-checks s j) (options-in s (tol-in i.tolerance s)) (length i.memory)
-    ++ field-checks field (rows j + degree j)
+    krylov_checks_by j.g j.tau j.count j.w s.eta (length_checks (length i.output) (rows j) (length j.w) (j.count * rows j) ++ other_checks s j) (options_in s (tol_in i.tolerance s)) (length i.memory)
+    ++ field_checks field (rows j + degree j)
 
-behind-none : (s : PausedRun) (field : ℕ) (i : Input) → before 31 i.job.g.checks ≡ i.job.g.checks → before 31 (behind s field i) ≡ behind s field i
-unfolding before krylov-checks-by vector-checks-by count-checks time-checks length-checks other-checks finite-checks option-checks run-checks magnitude-checks bound-checks memory-checks field-checks
-behind-none s field i h =
+behind_none : (s : PausedRun) (field : ℕ) (i : Input) → before 31 i.job.g.checks ≡ i.job.g.checks → before 31 (behind s field i) ≡ behind s field i
+unfolding before krylov_checks_by vector_checks_by count_checks time_checks length_checks other_checks finite_checks option_checks run_checks magnitude_checks bound_checks memory_checks field_checks
+behind_none s field i h =
     let j = i.job in
-    ap (before 31) (append_assoc j.g.checks _ (field-checks field (rows j + degree j))) ∙ before-append 31 j.g.checks _ h ∙ sym (append_assoc j.g.checks _ (field-checks field (rows j + degree j)))
+    ap (before 31) (append_assoc j.g.checks _ (field_checks field (rows j + degree j))) ∙ before_append 31 j.g.checks _ h ∙ sym (append_assoc j.g.checks _ (field_checks field (rows j + degree j)))
 
-pub only-over : (s : PausedRun) (field : ℕ) (i : Input) → before 31 i.job.g.checks ≡ i.job.g.checks → over s ≡ false → (x : Float) → Refused 31 x ≡ first (step-checks s field i) → ⊥
-unfolding step-checks
-only-over s field i h e x r = not-by 31 (behind s field i) (behind-none s field i h) (r ∙ first-cons 31 (over s) nan (behind s field i) ∙ ap (λ (b : Bool). unless b 31 nan (first (behind s field i))) e)
+pub only_over : (s : PausedRun) (field : ℕ) (i : Input) → before 31 i.job.g.checks ≡ i.job.g.checks → over s ≡ false → (x : Float) → Refused 31 x ≡ first (step_checks s field i) → ⊥
+unfolding step_checks
+only_over s field i h e x r = not_by 31 (behind s field i) (behind_none s field i h) (r ∙ first_cons 31 (over s) nan (behind s field i) ∙ ap (λ (b : Bool). unless b 31 nan (first (behind s field i))) e)
 
 -- ---- nor has a substep's answer one of them: it is 27, 28 or 29
-pub verdict-number : (s : PausedRun) (tol : Float) (t : State) (o : Turn State End) → Refuses t o → (k : ℕ) → (k ≡ 0 → ⊥) → (k ≡ 27 → ⊥) → (k ≡ 28 → ⊥) → (k ≡ 29 → ⊥) → number_in (verdict s tol o) ≡ k → ⊥
+pub verdict_number : (s : PausedRun) (tol : Float) (t : State) (o : Turn State End) → Refuses t o → (k : ℕ) → (k ≡ 0 → ⊥) → (k ≡ 27 → ⊥) → (k ≡ 28 → ⊥) → (k ≡ 29 → ⊥) → number_in (verdict s tol o) ≡ k → ⊥
 unfolding verdict
-verdict-number s tol t (on n) h k n0 n27 n28 n29 e = go (ltb n.report.substeps s.limit) e
+verdict_number s tol t (on n) h k n0 n27 n28 n29 e = go (ltb n.report.substeps s.limit) e
   where
-    go : (b : Bool) → number_in (if b then step-answer.Stepped (moved s tol n n.report false) else step-answer.Refusal 27 n.report.est_error (moved s tol n n.report true)) ≡ k → ⊥
+    go : (b : Bool) → number_in (if b then step_answer.Stepped (moved s tol n n.report false) else step_answer.Refusal 27 n.report.est_error (moved s tol n n.report true)) ≡ k → ⊥
     go true e = n0 (sym e)
     go false e = n27 (sym e)
-verdict-number s tol t (out (finished n)) h k n0 n27 n28 n29 e = n0 (sym e)
-verdict-number s tol t (out (refused r x n)) h k n0 n27 n28 n29 e = elim h.1 [
+verdict_number s tol t (out (finished n)) h k n0 n27 n28 n29 e = n0 (sym e)
+verdict_number s tol t (out (refused r x n)) h k n0 n27 n28 n29 e = elim h.1 [
   | inl a ↦ n28 (sym e ∙ a)
   | inr a ↦ n29 (sym e ∙ a)
 ]
 
 -- by a step's checks
-step_by : (s : PausedRun) (y : List Float) (i : Input) (c : Checked) (k : ℕ) → first (step-checks s (length y) i) ≡ c → ((x : Float) → Refused k x ≡ first (step-checks s (length y) i) → ⊥)
-    → (k ≡ 0 → ⊥) → (k ≡ 27 → ⊥) → (k ≡ 28 → ⊥) → (k ≡ 29 → ⊥) → number_in (step-unless c s y i).answer ≡ k → ⊥
-unfolding step-unless after-substep
+step_by : (s : PausedRun) (y : List Float) (i : Input) (c : Checked) (k : ℕ) → first (step_checks s (length y) i) ≡ c → ((x : Float) → Refused k x ≡ first (step_checks s (length y) i) → ⊥)
+    → (k ≡ 0 → ⊥) → (k ≡ 27 → ⊥) → (k ≡ 28 → ⊥) → (k ≡ 29 → ⊥) → number_in (step_unless c s y i).answer ≡ k → ⊥
+unfolding step_unless after_substep
 step_by s y i (Refused r x) k ec h n0 n27 n28 n29 e = h x (ap (λ (z : ℕ). Refused z x) (sym e) ∙ sym ec)
-step_by s y i Sound k ec h n0 n27 n28 n29 e = verdict-number s (tol-in i.tolerance s) _ (substep-of s y i) (substep-refuses _ _) k n0 n27 n28 n29 e
+step_by s y i Sound k ec h n0 n27 n28 n29 e = verdict_number s (tol_in i.tolerance s) _ (substep_of s y i) (substep_refuses _ _) k n0 n27 n28 n29 e
 
-pub step-number : (s : PausedRun) (y : List Float) (i : Input) (k : ℕ) → ((x : Float) → Refused k x ≡ first (step-checks s (length y) i) → ⊥)
+pub step_number : (s : PausedRun) (y : List Float) (i : Input) (k : ℕ) → ((x : Float) → Refused k x ≡ first (step_checks s (length y) i) → ⊥)
     → (k ≡ 0 → ⊥) → (k ≡ 27 → ⊥) → (k ≡ 28 → ⊥) → (k ≡ 29 → ⊥) → number_in (step s y i).answer ≡ k → ⊥
 unfolding step
-step-number s y i k h n0 n27 n28 n29 e = step_by s y i (first (step-checks s (length y) i)) k refl h n0 n27 n28 n29 e
+step_number s y i k h n0 n27 n28 n29 e = step_by s y i (first (step_checks s (length y) i)) k refl h n0 n27 n28 n29 e

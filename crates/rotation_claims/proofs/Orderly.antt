@@ -17,14 +17,14 @@ use Rattle.paused_run.specs.Paused.{Job, Input, PausedCall, step}
 use Rattle.paused_run.specs.declared.PausedRun.{PausedRun}
 use Rattle.paused_run.specs.declared.StartAnswer.{StartAnswer}
 use Rattle.paused_run.specs.declared.StepAnswer.{StepAnswer}
-use Rattle.rotation.specs.Unit.{vacant, unread, run_at, empty, waiting, UnitCall, unit-call, lowest-free, seated, join, run-left, back, passed_on, turn}
+use Rattle.rotation.specs.Unit.{vacant, unread, run_at, empty, waiting, UnitCall, unit_call, lowest_free, seated, join, run_left, back, passed_on, turn}
 use Rattle.rotation.specs.declared.Rotation.{Rotation}
 use Rattle.paused_claims.specs.History.{run_in}
-use Rattle.lists.proofs.Tests.{or-true, and-false}
-use Rattle.rotation_claims.specs.History.{Act, joins, takes-turn, Event, joined, turned, unit-after, event-of, unit-from, events-from, left_by, goes_on, unfinished-from, unfinished}
+use Rattle.lists.proofs.Tests.{or_true, and_false}
+use Rattle.rotation_claims.specs.History.{Act, joins, takes_turn, Event, joined, turned, unit_after, event_of, unit_from, events_from, left_by, goes_on, unfinished_from, unfinished}
 use Rattle.rotation_claims.specs.Order.{times}
-use Rattle.rotation_claims.proofs.Queue.{times-append, times-here, times-other, times_none, waiting_few, queue_long}
-use Rattle.rotation_claims.proofs.Cases.{Seated, Unseated, join-cases, place_is, queue-room, was_free, waits-last, Served, Unserved, turn-cases, same-run, first_below, waits-after, held-there, held-else}
+use Rattle.rotation_claims.proofs.Queue.{times_append, times_here, times_other, times_none, waiting_few, queue_long}
+use Rattle.rotation_claims.proofs.Cases.{Seated, Unseated, join_cases, place_is, queue_room, was_free, waits_last, Served, Unserved, turn_cases, same_run, first_below, waits_after, held_there, held_else}
 
 pub record Orderly (u : Rotation) (f : ℕ → Bool) : Type 0 where
   pub runs : length u.places ≡ 16
@@ -44,8 +44,8 @@ ordered {u} {f} h {v} {g} e k =
 
 -- ---- what it tells
 module _ {u : Rotation} {f : ℕ → Bool} (h : Orderly u f) (p : ℕ) where
-  pub in-queue : f p ≡ true → times p (waiting u) ≡ 1
-  in-queue e = h.once p ∙ ap (λ (b : Bool). if b then 1 else 0) e
+  pub in_queue : f p ≡ true → times p (waiting u) ≡ 1
+  in_queue e = h.once p ∙ ap (λ (b : Bool). if b then 1 else 0) e
 
   pub not_in : f p ≡ false → times p (waiting u) ≡ 0
   not_in e = h.once p ∙ ap (λ (b : Bool). if b then 1 else 0) e
@@ -57,19 +57,19 @@ module _ {u : Rotation} {f : ℕ → Bool} (h : Orderly u f) (p : ℕ) where
       go true e = omega (arith, e)
       go false e = omega (arith, e)
 
-  pub told-by : 0 < times p (waiting u) → f p ≡ true
-  told-by l = go (f p) refl
+  pub told_by : 0 < times p (waiting u) → f p ≡ true
+  told_by l = go (f p) refl
     where
       go : (b : Bool) → f p ≡ b → b ≡ true
       go true e = refl
       go false e = absurd (omega (arith, not_in e, l))
 
-  pub told-not : times p (waiting u) ≡ 0 → f p ≡ false
-  told-not l = go (f p) refl
+  pub told_not : times p (waiting u) ≡ 0 → f p ≡ false
+  told_not l = go (f p) refl
     where
       go : (b : Bool) → f p ≡ b → b ≡ false
       go false e = refl
-      go true e = absurd (omega (arith, in-queue e, l))
+      go true e = absurd (omega (arith, in_queue e, l))
 
   pub is_free : p < 16 → (run_at u p).ended ≡ true → f p ≡ false
   is_free l e = not-true (f p) (sym (h.free p l) ∙ e)
@@ -78,9 +78,9 @@ module _ {u : Rotation} {f : ℕ → Bool} (h : Orderly u f) (p : ℕ) where
   goes l e = not-false (f p) (sym (h.free p l) ∙ e)
 
 -- ---- the empty unit
-pub orderly-empty : Orderly empty (λ p. false)
+pub orderly_empty : Orderly empty (λ p. false)
 unfolding empty
-orderly-empty =
+orderly_empty =
     record {
       runs = refl;
       queue = refl;
@@ -89,80 +89,80 @@ orderly-empty =
     }
 
 -- ---- a join
-or-false : (b : Bool) → (b || false) ≡ b
-or-false true = refl
-or-false false = refl
+or_false : (b : Bool) → (b || false) ≡ b
+or_false true = refl
+or_false false = refl
 
 module _ {u : Rotation} {f : ℕ → Bool} (h : Orderly u f) where
-  abbrev joined-flag : UnitCall StartAnswer → ℕ → Bool
-  joined-flag r p = f p || (eqb r.place p && goes_on r.call.answer)
+  abbrev joined_flag : UnitCall StartAnswer → ℕ → Bool
+  joined_flag r p = f p || (eqb r.place p && goes_on r.call.answer)
 
   module _ (c : PausedCall StartAnswer) (r : UnitCall StartAnswer) (k : Seated u c r) where
     abbrev q : ℕ
-    q = lowest-free u
+    q = lowest_free u
 
     abbrev r₀ : UnitCall StartAnswer
-    r₀ = unit-call (seated u k.s) q c
+    r₀ = unit_call (seated u k.s) q c
 
     on : goes_on c.answer ≡ true
     on = ap goes_on k.started ∙ ap not k.on
 
-    q-free : f q ≡ false
-    q-free = is_free h q (place_is u k.room) (was_free u k.room)
+    q_free : f q ≡ false
+    q_free = is_free h q (place_is u k.room) (was_free u k.room)
 
-    flag-here : (p : ℕ) → eqb q p ≡ true → joined-flag r₀ p ≡ true
-    flag-here p e = ap (λ (b : Bool). f p || (b && goes_on c.answer)) e ∙ ap (λ (b : Bool). f p || b) on ∙ or-true (f p)
+    flag_here : (p : ℕ) → eqb q p ≡ true → joined_flag r₀ p ≡ true
+    flag_here p e = ap (λ (b : Bool). f p || (b && goes_on c.answer)) e ∙ ap (λ (b : Bool). f p || b) on ∙ or_true (f p)
 
-    flag-else : (p : ℕ) → eqb q p ≡ false → joined-flag r₀ p ≡ f p
-    flag-else p e = ap (λ (b : Bool). f p || (b && goes_on c.answer)) e ∙ or-false (f p)
+    flag_else : (p : ℕ) → eqb q p ≡ false → joined_flag r₀ p ≡ f p
+    flag_else p e = ap (λ (b : Bool). f p || (b && goes_on c.answer)) e ∙ or_false (f p)
 
-    once_by : (p : ℕ) (b : Bool) → eqb q p ≡ b → times p (waiting (seated u k.s)) ≡ (if joined-flag r₀ p then 1 else 0)
+    once_by : (p : ℕ) (b : Bool) → eqb q p ≡ b → times p (waiting (seated u k.s)) ≡ (if joined_flag r₀ p then 1 else 0)
     once_by p true e =
-        let here : times p (q ∷ []) ≡ 1 = times-here p q [] e ∙ ap suc (times_none p) in
-        let none = not_in h p (ap f (sym (eqb-true q p e)) ∙ q-free) in
-        ap (times p) (waits-last u k.room k.s) ∙ times-append p (waiting u) (q ∷ []) ∙ (λ i. none i + here i) ∙ ap (λ (x : Bool). if x then 1 else 0) (sym (flag-here p e))
+        let here : times p (q ∷ []) ≡ 1 = times_here p q [] e ∙ ap suc (times_none p) in
+        let none = not_in h p (ap f (sym (eqb-true q p e)) ∙ q_free) in
+        ap (times p) (waits_last u k.room k.s) ∙ times_append p (waiting u) (q ∷ []) ∙ (λ i. none i + here i) ∙ ap (λ (x : Bool). if x then 1 else 0) (sym (flag_here p e))
     once_by p false e =
-        let else-where : times p (q ∷ []) ≡ 0 = times-other p q [] e ∙ times_none p in
-        let same : times p (waiting u) + times p (q ∷ []) ≡ times p (waiting u) = omega (arith, else-where) in
-        ap (times p) (waits-last u k.room k.s) ∙ times-append p (waiting u) (q ∷ []) ∙ same ∙ h.once p ∙ ap (λ (x : Bool). if x then 1 else 0) (sym (flag-else p e))
+        let else_where : times p (q ∷ []) ≡ 0 = times_other p q [] e ∙ times_none p in
+        let same : times p (waiting u) + times p (q ∷ []) ≡ times p (waiting u) = omega (arith, else_where) in
+        ap (times p) (waits_last u k.room k.s) ∙ times_append p (waiting u) (q ∷ []) ∙ same ∙ h.once p ∙ ap (λ (x : Bool). if x then 1 else 0) (sym (flag_else p e))
 
-    free-by : (p : ℕ) → p < 16 → (b : Bool) → eqb q p ≡ b → (run_at (seated u k.s) p).ended ≡ not (joined-flag r₀ p)
-    free-by p l true e =
+    free_by : (p : ℕ) → p < 16 → (b : Bool) → eqb q p ≡ b → (run_at (seated u k.s) p).ended ≡ not (joined_flag r₀ p)
+    free_by p l true e =
         let same = eqb-true q p e in
         ap (λ (x : ℕ). (run_at (seated u k.s) x).ended) (sym same)
-        ∙ ap (λ (s : PausedRun). s.ended) (held-there u.places q k.s h.runs (place_is u k.room))
+        ∙ ap (λ (s : PausedRun). s.ended) (held_there u.places q k.s h.runs (place_is u k.room))
         ∙ k.on
-        ∙ ap not (sym (flag-here p e))
-    free-by p l false e =
-        ap (λ (s : PausedRun). s.ended) (held-else u.places q p k.s (λ x. eqb-false q p e (sym x)))
+        ∙ ap not (sym (flag_here p e))
+    free_by p l false e =
+        ap (λ (s : PausedRun). s.ended) (held_else u.places q p k.s (λ x. eqb-false q p e (sym x)))
         ∙ h.free p l
-        ∙ ap not (sym (flag-else p e))
+        ∙ ap not (sym (flag_else p e))
 
-    seated-orderly : Orderly r.unit (joined-flag r)
-    seated-orderly =
+    seated_orderly : Orderly r.unit (joined_flag r)
+    seated_orderly =
         let more = length-append (waiting u) (q ∷ []) in
-        subst (λ (x : UnitCall StartAnswer). Orderly x.unit (joined-flag x)) (sym k.is)
+        subst (λ (x : UnitCall StartAnswer). Orderly x.unit (joined_flag x)) (sym k.is)
         (record {
           runs = length-set u.places q k.s ∙ h.runs;
-          queue = queue_long (waiting u ++ (q ∷ [])) (omega (arith, more, queue-room u k.room));
+          queue = queue_long (waiting u ++ (q ∷ [])) (omega (arith, more, queue_room u k.room));
           once = λ p. once_by p (eqb q p) refl;
-          free = λ p l. free-by p l (eqb q p) refl;
+          free = λ p l. free_by p l (eqb q p) refl;
         })
 
-  unseated-orderly : (r : UnitCall StartAnswer) → Unseated u r → Orderly r.unit (joined-flag r)
-  unseated-orderly r k = ordered h k.unit (λ p. ap (λ (b : Bool). f p || (eqb r.place p && b)) k.over ∙ ap (λ (b : Bool). f p || b) (and-false (eqb r.place p)) ∙ or-false (f p))
+  unseated_orderly : (r : UnitCall StartAnswer) → Unseated u r → Orderly r.unit (joined_flag r)
+  unseated_orderly r k = ordered h k.unit (λ p. ap (λ (b : Bool). f p || (eqb r.place p && b)) k.over ∙ ap (λ (b : Bool). f p || b) (and_false (eqb r.place p)) ∙ or_false (f p))
 
-  pub orderly-join : (o : KrylovPhiOptions) (j : Job) (output memory field : List Float)
-      → Orderly (join u o j output memory field).unit (joined-flag (join u o j output memory field))
-  orderly-join o j output memory field = elim (join-cases u o j output memory field) [
-    | inl k ↦ seated-orderly _ _ k
-    | inr k ↦ unseated-orderly _ k
+  pub orderly_join : (o : KrylovPhiOptions) (j : Job) (output memory field : List Float)
+      → Orderly (join u o j output memory field).unit (joined_flag (join u o j output memory field))
+  orderly_join o j output memory field = elim (join_cases u o j output memory field) [
+    | inl k ↦ seated_orderly _ _ k
+    | inr k ↦ unseated_orderly _ k
   ]
 
 -- ---- a turn
 module _ {u : Rotation} {f : ℕ → Bool} (h : Orderly u f) where
-  abbrev turned-flag : UnitCall StepAnswer → ℕ → Bool
-  turned-flag r p = if eqb r.place p then not (run_in r.call.answer).ended else f p
+  abbrev turned_flag : UnitCall StepAnswer → ℕ → Bool
+  turned_flag r p = if eqb r.place p then not (run_in r.call.answer).ended else f p
 
   module _ (y : List Float) (i : Input) (r : UnitCall StepAnswer) (k : Served u y i r) where
     abbrev first : ℕ
@@ -172,56 +172,56 @@ module _ {u : Rotation} {f : ℕ → Bool} (h : Orderly u f) where
     c = step (run_at u first) y i
 
     abbrev s : PausedRun
-    s = run-left c.answer
+    s = run_left c.answer
 
-    abbrev served-call : UnitCall StepAnswer
-    served-call = unit-call (passed_on u first k.others s) first c
+    abbrev served_call : UnitCall StepAnswer
+    served_call = unit_call (passed_on u first k.others s) first c
 
-    turn-here : (p : ℕ) → eqb first p ≡ true → turned-flag served-call p ≡ not s.ended
-    turn-here p e = ap (λ (b : Bool). if b then not (run_in c.answer).ended else f p) e ∙ ap (λ (x : PausedRun). not x.ended) (sym (same-run c.answer))
+    turn_here : (p : ℕ) → eqb first p ≡ true → turned_flag served_call p ≡ not s.ended
+    turn_here p e = ap (λ (b : Bool). if b then not (run_in c.answer).ended else f p) e ∙ ap (λ (x : PausedRun). not x.ended) (sym (same_run c.answer))
 
-    turn-else : (p : ℕ) → eqb first p ≡ false → turned-flag served-call p ≡ f p
-    turn-else p e = ap (λ (b : Bool). if b then not (run_in c.answer).ended else f p) e
+    turn_else : (p : ℕ) → eqb first p ≡ false → turned_flag served_call p ≡ f p
+    turn_else p e = ap (λ (b : Bool). if b then not (run_in c.answer).ended else f p) e
 
-    back-here : (p : ℕ) → eqb first p ≡ true → (b : Bool) → times p (back first b) ≡ (if not b then 1 else 0)
-    back-here p e true = times_none p
-    back-here p e false = times-here p first [] e ∙ ap suc (times_none p)
+    back_here : (p : ℕ) → eqb first p ≡ true → (b : Bool) → times p (back first b) ≡ (if not b then 1 else 0)
+    back_here p e true = times_none p
+    back_here p e false = times_here p first [] e ∙ ap suc (times_none p)
 
-    back-else : (p : ℕ) → eqb first p ≡ false → (b : Bool) → times p (back first b) ≡ 0
-    back-else p e true = times_none p
-    back-else p e false = times-other p first [] e ∙ times_none p
+    back_else : (p : ℕ) → eqb first p ≡ false → (b : Bool) → times p (back first b) ≡ 0
+    back_else p e true = times_none p
+    back_else p e false = times_other p first [] e ∙ times_none p
 
     after : (p : ℕ) → times p (waiting (passed_on u first k.others s)) ≡ times p k.others + times p (back first s.ended)
-    after p = ap (times p) (waits-after u first k.others k.waits s) ∙ times-append p k.others (back first s.ended)
+    after p = ap (times p) (waits_after u first k.others k.waits s) ∙ times_append p k.others (back first s.ended)
 
-    turn-once : (p : ℕ) (b : Bool) → eqb first p ≡ b → times p (waiting (passed_on u first k.others s)) ≡ (if turned-flag served-call p then 1 else 0)
-    turn-once p true e =
-        let was : times p (waiting u) ≡ suc (times p k.others) = ap (times p) k.waits ∙ times-here p first k.others e in
+    turn_once : (p : ℕ) (b : Bool) → eqb first p ≡ b → times p (waiting (passed_on u first k.others s)) ≡ (if turned_flag served_call p then 1 else 0)
+    turn_once p true e =
+        let was : times p (waiting u) ≡ suc (times p k.others) = ap (times p) k.waits ∙ times_here p first k.others e in
         let none : times p k.others ≡ 0 = omega (arith, was, at_most h p) in
         let sum : times p k.others + times p (back first s.ended) ≡ times p (back first s.ended) = omega (arith, none) in
-        after p ∙ sum ∙ back-here p e s.ended ∙ ap (λ (x : Bool). if x then 1 else 0) (sym (turn-here p e))
-    turn-once p false e =
-        let was : times p (waiting u) ≡ times p k.others = ap (times p) k.waits ∙ times-other p first k.others e in
-        let sum : times p k.others + times p (back first s.ended) ≡ times p (waiting u) = omega (arith, was, back-else p e s.ended) in
-        after p ∙ sum ∙ h.once p ∙ ap (λ (x : Bool). if x then 1 else 0) (sym (turn-else p e))
+        after p ∙ sum ∙ back_here p e s.ended ∙ ap (λ (x : Bool). if x then 1 else 0) (sym (turn_here p e))
+    turn_once p false e =
+        let was : times p (waiting u) ≡ times p k.others = ap (times p) k.waits ∙ times_other p first k.others e in
+        let sum : times p k.others + times p (back first s.ended) ≡ times p (waiting u) = omega (arith, was, back_else p e s.ended) in
+        after p ∙ sum ∙ h.once p ∙ ap (λ (x : Bool). if x then 1 else 0) (sym (turn_else p e))
 
-    not-not : (b : Bool) → b ≡ not (not b)
-    not-not true = refl
-    not-not false = refl
+    not_not : (b : Bool) → b ≡ not (not b)
+    not_not true = refl
+    not_not false = refl
 
-    turn-free : (p : ℕ) → p < 16 → (b : Bool) → eqb first p ≡ b → (run_at (passed_on u first k.others s) p).ended ≡ not (turned-flag served-call p)
-    turn-free p l true e =
+    turn_free : (p : ℕ) → p < 16 → (b : Bool) → eqb first p ≡ b → (run_at (passed_on u first k.others s) p).ended ≡ not (turned_flag served_call p)
+    turn_free p l true e =
         ap (λ (x : ℕ). (run_at (passed_on u first k.others s) x).ended) (sym (eqb-true first p e))
-        ∙ ap (λ (x : PausedRun). x.ended) (held-there u.places first s h.runs (first_below u first k.others k.waits))
-        ∙ not-not s.ended
-        ∙ ap not (sym (turn-here p e))
-    turn-free p l false e =
-        ap (λ (x : PausedRun). x.ended) (held-else u.places first p s (λ x. eqb-false first p e (sym x)))
+        ∙ ap (λ (x : PausedRun). x.ended) (held_there u.places first s h.runs (first_below u first k.others k.waits))
+        ∙ not_not s.ended
+        ∙ ap not (sym (turn_here p e))
+    turn_free p l false e =
+        ap (λ (x : PausedRun). x.ended) (held_else u.places first p s (λ x. eqb-false first p e (sym x)))
         ∙ h.free p l
-        ∙ ap not (sym (turn-else p e))
+        ∙ ap not (sym (turn_else p e))
 
-    few-after : length (k.others ++ back first s.ended) ≤ 16
-    few-after =
+    few_after : length (k.others ++ back first s.ended) ≤ 16
+    few_after =
         let more = length-append k.others (back first s.ended) in
         let all : suc (length k.others) ≤ 16 = subst (λ (l : List ℕ). length l ≤ 16) k.waits (waiting_few u) in
         go s.ended more all
@@ -230,50 +230,50 @@ module _ {u : Rotation} {f : ℕ → Bool} (h : Orderly u f) where
         go true e l = omega (arith, e, l)
         go false e l = omega (arith, e, l)
 
-    served-orderly : Orderly r.unit (turned-flag r)
-    served-orderly =
-        subst (λ (x : UnitCall StepAnswer). Orderly x.unit (turned-flag x)) (sym k.is)
+    served_orderly : Orderly r.unit (turned_flag r)
+    served_orderly =
+        subst (λ (x : UnitCall StepAnswer). Orderly x.unit (turned_flag x)) (sym k.is)
         (record {
           runs = length-set u.places first s ∙ h.runs;
-          queue = queue_long (k.others ++ back first s.ended) few-after;
-          once = λ p. turn-once p (eqb first p) refl;
-          free = λ p l. turn-free p l (eqb first p) refl;
+          queue = queue_long (k.others ++ back first s.ended) few_after;
+          once = λ p. turn_once p (eqb first p) refl;
+          free = λ p l. turn_free p l (eqb first p) refl;
         })
 
-  unserved-orderly : (y : List Float) (i : Input) (r : UnitCall StepAnswer) → Unserved u y i r → Orderly r.unit (turned-flag r)
-  unserved-orderly y i r k =
-      subst (λ (x : UnitCall StepAnswer). Orderly x.unit (turned-flag x)) (sym k.is)
-      (ordered h refl (λ p. go (eqb 16 p) (told-not h p (ap (times p) k.waits ∙ times_none p))))
+  unserved_orderly : (y : List Float) (i : Input) (r : UnitCall StepAnswer) → Unserved u y i r → Orderly r.unit (turned_flag r)
+  unserved_orderly y i r k =
+      subst (λ (x : UnitCall StepAnswer). Orderly x.unit (turned_flag x)) (sym k.is)
+      (ordered h refl (λ p. go (eqb 16 p) (told_not h p (ap (times p) k.waits ∙ times_none p))))
     where
       go : (b : Bool) {x : Bool} → x ≡ false → (if b then false else x) ≡ x
       go true e = sym e
       go false e = refl
 
-  pub orderly-turn : (y : List Float) (i : Input) → Orderly (turn u y i).unit (turned-flag (turn u y i))
-  orderly-turn y i = elim (turn-cases u y i) [
-    | inl k ↦ served-orderly y i _ k
-    | inr k ↦ unserved-orderly y i _ k
+  pub orderly_turn : (y : List Float) (i : Input) → Orderly (turn u y i).unit (turned_flag (turn u y i))
+  orderly_turn y i = elim (turn_cases u y i) [
+    | inl k ↦ served_orderly y i _ k
+    | inr k ↦ unserved_orderly y i _ k
   ]
 
 -- ---- every unit that was left
-unfoldable pub flag-after : Bool → ℕ → Event → Bool
-flag-after b p (joined o j q c) = b || (eqb q p && goes_on c.answer)
-flag-after b p (turned i y q c) = if eqb q p then not (run_in c.answer).ended else b
+unfoldable pub flag_after : Bool → ℕ → Event → Bool
+flag_after b p (joined o j q c) = b || (eqb q p && goes_on c.answer)
+flag_after b p (turned i y q c) = if eqb q p then not (run_in c.answer).ended else b
 
-pub flag-cons : (b : Bool) (p : ℕ) (e : Event) (l : List Event) → unfinished-from b p (e ∷ l) ≡ unfinished-from (flag-after b p e) p l
-unfolding unfinished-from flag-after
-flag-cons b p (joined o j q c) l = refl
-flag-cons b p (turned i y q c) l = refl
+pub flag_cons : (b : Bool) (p : ℕ) (e : Event) (l : List Event) → unfinished_from b p (e ∷ l) ≡ unfinished_from (flag_after b p e) p l
+unfolding unfinished_from flag_after
+flag_cons b p (joined o j q c) l = refl
+flag_cons b p (turned i y q c) l = refl
 
-pub orderly-after : {u : Rotation} {f : ℕ → Bool} → Orderly u f → (a : Act) → Orderly (unit-after u a) (λ p. flag-after (f p) p (event-of u a))
-unfolding unit-after event-of flag-after
-orderly-after h (joins o j output memory field) = orderly-join h o j output memory field
-orderly-after h (takes-turn i y) = orderly-turn h y i
+pub orderly_after : {u : Rotation} {f : ℕ → Bool} → Orderly u f → (a : Act) → Orderly (unit_after u a) (λ p. flag_after (f p) p (event_of u a))
+unfolding unit_after event_of flag_after
+orderly_after h (joins o j output memory field) = orderly_join h o j output memory field
+orderly_after h (takes_turn i y) = orderly_turn h y i
 
-pub orderly_from : {u : Rotation} {f : ℕ → Bool} → Orderly u f → (l : List Act) → Orderly (unit-from u l) (λ p. unfinished-from (f p) p (events-from u l))
-unfolding unit-from events-from unfinished-from
+pub orderly_from : {u : Rotation} {f : ℕ → Bool} → Orderly u f → (l : List Act) → Orderly (unit_from u l) (λ p. unfinished_from (f p) p (events_from u l))
+unfolding unit_from events_from unfinished_from
 orderly_from h [] = h
-orderly_from {u} {f} h (a ∷ l) = ordered (orderly_from (orderly-after h a) l) refl (λ p. flag-cons (f p) p (event-of u a) (events-from (unit-after u a) l))
+orderly_from {u} {f} h (a ∷ l) = ordered (orderly_from (orderly_after h a) l) refl (λ p. flag_cons (f p) p (event_of u a) (events_from (unit_after u a) l))
 
 pub orderly : (h : List Act) → Orderly (left_by h) (unfinished h)
-orderly h = orderly_from orderly-empty h
+orderly h = orderly_from orderly_empty h

@@ -5,8 +5,8 @@ use Rattle.doubles.specs.F64.{if◌then◌else◌}
 use Rattle.paused_run.specs.Paused.{Input, leaves}
 use Rattle.paused_run.specs.declared.StepAnswer.{StepAnswer}
 use Rattle.paused_run.specs.declared.StepAnswer.TheVariants.{Refusal, Stepped}
-use Rattle.rotation.specs.Unit.{vacant, waiting, next_place, unit-call, turn}
-use Rattle.rotation_claims.specs.History.{Act, Event, joined, turned, event-of, events-from, left_by, unfinished, turns-asked, turns-of}
+use Rattle.rotation.specs.Unit.{vacant, waiting, next_place, unit_call, turn}
+use Rattle.rotation_claims.specs.History.{Act, Event, joined, turned, event_of, events_from, left_by, unfinished, turns_asked, turns_of}
 
 -- ---- the queue
 unfoldable pub times : ℕ → List ℕ → ℕ
@@ -21,7 +21,7 @@ QueueClaim = (h : List Act) (p : ℕ) → times p (waiting (left_by h)) ≡ (if 
 pub record SixteenClaim (h : List Act) : Type 0 where
   pub places : (p : ℕ) → unfinished h p ≡ true → p < 16
   pub few : length (waiting (left_by h)) ≤ 16
-  pub runs-long : length (left_by h).places ≡ 16
+  pub runs_long : length (left_by h).places ≡ 16
   pub queue_long : length (left_by h).queue ≡ 16
 
 -- ---- 'Asked, the unit names the place whose turn is next, or 16 if no run waits; a turn is then refused with 31'
@@ -35,28 +35,28 @@ pub record NextClaim (h : List Act) : Type 0 where
   pub if_none : ((p : ℕ) → p < 16 → unfinished h p ≡ false) → next_place (left_by h) ≡ 16
   pub bounded : next_place (left_by h) ≤ 16
   -- a turn is then 31, which carries NaN and changes nothing
-  pub empty-turn : next_place (left_by h) ≡ 16 → (i : Input) (y : List Float) → turn (left_by h) y i ≡ unit-call (left_by h) 16 (leaves (Refusal 31 nan vacant) i.output i.memory y)
+  pub empty_turn : next_place (left_by h) ≡ 16 → (i : Input) (y : List Float) → turn (left_by h) y i ≡ unit_call (left_by h) 16 (leaves (Refusal 31 nan vacant) i.output i.memory y)
 
 -- ---- 'Between two turns of a waiting run at most 15 substeps of others are served'
 -- a substep was made: an answer, or 27 to 29
-abbrev pub substep-in : StepAnswer → Bool
-substep-in (Stepped s) = true
-substep-in (Refusal k x s) = ltb 26 k && ltb k 30
+abbrev pub substep_in : StepAnswer → Bool
+substep_in (Stepped s) = true
+substep_in (Refusal k x s) = ltb 26 k && ltb k 30
 
 -- substeps of places other than p
-unfoldable pub substeps-of-others : ℕ → List Event → ℕ
-substeps-of-others p [] = 0
-substeps-of-others p (joined o j q c ∷ l) = substeps-of-others p l
-substeps-of-others p (turned i y q c ∷ l) = if not (eqb q p) && substep-in c.answer then suc (substeps-of-others p l) else substeps-of-others p l
+unfoldable pub substeps_of_others : ℕ → List Event → ℕ
+substeps_of_others p [] = 0
+substeps_of_others p (joined o j q c ∷ l) = substeps_of_others p l
+substeps_of_others p (turned i y q c ∷ l) = if not (eqb q p) && substep_in c.answer then suc (substeps_of_others p l) else substeps_of_others p l
 
 -- after h the run in p is unfinished; among the acts l none is its turn. Then at most 15 turns were asked for, those refused early among them; that a turn makes at most one
 -- substep is specs/Isolation's AloneClaim
 pub record Fifteen (p : ℕ) (h l : List Act) : Type 0 where
-  pub turns : turns-asked l ≤ 15
-  pub substeps : substeps-of-others p (events-from (left_by h) l) ≤ 15
+  pub turns : turns_asked l ≤ 15
+  pub substeps : substeps_of_others p (events_from (left_by h) l) ≤ 15
 
 abbrev pub FifteenClaim : Type 0
-FifteenClaim = (p : ℕ) (h l : List Act) → unfinished h p ≡ true → turns-of p (events-from (left_by h) l) ≡ 0 → Fifteen p h l
+FifteenClaim = (p : ℕ) (h l : List Act) → unfinished h p ≡ true → turns_of p (events_from (left_by h) l) ≡ 0 → Fifteen p h l
 
 -- ---- 'A new run joins the end'; 'A turn refused early counts and passes on'
 -- the act is the arrival of the run in place p, or its turn
@@ -68,11 +68,11 @@ place_in (turned i y q c) = q
 abbrev pub ToTheEnd : Type 0
 ToTheEnd =
     (h : List Act) (a : Act) (p q : ℕ) (l : List Act)
-    → place_in (event-of (left_by h) a) ≡ p
+    → place_in (event_of (left_by h) a) ≡ p
     → (p ≡ q → ⊥)
     → unfinished (h ++ (a ∷ [])) q ≡ true
-    → turns-of q (events-from (left_by (h ++ (a ∷ []))) l) ≡ 0
-    → turns-of p (events-from (left_by (h ++ (a ∷ []))) l) ≡ 0
+    → turns_of q (events_from (left_by (h ++ (a ∷ []))) l) ≡ 0
+    → turns_of p (events_from (left_by (h ++ (a ∷ []))) l) ≡ 0
 
 -- 'one substep at a time': while a run is unfinished, each turn is that of an unfinished run
 abbrev pub SomeTurn : Type 0

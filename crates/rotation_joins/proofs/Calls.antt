@@ -10,25 +10,25 @@ use lib.Ieee.{Float, nan}
 use borrow.Author.Tests.{lt-ltb}
 use Rattle.lists.specs.Loop.{tabulate}
 use Rattle.doubles.specs.F64.{if◌then◌else◌, +0}
-use Rattle.pow2.specs.Pow2.{pow2-scale}
+use Rattle.pow2.specs.Pow2.{pow2_scale}
 use Rattle.pow2.specs.declared.Prescale.{Prescale}
 use Rattle.pow2.specs.declared.Prescale.TheVariants.{By, None}
 use Rattle.checks.specs.First.{first}
 use Rattle.checks.specs.declared.Checked.{Checked}
 use Rattle.checks.specs.declared.Checked.TheVariants.{Sound, Refused}
 use Rattle.krylov_job.specs.declared.KrylovPhiOptions.{KrylovPhiOptions}
-use Rattle.paused_run.specs.Paused.{Job, Input, PausedCall, leaves, begun, start-unless, start, step}
+use Rattle.paused_run.specs.Paused.{Job, Input, PausedCall, leaves, begun, start_unless, start, step}
 use Rattle.paused_run.specs.declared.PausedRun.{PausedRun}
 use Rattle.paused_run.specs.declared.StartAnswer.{StartAnswer}
 use Rattle.paused_run.specs.declared.StartAnswer.TheVariants.{Refusal, Started}
 use Rattle.paused_run.specs.declared.StepAnswer.{StepAnswer}
-use Rattle.paused_run.specs.declared.StepAnswer.TheVariants as step-answer
-use Rattle.rotation.specs.Unit.{vacant, run_at, waiting, first_of, next_place, UnitCall, unit-call, lowest-free, room, seated, admitted-by, admitted, join, run-left, passed_on, turn-of, turn}
-use Rattle.rotation.specs.Inner.{count_of, run-in-place, seat-of, passed-of}
+use Rattle.paused_run.specs.declared.StepAnswer.TheVariants as step_answer
+use Rattle.rotation.specs.Unit.{vacant, run_at, waiting, first_of, next_place, UnitCall, unit_call, lowest_free, room, seated, admitted_by, admitted, join, run_left, passed_on, turn_of, turn}
+use Rattle.rotation.specs.Inner.{count_of, run_in_place, seat_of, passed_of}
 use Rattle.rotation.specs.declared.Rotation.{Rotation}
 use Rattle.rotation.specs.declared.Seat.{Seat}
-use Rattle.rotation.proofs.Queue.{waits-none, waits-some, place-below}
-use Rattle.rotation_joins.specs.Inner.{full-answer, admitted_of}
+use Rattle.rotation.proofs.Queue.{waits_none, waits_some, place_below}
+use Rattle.rotation_joins.specs.Inner.{full_answer, admitted_of}
 use Rattle.rotation_joins.specs.declared.Joined.{Joined}
 
 -- ---- a join
@@ -47,78 +47,78 @@ not_sound {k} {x} e =
 
 -- by the start's answer
 module _ (u : Rotation) where
-  abbrev seat-if : PausedRun → Bool → Seat
-  seat-if s b = if b then record { unit = seated u s; place = lowest-free u } else record { unit = u; place = 16 }
+  abbrev seat_if : PausedRun → Bool → Seat
+  seat_if s b = if b then record { unit = seated u s; place = lowest_free u } else record { unit = u; place = 16 }
 
-  abbrev joined-if : PausedRun → Bool → Seat → Joined
-  joined-if s d seat = if d then record { unit = u; place = 16; answer = Started s } else record { unit = seat.unit; place = seat.place; answer = Started s }
+  abbrev joined_if : PausedRun → Bool → Seat → Joined
+  joined_if s d seat = if d then record { unit = u; place = 16; answer = Started s } else record { unit = seat.unit; place = seat.place; answer = Started s }
 
-  seat-by : (s : PausedRun) (c full : PausedCall StartAnswer) (d b : Bool) → Sound ≡ (if b then Sound else (if d then Sound else Refused 32 nan))
-      → unit-call (joined-if s d (seat-if s b)).unit (joined-if s d (seat-if s b)).place c ≡ admitted-by d b u s c full
-  seat-by s c full true b h = refl
-  seat-by s c full false true h = refl
-  seat-by s c full false false h = absurd (not_sound (sym h))
+  seat_by : (s : PausedRun) (c full : PausedCall StartAnswer) (d b : Bool) → Sound ≡ (if b then Sound else (if d then Sound else Refused 32 nan))
+      → unit_call (joined_if s d (seat_if s b)).unit (joined_if s d (seat_if s b)).place c ≡ admitted_by d b u s c full
+  seat_by s c full true b h = refl
+  seat_by s c full false true h = refl
+  seat_by s c full false false h = absurd (not_sound (sym h))
 
-  served-by : (a : StartAnswer) (c full : PausedCall StartAnswer) → Sound ≡ (if room u then Sound else full-answer a) → unit-call (admitted_of u a).unit (admitted_of u a).place c ≡ admitted u a c full
+  served_by : (a : StartAnswer) (c full : PausedCall StartAnswer) → Sound ≡ (if room u then Sound else full_answer a) → unit_call (admitted_of u a).unit (admitted_of u a).place c ≡ admitted u a c full
   unfolding admitted
-  served-by (Refusal k x) c full h = refl
-  served-by (Started s) c full h = seat-by s c full s.ended (room u) h
+  served_by (Refusal k x) c full h = refl
+  served_by (Started s) c full h = seat_by s c full s.ended (room u) h
 
-  answer-kept : (a : StartAnswer) → (admitted_of u a).answer ≡ a
-  answer-kept (Refusal k x) = refl
-  answer-kept (Started s) = go s.ended
+  answer_kept : (a : StartAnswer) → (admitted_of u a).answer ≡ a
+  answer_kept (Refusal k x) = refl
+  answer_kept (Started s) = go s.ended
     where
-      go : (d : Bool) → (joined-if s d (seat-of u s)).answer ≡ Started s
+      go : (d : Bool) → (joined_if s d (seat_of u s)).answer ≡ Started s
       go true = refl
       go false = refl
 
-  pub told-ended : {a : StartAnswer} (s : PausedRun) → a ≡ Started s → s.ended ≡ true → record { unit = u; place = 16; answer = Started s } ≡ admitted_of u a
-  told-ended s e d = ap (λ (x : Bool). joined-if s x (seat-of u s)) (sym d) ∙ ap (admitted_of u) (sym e)
+  pub told_ended : {a : StartAnswer} (s : PausedRun) → a ≡ Started s → s.ended ≡ true → record { unit = u; place = 16; answer = Started s } ≡ admitted_of u a
+  told_ended s e d = ap (λ (x : Bool). joined_if s x (seat_of u s)) (sym d) ∙ ap (admitted_of u) (sym e)
 
-  pub told-seated : {a : StartAnswer} (s : PausedRun) {seat : Seat} → a ≡ Started s → s.ended ≡ false → seat ≡ seat-of u s → record { unit = seat.unit; place = seat.place; answer = Started s } ≡ admitted_of u a
-  told-seated s e d es = ap (joined-if s false) es ∙ ap (λ (x : Bool). joined-if s x (seat-of u s)) (sym d) ∙ ap (admitted_of u) (sym e)
+  pub told_seated : {a : StartAnswer} (s : PausedRun) {seat : Seat} → a ≡ Started s → s.ended ≡ false → seat ≡ seat_of u s → record { unit = seat.unit; place = seat.place; answer = Started s } ≡ admitted_of u a
+  told_seated s e d es = ap (joined_if s false) es ∙ ap (λ (x : Bool). joined_if s x (seat_of u s)) (sym d) ∙ ap (admitted_of u) (sym e)
 
 module _ (u : Rotation) (o : KrylovPhiOptions) (j : Job) (out w₀ field : List Float) where
   abbrev refuses : Checked → UnitCall StartAnswer
-  refuses r = unit-call u 16 (leaves (Refusal (number_of r) (value_of r)) out w₀ field)
+  refuses r = unit_call u 16 (leaves (Refusal (number_of r) (value_of r)) out w₀ field)
 
   abbrev answers : PausedCall StartAnswer → UnitCall StartAnswer
   answers c = admitted u c.answer c (leaves (Refusal 32 nan) out w₀ field)
 
   -- refused before the start
-  refused-start : (memory y : List Float) (p : Prescale) {k : ℕ} {x : Float} → room u ≡ false → Refused k x ≡ full-answer (begun o j y memory p).answer → refuses (Refused k x) ≡ answers (begun o j y memory p)
+  refused_start : (memory y : List Float) (p : Prescale) {k : ℕ} {x : Float} → room u ≡ false → Refused k x ≡ full_answer (begun o j y memory p).answer → refuses (Refused k x) ≡ answers (begun o j y memory p)
   unfolding begun admitted number_of value_of
-  refused-start memory y None e h = absurd (not_sound h)
-  refused-start memory y (By f) e h = ap refuses h ∙ rw e refl
+  refused_start memory y None e h = absurd (not_sound h)
+  refused_start memory y (By f) e h = ap refuses h ∙ rw e refl
 
-  refused-by : (r : Checked) {k : ℕ} {x : Float} → room u ≡ false → Refused k x ≡ full-answer (start-unless r o j out w₀ field).answer → refuses (Refused k x) ≡ answers (start-unless r o j out w₀ field)
-  unfolding start-unless admitted number_of value_of
-  refused-by (Refused k x) e h = ap refuses h
-  refused-by Sound e h = refused-start _ _ (pow2-scale _) e h
+  refused_by : (r : Checked) {k : ℕ} {x : Float} → room u ≡ false → Refused k x ≡ full_answer (start_unless r o j out w₀ field).answer → refuses (Refused k x) ≡ answers (start_unless r o j out w₀ field)
+  unfolding start_unless admitted number_of value_of
+  refused_by (Refused k x) e h = ap refuses h
+  refused_by Sound e h = refused_start _ _ (pow2_scale _) e h
 
-  pub join-refused : {r : Checked} {k : ℕ} {x : Float} → r ≡ (if room u then Sound else full-answer (start o j out w₀ field).answer) → r ≡ Refused k x
-      → unit-call u 16 (leaves (Refusal k x) out w₀ field) ≡ join u o j out w₀ field
+  pub join_refused : {r : Checked} {k : ℕ} {x : Float} → r ≡ (if room u then Sound else full_answer (start o j out w₀ field).answer) → r ≡ Refused k x
+      → unit_call u 16 (leaves (Refusal k x) out w₀ field) ≡ join u o j out w₀ field
   unfolding join start number_of value_of
-  join-refused {r} {k} {x} h e = go (room u) refl (sym e ∙ h)
+  join_refused {r} {k} {x} h e = go (room u) refl (sym e ∙ h)
     where
-      go : (b : Bool) → room u ≡ b → Refused k x ≡ (if b then Sound else full-answer (start o j out w₀ field).answer) → refuses (Refused k x) ≡ join u o j out w₀ field
+      go : (b : Bool) → room u ≡ b → Refused k x ≡ (if b then Sound else full_answer (start o j out w₀ field).answer) → refuses (Refused k x) ≡ join u o j out w₀ field
       go true eb h = absurd (not_sound h)
-      go false eb h = refused-by (first _) eb h
+      go false eb h = refused_by (first _) eb h
 
   -- and after it
-  pub join-served : {a : StartAnswer} {r : Joined} {out₁ w₁ y₁ : List Float} {f : Checked}
-      → f ≡ (if room u then Sound else full-answer (start o j out w₀ field).answer)
+  pub join_served : {a : StartAnswer} {r : Joined} {out₁ w₁ y₁ : List Float} {f : Checked}
+      → f ≡ (if room u then Sound else full_answer (start o j out w₀ field).answer)
       → f ≡ Sound
       → leaves a out₁ w₁ y₁ ≡ start o j out w₀ field
       → r ≡ admitted_of u a
-      → unit-call r.unit r.place (leaves r.answer out₁ w₁ y₁) ≡ join u o j out w₀ field
+      → unit_call r.unit r.place (leaves r.answer out₁ w₁ y₁) ≡ join u o j out w₀ field
   unfolding join
-  join-served {a} {r} {out₁} {w₁} {y₁} ef e es er =
+  join_served {a} {r} {out₁} {w₁} {y₁} ef e es er =
       let same : a ≡ (start o j out w₀ field).answer = ap (λ (c : PausedCall StartAnswer). c.answer) es in
-      let h = sym e ∙ ef ∙ ap (λ (x : StartAnswer). if room u then Sound else full-answer x) (sym same) in
-      ap (λ (x : Joined). unit-call x.unit x.place (leaves x.answer out₁ w₁ y₁)) er
-      ∙ ap (λ (x : StartAnswer). unit-call (admitted_of u a).unit (admitted_of u a).place (leaves x out₁ w₁ y₁)) (answer-kept u a)
-      ∙ served-by u a (leaves a out₁ w₁ y₁) (leaves (Refusal 32 nan) out w₀ field) h
+      let h = sym e ∙ ef ∙ ap (λ (x : StartAnswer). if room u then Sound else full_answer x) (sym same) in
+      ap (λ (x : Joined). unit_call x.unit x.place (leaves x.answer out₁ w₁ y₁)) er
+      ∙ ap (λ (x : StartAnswer). unit_call (admitted_of u a).unit (admitted_of u a).place (leaves x out₁ w₁ y₁)) (answer_kept u a)
+      ∙ served_by u a (leaves a out₁ w₁ y₁) (leaves (Refusal 32 nan) out w₀ field) h
       ∙ ap answers es
 
 -- ---- a turn
@@ -133,38 +133,38 @@ unfolding next_place
 none_or_some u = go (count_of u.queue) refl
   where
     go : (k : ℕ) → count_of u.queue ≡ k → (waiting u ≡ []) ⊎ Waits u
-    go zero e = inl (waits-none u e)
+    go zero e = inl (waits_none u e)
     go (suc k) e =
-        let is = waits-some u (λ z. absurd (omega (arith, z, e))) in
+        let is = waits_some u (λ z. absurd (omega (arith, z, e))) in
         let next : next_place u ≡ get_or u.queue 0 0 = ap first_of is in
         let rest : List ℕ = tabulate (count_of u.queue - 1) (λ k. get_or u.queue (suc k) 0) in
-        inr (record { others = rest; is = is ∙ ap (λ (p : ℕ). p ∷ rest) (sym next); below = omega (arith, next, place-below u 0 (omega (arith, e))) })
+        inr (record { others = rest; is = is ∙ ap (λ (p : ℕ). p ∷ rest) (sym next); below = omega (arith, next, place_below u 0 (omega (arith, e))) })
 
 module _ (u : Rotation) (y : List Float) (i : Input) where
-  pub turn-none : {p : ℕ} {x : Float} {s : PausedRun} → p ≡ next_place u → p ≡ 16 → x ≡ nan → s ≡ vacant
-      → unit-call u 16 (leaves (step-answer.Refusal 31 x s) i.output i.memory y) ≡ turn u y i
-  unfolding turn turn-of
-  turn-none ep e ex es = elim (none_or_some u) [
-    | inl n ↦ (λ k. unit-call u 16 (leaves (step-answer.Refusal 31 (ex k) (es k)) i.output i.memory y)) ∙ sym (ap (λ (l : List ℕ). turn-of l u y i) n)
+  pub turn_none : {p : ℕ} {x : Float} {s : PausedRun} → p ≡ next_place u → p ≡ 16 → x ≡ nan → s ≡ vacant
+      → unit_call u 16 (leaves (step_answer.Refusal 31 x s) i.output i.memory y) ≡ turn u y i
+  unfolding turn turn_of
+  turn_none ep e ex es = elim (none_or_some u) [
+    | inl n ↦ (λ k. unit_call u 16 (leaves (step_answer.Refusal 31 (ex k) (es k)) i.output i.memory y)) ∙ sym (ap (λ (l : List ℕ). turn_of l u y i) n)
     | inr w ↦ absurd (omega (arith, ep, e, w.below))
   ]
 
-  pub turn-some : {p : ℕ} {run left : PausedRun} {v : Rotation} {c : PausedCall StepAnswer}
+  pub turn_some : {p : ℕ} {run left : PausedRun} {v : Rotation} {c : PausedCall StepAnswer}
       → p ≡ next_place u
       → (p ≡ 16 → ⊥)
-      → run ≡ run-in-place u p
+      → run ≡ run_in_place u p
       → c ≡ step run y i
-      → left ≡ run-left c.answer
-      → v ≡ passed-of u (waiting u) left
-      → unit-call v p c ≡ turn u y i
-  unfolding turn turn-of next_place
-  turn-some {p} {run} {left} {v} {c} ep ne er ec el ev = elim (none_or_some u) [
+      → left ≡ run_left c.answer
+      → v ≡ passed_of u (waiting u) left
+      → unit_call v p c ≡ turn u y i
+  unfolding turn turn_of next_place
+  turn_some {p} {run} {left} {v} {c} ep ne er ec el ev = elim (none_or_some u) [
     | inl n ↦ absurd (ne (ep ∙ ap first_of n))
     | inr w ↦
         let q = next_place u in
-        let run_is : run ≡ run_at u q = er ∙ ap (run-in-place u) ep ∙ ap (λ (b : Bool). if b then run_at u q else vacant) (lt-ltb q 16 w.below) in
-        let call-is : c ≡ step (run_at u q) y i = ec ∙ ap (λ (s : PausedRun). step s y i) run_is in
-        let left_is : left ≡ run-left (step (run_at u q) y i).answer = el ∙ ap (λ (x : PausedCall StepAnswer). run-left x.answer) call-is in
-        let unit-is : v ≡ passed_on u q w.others (run-left (step (run_at u q) y i).answer) = ev ∙ ap (λ (l : List ℕ). passed-of u l left) w.is ∙ ap (passed_on u q w.others) left_is in
-        (λ k. unit-call (unit-is k) (ep k) (call-is k)) ∙ sym (ap (λ (l : List ℕ). turn-of l u y i) w.is)
+        let run_is : run ≡ run_at u q = er ∙ ap (run_in_place u) ep ∙ ap (λ (b : Bool). if b then run_at u q else vacant) (lt-ltb q 16 w.below) in
+        let call_is : c ≡ step (run_at u q) y i = ec ∙ ap (λ (s : PausedRun). step s y i) run_is in
+        let left_is : left ≡ run_left (step (run_at u q) y i).answer = el ∙ ap (λ (x : PausedCall StepAnswer). run_left x.answer) call_is in
+        let unit_is : v ≡ passed_on u q w.others (run_left (step (run_at u q) y i).answer) = ev ∙ ap (λ (l : List ℕ). passed_of u l left) w.is ∙ ap (passed_on u q w.others) left_is in
+        (λ k. unit_call (unit_is k) (ep k) (call_is k)) ∙ sym (ap (λ (l : List ℕ). turn_of l u y i) w.is)
   ]

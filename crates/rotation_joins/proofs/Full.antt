@@ -7,7 +7,7 @@ use native.Mathlib.Omega.{arith}
 use lib.ListN.{length}
 use lib.Ieee.{Float, nan}
 use Rattle.doubles.specs.F64.{if◌then◌else◌}
-use Rattle.pow2.specs.Pow2.{eta-scaling, pow2-scale}
+use Rattle.pow2.specs.Pow2.{eta_scaling, pow2_scale}
 use Rattle.pow2.specs.declared.Scaling.{Scaling}
 use Rattle.pow2.specs.declared.Prescale.{Prescale}
 use Rattle.pow2.specs.declared.Prescale.TheVariants.{By, None}
@@ -18,52 +18,52 @@ use Rattle.general_operator.specs.Csr.{csr}
 use Rattle.generator_action.specs.Mass.{given}
 use Rattle.generator_action.specs.Known.{Passed}
 use Rattle.generator_action.specs.declared.Shape.{Shape}
-use Rattle.combination.specs.Combination.{further, magnitude, combination-start}
+use Rattle.combination.specs.Combination.{further, magnitude, combination_start}
 use Rattle.combination.specs.Call.{cleared}
-use Rattle.combination.specs.Checks.{length-checks}
-use Rattle.krylov_job.specs.Inner.{scaling-by, scaling-of, Admitted}
+use Rattle.combination.specs.Checks.{length_checks}
+use Rattle.krylov_job.specs.Inner.{scaling_by, scaling_of, Admitted}
 use Rattle.krylov_job.proofs.Calls.{known}
 use Rattle.krylov_job.specs.declared.KrylovPhiOptions.{KrylovPhiOptions}
 use Rattle.krylov_job.specs.declared.RunJob.{RunJob}
 use Rattle.krylov_job.specs.declared.Eta.TheVariants.{Own}
 use Rattle.paused_run.specs.Paused.{Job, PausedCall, start}
-use Rattle.paused_run.specs.Inner.{job-over, begun-of}
+use Rattle.paused_run.specs.Inner.{job_over, begun_of}
 use Rattle.paused_run.specs.declared.StartAnswer.{StartAnswer}
-use Rattle.paused_start.proofs.Starts.{refused-generator, refused-job, refused-field, started-is}
-use Rattle.rotation_joins.specs.Inner.{by-power, full-answer}
+use Rattle.paused_start.proofs.Starts.{refused_generator, refused_job, refused_field, started_is}
+use Rattle.rotation_joins.specs.Inner.{by_power, full_answer}
 
 abbrev answered : PausedCall StartAnswer → Checked
-answered c = full-answer c.answer
+answered c = full_answer c.answer
 
-begun-full : (o : KrylovPhiOptions) (j : RunJob) (y memory : List Float) (p : Prescale) → (if by-power p then Refused 32 nan else Sound) ≡ answered (begun-of o j y memory p)
-unfolding begun-of
-begun-full o j y memory None = refl
-begun-full o j y memory (By f) = refl
+begun_full : (o : KrylovPhiOptions) (j : RunJob) (y memory : List Float) (p : Prescale) → (if by_power p then Refused 32 nan else Sound) ≡ answered (begun_of o j y memory p)
+unfolding begun_of
+begun_full o j y memory None = refl
+begun_full o j y memory (By f) = refl
 
-pub told-32 : {b : Bool} {x : Float} → b ≡ true → x ≡ nan → Refused 32 x ≡ (if b then Refused 32 nan else Sound)
-told-32 e ex = rw (e, ex) refl
+pub told_32 : {b : Bool} {x : Float} → b ≡ true → x ≡ nan → Refused 32 x ≡ (if b then Refused 32 nan else Sound)
+told_32 e ex = rw (e, ex) refl
 
-pub told-sound : {b : Bool} → b ≡ false → Sound ≡ (if b then Refused 32 nan else Sound)
-told-sound e = rw e refl
+pub told_sound : {b : Bool} → b ≡ false → Sound ≡ (if b then Refused 32 nan else Sound)
+told_sound e = rw e refl
 
-pub else-full : {b : Bool} {r x : Checked} → b ≡ false → r ≡ x → r ≡ (if b then Sound else x)
-else-full e h = h ∙ rw e refl
+pub else_full : {b : Bool} {r x : Checked} → b ≡ false → r ≡ x → r ≡ (if b then Sound else x)
+else_full e h = h ∙ rw e refl
 
 -- one vector is n values
-pub one-long : {g : Shape} {tau : Float} {count : ℕ} {w : List Float} {eta : Scaling} {o : KrylovPhiOptions} (output : ℕ) {memory : ℕ} {j : RunJob}
-    → Admitted g tau count w eta o (length-checks output g.n (length w) (count * g.n) ++ []) memory j
+pub one_long : {g : Shape} {tau : Float} {count : ℕ} {w : List Float} {eta : Scaling} {o : KrylovPhiOptions} (output : ℕ) {memory : ℕ} {j : RunJob}
+    → Admitted g tau count w eta o (length_checks output g.n (length w) (count * g.n) ++ []) memory j
     → j.checked ≡ Sound
     → j.d ≡ 0
     → length w ≡ j.g.n
-one-long {g} {tau} {count} {w} {eta} {o} output {memory} {j} ad e h =
+one_long {g} {tau} {count} {w} {eta} {o} output {memory} {j} ad e h =
     let k = known ad e in
     let one : count ≡ 1 = omega (arith, k.vectors.some, h, ap (λ (x : RunJob). x.d) k.is) in
     let single : 1 * g.n ≡ j.g.n = omega (arith, ap (λ (x : RunJob). x.g.n) k.is) in
     k.vectors.flat ∙ ap (λ (x : ℕ). x * g.n) one ∙ single
 
 -- the generator's own checks
-pub full-generator : (o : KrylovPhiOptions) (j : Job) (out w₀ field : List Float) {k : ℕ} {x : Float} → Refused k x ≡ first j.g.checks → Refused k x ≡ full-answer (start o j out w₀ field).answer
-full-generator o j out w₀ field e = ap answered (refused-generator o j out w₀ field e)
+pub full_generator : (o : KrylovPhiOptions) (j : Job) (out w₀ field : List Float) {k : ℕ} {x : Float} → Refused k x ≡ first j.g.checks → Refused k x ≡ full_answer (start o j out w₀ field).answer
+full_generator o j out w₀ field e = ap answered (refused_generator o j out w₀ field e)
 
 module _
     {starts cols : List ℕ}
@@ -83,33 +83,33 @@ module _
     (ew : length w₀ ≡ nw)
     (ef : length field ≡ nf)
     {j : RunJob}
-    (ad : Admitted g tau count w (scaling-of g tau count w Own) o (length-checks no g.n (length w) (count * g.n) ++ []) nw j) where
-  ad' : Admitted g tau count w (scaling-of g tau count w Own) o (length-checks (length out) g.n (length w) (count * g.n) ++ []) (length w₀) j
+    (ad : Admitted g tau count w (scaling_of g tau count w Own) o (length_checks no g.n (length w) (count * g.n) ++ []) nw j) where
+  ad' : Admitted g tau count w (scaling_of g tau count w Own) o (length_checks (length out) g.n (length w) (count * g.n) ++ []) (length w₀) j
   ad' = rw (eo, ew) ad
 
-  pub full-job : {k : ℕ} {x : Float} → j.checked ≡ Refused k x → Refused k x ≡ full-answer (start o (job-over gs g starts cols vals mass tau count w) out w₀ field).answer
-  full-job e = ap answered (refused-job mass ok gs sound tau count w o out w₀ field ad' e)
+  pub full_job : {k : ℕ} {x : Float} → j.checked ≡ Refused k x → Refused k x ≡ full_answer (start o (job_over gs g starts cols vals mass tau count w) out w₀ field).answer
+  full_job e = ap answered (refused_job mass ok gs sound tau count w o out w₀ field ad' e)
 
   module _ (e : j.checked ≡ Sound) where
-    pub full-field : {x : Float} → (nf ≡ j.g.n + j.d → ⊥) → x ≡ nan → Refused 26 x ≡ full-answer (start o (job-over gs g starts cols vals mass tau count w) out w₀ field).answer
-    full-field ne ex = ap answered (refused-field mass ok gs sound tau count w o out w₀ field ad' e (λ h. ne (sym ef ∙ h)) ex)
+    pub full_field : {x : Float} → (nf ≡ j.g.n + j.d → ⊥) → x ≡ nan → Refused 26 x ≡ full_answer (start o (job_over gs g starts cols vals mass tau count w) out w₀ field).answer
+    full_field ne ex = ap answered (refused_field mass ok gs sound tau count w o out w₀ field ad' e (λ h. ne (sym ef ∙ h)) ex)
 
     abbrev values : List Float
-    values = combination-start j.g.n w j.d j.eta.inv
+    values = combination_start j.g.n w j.d j.eta.inv
 
-    eta-is : j.eta ≡ eta-scaling (magnitude g.n (further g.n w) tau (count - 1))
-    unfolding scaling-by
-    eta-is = ap (λ (x : RunJob). x.eta) (known ad e).is
+    eta_is : j.eta ≡ eta_scaling (magnitude g.n (further g.n w) tau (count - 1))
+    unfolding scaling_by
+    eta_is = ap (λ (x : RunJob). x.eta) (known ad e).is
 
     -- the start's own call: all zeros, or 32
     pub full_start : {b : Bool} {r : Checked} → nf ≡ j.g.n + j.d
-        → ((sum : Float) → b ≡ by-power (pow2-scale (combination-start j.g.n w j.d (eta-scaling sum).inv)))
+        → ((sum : Float) → b ≡ by_power (pow2_scale (combination_start j.g.n w j.d (eta_scaling sum).inv)))
         → r ≡ (if b then Refused 32 nan else Sound)
-        → r ≡ full-answer (start o (job-over gs g starts cols vals mass tau count w) out w₀ field).answer
+        → r ≡ full_answer (start o (job_over gs g starts cols vals mass tau count w) out w₀ field).answer
     full_start l h er =
         let sum = magnitude g.n (further g.n w) tau (count - 1) in
-        let hb = h sum ∙ ap (λ (x : Scaling). by-power (pow2-scale (combination-start j.g.n w j.d x.inv))) (sym eta-is) in
+        let hb = h sum ∙ ap (λ (x : Scaling). by_power (pow2_scale (combination_start j.g.n w j.d x.inv))) (sym eta_is) in
         er
         ∙ ap (λ (x : Bool). if x then Refused 32 nan else Sound) hb
-        ∙ begun-full o j values (cleared j.need w₀) (pow2-scale values)
-        ∙ ap answered (started-is mass ok gs sound tau count w o out w₀ field ad' e (ef ∙ l) refl)
+        ∙ begun_full o j values (cleared j.need w₀) (pow2_scale values)
+        ∙ ap answered (started_is mass ok gs sound tau count w o out w₀ field ad' e (ef ∙ l) refl)

@@ -1,18 +1,18 @@
 // A new run on a unit.
 ghost use Rattle.std.specs.Prelude.{◌≡◌, List, ℕ, ◌≤◌, length, Float};
 ghost use Rattle.doubles.specs.F64.{if◌then◌else◌};
-ghost use Rattle.pow2.specs.Pow2.{eta-scaling, pow2-scale};
+ghost use Rattle.pow2.specs.Pow2.{eta_scaling, pow2_scale};
 ghost use Rattle.checks.specs.First.{Check, first};
 ghost use Rattle.checks.specs.declared.Checked.TheVariants.{Sound};
 ghost use Rattle.general_operator.specs.Csr.{csr};
 ghost use Rattle.generator_action.specs.Mass.{given};
 ghost use Rattle.generator_action.specs.Generator.{forward};
 ghost use Rattle.generator_action.specs.Known.{Passed};
-ghost use Rattle.combination.specs.Combination.{combination-start};
+ghost use Rattle.combination.specs.Combination.{combination_start};
 ghost use Rattle.paused_run.specs.Paused.{leaves, start};
-ghost use Rattle.paused_run.specs.Inner.{job-over};
-ghost use Rattle.rotation.specs.Unit.{room, unit-call, join};
-ghost use Rattle.rotation_joins.specs.Inner.{by-power, full-answer, admitted_of};
+ghost use Rattle.paused_run.specs.Inner.{job_over};
+ghost use Rattle.rotation.specs.Unit.{room, unit_call, join};
+ghost use Rattle.rotation_joins.specs.Inner.{by_power, full_answer, admitted_of};
 
 use checks::Checked;
 use generator_action::{MatrixAnswer, Shape};
@@ -32,7 +32,7 @@ pub struct Joined {
 // Whether the n + d values of a start are not all zeros: 1 / eta stands at the end of a chain.
 fn goes_on(n: usize, w: &[f64], d: usize) -> bool
     requires { d ≡ 0 → length w.now ≡ n }
-    ensures { (sum : Float) → result ≡ by-power (pow2-scale (combination-start n w.now d (eta-scaling sum).inv)) }
+    ensures { (sum : Float) → result ≡ by_power (pow2_scale (combination_start n w.now d (eta_scaling sum).inv)) }
 {
     if d != 0 {
         return true;
@@ -56,7 +56,7 @@ fn refused_job(
     field: usize,
 ) -> Checked
     requires { (g.n ≤ 1000000) × (g.stored ≤ 16777216) }
-    ensures { (gs : List Check) (starts cols : List ℕ) (vals mass output memory lent : List Float) → Sound ≡ first gs → Passed (csr g.n starts cols vals) (given g.with_mass mass) g → length output ≡ out → length memory ≡ work → length lent ≡ field → result ≡ full-answer (start o (job-over gs g starts cols vals mass tau count w.now) output memory lent).answer }
+    ensures { (gs : List Check) (starts cols : List ℕ) (vals mass output memory lent : List Float) → Sound ≡ first gs → Passed (csr g.n starts cols vals) (given g.with_mass mass) g → length output ≡ out → length memory ≡ work → length lent ≡ field → result ≡ full_answer (start o (job_over gs g starts cols vals mass tau count w.now) output memory lent).answer }
 {
     let none = Checked::Sound;
     let j = krylov_job::admit_job(g, tau, count, w, Eta::Own, o, out, none, work);
@@ -90,7 +90,7 @@ fn refused_full(
     work: usize,
     field: usize,
 ) -> Checked
-    ensures { (output memory lent : List Float) → length output ≡ out → length memory ≡ work → length lent ≡ field → result ≡ (if room unit then Sound else full-answer (start o (record { g = forward (csr n starts.now cols.now vals.now) (given with_mass mass.now); tau = tau; count = count; w = w.now }) output memory lent).answer) }
+    ensures { (output memory lent : List Float) → length output ≡ out → length memory ≡ work → length lent ≡ field → result ≡ (if room unit then Sound else full_answer (start o (record { g = forward (csr n starts.now cols.now vals.now) (given with_mass mass.now); tau = tau; count = count; w = w.now }) output memory lent).answer) }
 {
     if rotation::room(unit) {
         return Checked::Sound;
@@ -152,7 +152,7 @@ pub fn join(
     work: &mut [f64],
     field: &mut [f64],
 ) -> Joined
-    ensures { unit-call result.unit result.place (leaves result.answer out.new work.new field.new) ≡ join unit o (record { g = forward (csr n starts.now cols.now vals.now) (given with_mass mass.now); tau = tau; count = count; w = w.now }) out.old work.old field.old }
+    ensures { unit_call result.unit result.place (leaves result.answer out.new work.new field.new) ≡ join unit o (record { g = forward (csr n starts.now cols.now vals.now) (given with_mass mass.now); tau = tau; count = count; w = w.now }) out.old work.old field.old }
 {
     let full = refused_full(
         unit,

@@ -4,7 +4,7 @@ ghost use Rattle.general_operator.specs.Csr.{csr};
 ghost use Rattle.generator_action.specs.Mass.{given};
 ghost use Rattle.generator_action.specs.Generator.{forward};
 ghost use Rattle.paused_run.specs.Paused.{leaves};
-ghost use Rattle.rotation.specs.Unit.{unit-call, run-left, turn};
+ghost use Rattle.rotation.specs.Unit.{unit_call, run_left, turn};
 
 use paused_run::{PausedRun, StepAnswer, Tolerance};
 use rotation::Rotation;
@@ -19,7 +19,7 @@ pub struct Turned {
 
 // The run that a step hands back.
 fn run_left(answer: StepAnswer) -> PausedRun
-    ensures { result ≡ run-left answer }
+    ensures { result ≡ run_left answer }
 {
     match answer {
         StepAnswer::Refusal(_, _, run) => run,
@@ -44,7 +44,7 @@ pub fn turn(
     work: &mut [f64],
     field: &mut [f64],
 ) -> Turned
-    ensures { unit-call result.unit result.place (leaves result.answer out.new work.new field.new) ≡ turn unit field.old (record { tolerance = tolerance; job = record { g = forward (csr n starts.now cols.now vals.now) (given with_mass mass.now); tau = tau; count = count; w = w.now }; output = out.old; memory = work.old }) }
+    ensures { unit_call result.unit result.place (leaves result.answer out.new work.new field.new) ≡ turn unit field.old (record { tolerance = tolerance; job = record { g = forward (csr n starts.now cols.now vals.now) (given with_mass mass.now); tau = tau; count = count; w = w.now }; output = out.old; memory = work.old }) }
 {
     let p = rotation::next_place(unit);
     if p == 16 {

@@ -25,7 +25,7 @@ usable x = ten 1 ⩽ x && x ⋖ +∞
 unfoldable pub round2 : Float → Float
 round2 x = if usable x then up_to x (decade x) else nan
 
--- to compute: a line `unfolding open-Rounded` opens every definition of the crate and of those below it
-unfoldable pub open-Rounded : Unit {0}
-unfolding decade up_to round2 Rattle.round2.specs.Ten.ten Rattle.lists.specs.Greatest.greatest Rattle.doubles.specs.Whole.open-Whole Rattle.doubles.specs.F64.open-F64
-open-Rounded = tt
+-- to compute: a line `unfolding open_rounded` opens every definition of the crate and of those below it
+unfoldable pub open_rounded : Unit {0}
+unfolding decade up_to round2 Rattle.round2.specs.Ten.ten Rattle.lists.specs.Greatest.greatest Rattle.doubles.specs.Whole.open_whole Rattle.doubles.specs.F64.open_f64
+open_rounded = tt

@@ -1,12 +1,12 @@
 // The product of one row with a vector, two entries a turn.
 ghost use Rattle.std.specs.Prelude.{◌≡◌, ℕ, ◌+◌, ◌≤◌, ◌<◌, length, get_or};
-ghost use Rattle.general_operator.specs.Csr.{row-product};
+ghost use Rattle.general_operator.specs.Csr.{row_product};
 
 // One row: the entries from `from` up to `to`, two a turn.
 pub fn row_product(cols: &[u32], vals: &[f64], x: &[f64], from: usize, to: usize) -> f64
     requires from_le_to { (from ≤ to) × ((to ≤ length cols.now) × (to ≤ length vals.now)) }
     requires by_index { (k : ℕ) → k < length cols.now → get_or cols.now k 0 < length x.now }
-    ensures { result ≡ row-product cols.now vals.now x.now from to }
+    ensures { result ≡ row_product cols.now vals.now x.now from to }
 {
     let mut s = 0.0;
     let mut k = from;

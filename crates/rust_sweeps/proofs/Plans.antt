@@ -1,10 +1,10 @@
 -- The row of a plan at an argument just above a multiple of theta. Assumes nothing.
 use mathlib.Core.Path.{◌≡◌, refl}
 use Rattle.doubles.specs.F64.{bits}
-use Rattle.expmv.specs.Select.{M-MAX, select-s-m, open-Select}
+use Rattle.expmv.specs.Select.{M_MAX, select_s_m, open_select}
 use Rattle.expmv.specs.declared.Selected.TheVariants.{Row}
 
 -- the double above 9 x 3.54: the quotient rounds to 9, though 9 x 3.54 is below it as the doubles are (docs/CLAIMS.md, 'Slips of the soak': s in exact arithmetic)
-rounded-down : select-s-m M-MAX (bits 0x403f_dc28_f5c2_8f5d) ≡ Row 9 30
-unfolding open-Select
-rounded-down = refl
+rounded_down : select_s_m M_MAX (bits 0x403f_dc28_f5c2_8f5d) ≡ Row 9 30
+unfolding open_select
+rounded_down = refl

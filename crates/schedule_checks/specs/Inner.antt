@@ -4,27 +4,27 @@ use Rattle.lists.specs.Walk.{Turn, on, out}
 use Rattle.combination.specs.Call.{Call, ends}
 use Rattle.phi_solver.specs.declared.PhiAnswer.{PhiAnswer}
 use Rattle.phi_solver.specs.declared.PhiAnswer.TheVariants as phi
-use Rattle.schedule_checks.specs.Schedule.{Schedule, stages-of, Progress}
+use Rattle.schedule_checks.specs.Schedule.{Schedule, stages_of, Progress}
 use Rattle.schedule_checks.specs.declared.StagedAnswer.{StagedAnswer}
 use Rattle.schedule_checks.specs.declared.StagedAnswer.TheVariants.{Refusal}
 use Rattle.schedule_checks.specs.declared.SoFar.{SoFar}
 use Rattle.schedule_checks.specs.declared.StageTurn.{StageTurn}
 use Rattle.schedule_checks.specs.declared.StageTurn.TheVariants.{On, Ended}
 
-abbrev pub schedule-of : List Float → List ℕ → List ℕ → List ℕ → List Float → List ℕ → List ℕ → Schedule
-schedule-of taus counts solvers degrees tols ms limits =
+abbrev pub schedule_of : List Float → List ℕ → List ℕ → List ℕ → List Float → List ℕ → List ℕ → Schedule
+schedule_of taus counts solvers degrees tols ms limits =
     record { taus = taus; counts = counts; solvers = solvers; degrees = degrees; tols = tols; ms = ms; limits = limits }
 
 -- 1 to 64 stages, and a number of each list for every stage
 pub record Even (s : Schedule) : Type 0 where
-  pub some : 1 ≤ stages-of s
-  pub most : stages-of s ≤ 64
-  pub counts : length s.counts ≡ stages-of s
-  pub solvers : length s.solvers ≡ stages-of s
-  pub degrees : length s.degrees ≡ stages-of s
-  pub tols : length s.tols ≡ stages-of s
-  pub ms : length s.ms ≡ stages-of s
-  pub limits : length s.limits ≡ stages-of s
+  pub some : 1 ≤ stages_of s
+  pub most : stages_of s ≤ 64
+  pub counts : length s.counts ≡ stages_of s
+  pub solvers : length s.solvers ≡ stages_of s
+  pub degrees : length s.degrees ≡ stages_of s
+  pub tols : length s.tols ≡ stages_of s
+  pub ms : length s.ms ≡ stages_of s
+  pub limits : length s.limits ≡ stages_of s
 
 -- w_0 of a stage: the start field, or what the stage before left in the output
 abbrev pub field_of : Bool → List Float → List Float → List Float
@@ -52,8 +52,8 @@ Moderate i (On p) = Counted i p
 Moderate i (Ended k x j) = Unit {0}
 
 -- one more call
-abbrev pub counted-by : SoFar → ℕ → ℕ → ℕ → ℕ → SoFar
-counted-by p need applications substeps rejected =
+abbrev pub counted_by : SoFar → ℕ → ℕ → ℕ → ℕ → SoFar
+counted_by p need applications substeps rejected =
     record {
       used = p.used + need;
       report = record { applications = p.report.applications + applications; substeps = p.report.substeps + substeps; rejected = p.report.rejected + rejected };

@@ -4,7 +4,7 @@ use Rattle.std.specs.Float.{nan}
 use Rattle.lists.specs.Walk.{Turn, on, out}
 use Rattle.doubles.specs.F64.{nat, at}
 use Rattle.checks.specs.First.{Check, refuse}
-use Rattle.combination.specs.Checks.{count-checks, time-checks, plan-checks, length-checks}
+use Rattle.combination.specs.Checks.{count_checks, time_checks, plan_checks, length_checks}
 use Rattle.combination.specs.Call.{Call, ends}
 use Rattle.phi_solver.specs.declared.PhiSolver.{PhiSolver}
 use Rattle.phi_solver.specs.declared.PhiSolver.TheVariants.{Taylor, Krylov}
@@ -26,9 +26,9 @@ pub record Schedule : Type 0 where
   pub ms : List ℕ
   pub limits : List ℕ
 
-abbrev pub solver-of : Bool → ℕ → Float → ℕ → ℕ → PhiSolver
-solver-of true degree tol m limit = Taylor degree
-solver-of false degree tol m limit = Krylov (record { tol = tol; m = m; max_substeps = limit })
+abbrev pub solver_of : Bool → ℕ → Float → ℕ → ℕ → PhiSolver
+solver_of true degree tol m limit = Taylor degree
+solver_of false degree tol m limit = Krylov (record { tol = tol; m = m; max_substeps = limit })
 
 -- stage i + 1
 unfoldable pub stage : Schedule → ℕ → Stage
@@ -36,22 +36,22 @@ stage s i =
     record {
       tau = at s.taus i;
       count = get_or s.counts i 0;
-      solver = solver-of (eqb (get_or s.solvers i 0) 0) (get_or s.degrees i 0) (at s.tols i) (get_or s.ms i 0) (get_or s.limits i 0);
+      solver = solver_of (eqb (get_or s.solvers i 0) 0) (get_or s.degrees i 0) (at s.tols i) (get_or s.ms i 0) (get_or s.limits i 0);
     }
 
 -- how many stages there are
-abbrev pub stages-of : Schedule → ℕ
-stages-of s = length s.taus
+abbrev pub stages_of : Schedule → ℕ
+stages_of s = length s.taus
 
 -- lists that do not tell of one number of stages
 abbrev pub uneven : Schedule → Bool
 uneven s =
-    let k = stages-of s in
+    let k = stages_of s in
     not (eqb (length s.counts) k && (eqb (length s.solvers) k && (eqb (length s.degrees) k && (eqb (length s.tols) k && (eqb (length s.ms) k && eqb (length s.limits) k)))))
 
 -- not 1 to 64 stages
-unfoldable pub schedule-checks : Schedule → List Check
-schedule-checks s = refuse 37 (eqb (stages-of s) 0 || (ltb 64 (stages-of s) || uneven s)) nan ∷ []
+unfoldable pub schedule_checks : Schedule → List Check
+schedule_checks s = refuse 37 (eqb (stages_of s) 0 || (ltb 64 (stages_of s) || uneven s)) nan ∷ []
 
 -- ---- one stage
 -- before a stage: w_0, what the output and the working memory hold, how many numbers of the further vectors' slice are used, and the counts so far
@@ -63,25 +63,25 @@ pub record Progress : Type 0 where
   pub report : StagedReport
 
 -- the numbers of a stage's further vectors
-abbrev pub further-need : ℕ → Stage → ℕ
-further-need n s = (s.count - 1) * n
+abbrev pub further_need : ℕ → Stage → ℕ
+further_need n s = (s.count - 1) * n
 
 -- the slice is too short for this stage, or too long at the last
-abbrev pub wrong-slice : ℕ → Bool → ℕ → ℕ → Bool
-wrong-slice need last used further = ltb further (used + need) || (last && ltb (used + need) further)
+abbrev pub wrong_slice : ℕ → Bool → ℕ → ℕ → Bool
+wrong_slice need last used further = ltb further (used + need) || (last && ltb (used + need) further)
 
 -- 14, and of Taylor 33 behind it
-abbrev pub time-checks-of : PhiSolver → Float → List Check
-time-checks-of (Taylor degree) tau = plan-checks tau degree
-time-checks-of (Krylov o) tau = time-checks tau
+abbrev pub time_checks_of : PhiSolver → Float → List Check
+time_checks_of (Taylor degree) tau = plan_checks tau degree
+time_checks_of (Krylov o) tau = time_checks tau
 
 -- 12 to 16 of a stage, with the lengths handed in: those of the single call, but for the two slices that its vectors come from
-unfoldable pub stage-checks : ℕ → Stage → Bool → ℕ → ℕ → ℕ → ℕ → List Check
-stage-checks n s last output field used further =
-    count-checks s.count
-    ++ (time-checks-of s.solver s.tau
-    ++ (length-checks output n field n
-    ++ (refuse 16 (wrong-slice (further-need n s) last used further) (nat further) ∷ [])))
+unfoldable pub stage_checks : ℕ → Stage → Bool → ℕ → ℕ → ℕ → ℕ → List Check
+stage_checks n s last output field used further =
+    count_checks s.count
+    ++ (time_checks_of s.solver s.tau
+    ++ (length_checks output n field n
+    ++ (refuse 16 (wrong_slice (further_need n s) last used further) (nat further) ∷ [])))
 
 -- the counts so far and those of a single call; Taylor has no substeps and rejects nothing
 unfoldable pub counted : StagedReport → PhiAnswer → StagedReport

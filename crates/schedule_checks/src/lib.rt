@@ -1,8 +1,8 @@
 // The schedule of a soak in stages, and the check of its lists.
 ghost use Rattle.std.specs.Prelude.{◌≡◌, not, ◌&&◌, ◌||◌, ◌-◌, eqb, ltb};
 ghost use Rattle.checks.specs.First.{first};
-ghost use Rattle.schedule_checks.specs.Schedule.{stage, schedule-checks};
-ghost use Rattle.schedule_checks.specs.Inner.{schedule-of};
+ghost use Rattle.schedule_checks.specs.Schedule.{stage, schedule_checks};
+ghost use Rattle.schedule_checks.specs.Inner.{schedule_of};
 
 use checks::Checked;
 use phi_solver::PhiSolver;
@@ -97,7 +97,7 @@ pub fn check_schedule(
     ms: &[usize],
     limits: &[usize],
 ) -> Checked
-    ensures { result ≡ first (schedule-checks (schedule-of taus.now counts.now solvers.now degrees.now tols.now ms.now limits.now)) }
+    ensures { result ≡ first (schedule_checks (schedule_of taus.now counts.now solvers.now degrees.now tols.now ms.now limits.now)) }
 {
     let k = taus.len();
     let odd = uneven(

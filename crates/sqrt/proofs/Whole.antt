@@ -9,20 +9,20 @@ use lib.Dec.{leb, leb→le, le→leb}
 use lib.Ieee.{size}
 use lib.Ieee.Digits.{size-lt}
 use Rattle.lists.specs.Greatest.{greatest}
-use Rattle.lists.proofs.Greatest.{Greatest, greatest-is}
+use Rattle.lists.proofs.Greatest.{Greatest, greatest_is}
 use Rattle.sqrt.specs.Sqrt.{isqrt}
-use Rattle.sqrt.proofs.Squares.{square-mono}
+use Rattle.sqrt.proofs.Squares.{square_mono}
 
-self-le : (n : ℕ) → 0 < n → n ≤ n * n
-self-le n h = le_trans (le_of_eq (sym (mul-one n))) (mul-le-mul (le_refl n) h)
+self_le : (n : ℕ) → 0 < n → n ≤ n * n
+self_le n h = le_trans (le_of_eq (sym (mul-one n))) (mul-le-mul (le_refl n) h)
 
-pub isqrt-is : (n : ℕ) → (isqrt n * isqrt n ≤ n) × (n < (isqrt n + 1) * (isqrt n + 1))
+pub isqrt_is : (n : ℕ) → (isqrt n * isqrt n ≤ n) × (n < (isqrt n + 1) * (isqrt n + 1))
 unfolding isqrt
-isqrt-is n =
+isqrt_is n =
     let p : ℕ → Bool = λ (s : ℕ). leb (s * s) n in
     let g = greatest p (size n) 0 in
     let r : Greatest p 0 (2 ^ size n) g =
-    greatest-is p (λ a b h t. le→leb (a * a) n (le_trans (square-mono a b h) (leb→le (b * b) n t))) (size n) (le→leb 0 n zero-le) in (
+    greatest_is p (λ a b h t. le→leb (a * a) n (le_trans (square_mono a b h) (leb→le (b * b) n t))) (size n) (le→leb 0 n zero-le) in (
       leb→le (g * g) n r.passes,
       lt_of_not-le (λ (h : (g + 1) * (g + 1) ≤ n). r.last (g + 1) (lt-add-one g) (small g n h) (le→leb ((g + 1) * (g + 1)) n h)),
     )
@@ -31,4 +31,4 @@ isqrt-is n =
     pos g = omega arith
 
     small : (g n : ℕ) → (g + 1) * (g + 1) ≤ n → g + 1 < 2 ^ size n
-    small g n h = lt_of_le_of_lt (le_trans (self-le (g + 1) (pos g)) h) (size-lt n)
+    small g n h = lt_of_le_of_lt (le_trans (self_le (g + 1) (pos g)) h) (size-lt n)

@@ -10,8 +10,8 @@ isqrt n = greatest (λ (s : ℕ). leb (s * s) n) (size n) 0
 
 -- The double nearest to √n / 2 ^ 1074. The exact root is s or lies between s and s + 1, and no double and no point half way between
 -- two doubles lies strictly between those, for an n from 2 ^ 108 on: so s, or s and a half, rounds as the root does.
-unfoldable pub nearest-root : ℕ → Float
-nearest-root n = let s = isqrt n in round binary64 false (2 * s + cond (eqb (s * s) n) 0 1) (2 ^ 1075)
+unfoldable pub nearest_root : ℕ → Float
+nearest_root n = let s = isqrt n in round binary64 false (2 * s + cond (eqb (s * s) n) 0 1) (2 ^ 1075)
 
 -- x is n / 2 ^ 1074, so its root is √(n * 2 ^ 1074) / 2 ^ 1074
 unfoldable pub sqrt : Float → Float
@@ -20,9 +20,9 @@ sqrt (inf true) = nan
 sqrt (inf false) = inf false
 sqrt (fin s zero e) = fin s zero e
 sqrt (fin true (suc m) e) = nan
-sqrt (fin false (suc m) e) = nearest-root (suc m * up e * 2 ^ 1074 / down e * 2 ^ 1074)
+sqrt (fin false (suc m) e) = nearest_root (suc m * up e * 2 ^ 1074 / down e * 2 ^ 1074)
 
--- to compute: a line `unfolding open-Sqrt` opens every definition of this file and of those below it
-unfoldable pub open-Sqrt : Unit {0}
-unfolding isqrt nearest-root sqrt Rattle.lists.specs.Greatest.greatest Rattle.doubles.specs.F64.open-F64
-open-Sqrt = tt
+-- to compute: a line `unfolding open_sqrt` opens every definition of this file and of those below it
+unfoldable pub open_sqrt : Unit {0}
+unfolding isqrt nearest_root sqrt Rattle.lists.specs.Greatest.greatest Rattle.doubles.specs.F64.open_f64
+open_sqrt = tt

@@ -2,8 +2,8 @@
 ghost use Rattle.std.specs.Prelude.{◌≡◌, ◌+◌, ◌*◌, ◌^◌, ◌<◌, ◌≤◌};
 ghost use Rattle.std.specs.Float.{binary64};
 ghost use Rattle.std.specs.Float.Ieee.{of_bits};
-ghost use Rattle.doubles.specs.F64.{INF-BITS};
-ghost use Rattle.sqrt.specs.Sqrt.{sqrt, nearest-root};
+ghost use Rattle.doubles.specs.F64.{INF_BITS};
+ghost use Rattle.sqrt.specs.Sqrt.{sqrt, nearest_root};
 
 use doubles::{INF_BITS, ONE_BITS};
 
@@ -70,7 +70,7 @@ fn root54(m: u64) -> u64
 // The pattern of the double nearest to the square root of (m * 2^f * 2^54), over 2^1074.
 fn root_bits(significand: u64, exponent: u64) -> u64
     requires { (0 < significand) × (significand < 2 ^ 53) × (1020 ≤ exponent) × (exponent < 3066) }
-    ensures { (result < INF-BITS) × (of_bits binary64 result ≡ nearest-root (significand * 2 ^ exponent * 2 ^ 54)) }
+    ensures { (result < INF_BITS) × (of_bits binary64 result ≡ nearest_root (significand * 2 ^ exponent * 2 ^ 54)) }
 {
     let mut m = significand;
     let mut f = exponent;

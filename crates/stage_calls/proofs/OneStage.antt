@@ -8,44 +8,44 @@ use native.Mathlib.Nat.{suc-mul}
 use lib.ListN.{length, take, drop, length-append}
 use lib.Ieee.{Float}
 use Rattle.lists.specs.Window.{window, splice}
-use Rattle.lists.proofs.Window.{part-window, length-window}
+use Rattle.lists.proofs.Window.{part_window, length_window}
 use Rattle.checks.specs.First.{Check, first}
 use Rattle.checks.specs.declared.Checked.{Checked}
 use Rattle.checks.specs.declared.Checked.TheVariants.{Sound, Refused}
-use Rattle.checks.proofs.First.{sound-on, refused-up, ends-sound}
+use Rattle.checks.proofs.First.{sound_on, refused_up, ends_sound}
 use Rattle.general_operator.specs.Csr.{csr}
 use Rattle.generator_action.specs.Mass.{given}
 use Rattle.generator_action.specs.Generator.{Generator}
 use Rattle.generator_action.specs.Known.{Passed}
 use Rattle.generator_action.specs.declared.Shape.{Shape}
-use Rattle.combination.specs.Combination.{further, magnitude, combination-start}
-use Rattle.combination.specs.Checks.{count-checks, time-checks, plan-checks, length-checks, finite-checks, vector-checks-by, vector-checks}
+use Rattle.combination.specs.Combination.{further, magnitude, combination_start}
+use Rattle.combination.specs.Checks.{count_checks, time_checks, plan_checks, length_checks, finite_checks, vector_checks_by, vector_checks}
 use Rattle.combination.specs.Call.{Call, ends}
-use Rattle.taylor_schedule.specs.Inner.{Coupled, matrix-of, after-checks, combination-job}
+use Rattle.taylor_schedule.specs.Inner.{Coupled, matrix_of, after_checks, combination_job}
 use Rattle.taylor_schedule.specs.declared.Job.{Job}
-use Rattle.combination.proofs.Ends.{refused-by, runs}
-use Rattle.taylor_schedule.proofs.Stored.{quotients-rows}
-use Rattle.combination.proofs.Further.{further-behind, start_of}
-use Rattle.taylor_job.specs.Calls.{swept-fields, phi-combination}
-use Rattle.taylor_job.specs.Inner.{Allowed, operator-by, job-end}
+use Rattle.combination.proofs.Ends.{refused_by, runs}
+use Rattle.taylor_schedule.proofs.Stored.{quotients_rows}
+use Rattle.combination.proofs.Further.{further_behind, start_of}
+use Rattle.taylor_job.specs.Calls.{swept_fields, phi_combination}
+use Rattle.taylor_job.specs.Inner.{Allowed, operator_by, job_end}
 use Rattle.taylor_job.specs.declared.TaylorAnswer.{TaylorAnswer}
 use Rattle.taylor_job.specs.declared.TaylorAnswer.TheVariants as taylor
-use Rattle.phi_combination.proofs.Calls as taylor-calls
-use Rattle.krylov_job.specs.KrylovCall.{dimension, option-checks, krylov-checks-by, krylov-checks, after_run, phi-combination-krylov}
+use Rattle.phi_combination.proofs.Calls as taylor_calls
+use Rattle.krylov_job.specs.KrylovCall.{dimension, option_checks, krylov_checks_by, krylov_checks, after_run, phi_combination_krylov}
 use Rattle.phi_solver.specs.Combine.{combine}
 use Rattle.phi_solver.specs.declared.PhiAnswer.{PhiAnswer}
 use Rattle.phi_solver.specs.declared.PhiAnswer.TheVariants as phi
-use Rattle.krylov_job.specs.Inner.{scaling-by, scaling-of, run-job-by, Admitted, Allowed as Runnable, run_of}
+use Rattle.krylov_job.specs.Inner.{scaling_by, scaling_of, run_job_by, Admitted, Allowed as Runnable, run_of}
 use Rattle.krylov_job.specs.declared.KrylovAnswer.{KrylovAnswer}
 use Rattle.krylov_job.specs.declared.KrylovAnswer.TheVariants as krylov
 use Rattle.krylov_job.specs.declared.KrylovPhiOptions.{KrylovPhiOptions}
 use Rattle.krylov_job.specs.declared.RunJob.{RunJob}
 use Rattle.krylov_job.specs.declared.Eta.TheVariants.{Own}
-use Rattle.krylov_job.proofs.Calls as krylov-calls
+use Rattle.krylov_job.proofs.Calls as krylov_calls
 use Rattle.schedule_checks.specs.declared.Stage.{Stage}
-use Rattle.schedule_checks.specs.Schedule.{stage-checks}
-use Rattle.stage_calls.specs.Inner.{Whole, stage-end}
-use Rattle.schedule_checks.proofs.Checks.{count-sound, lengths-sound, Fitting}
+use Rattle.schedule_checks.specs.Schedule.{stage_checks}
+use Rattle.stage_calls.specs.Inner.{Whole, stage_end}
+use Rattle.schedule_checks.proofs.Checks.{count_sound, lengths_sound, Fitting}
 
 -- w_0 and its further vectors
 filled : (count n : ℕ) → 1 ≤ count → n + (count - 1) * n ≡ count * n
@@ -55,22 +55,22 @@ filled (suc d) n h = let e : suc d - 1 ≡ d = omega arith in rw e (omega (arith
 -- ---- 12 to 16 of the single call pass too
 module _ {n count output : ℕ} (v f : List Float) (h : Whole n count (length v) (length f) output) where
   pub behind : further n (v ++ f) ≡ f
-  behind = further-behind n v f h.fielded
+  behind = further_behind n v f h.fielded
 
-  vectors-long : length (v ++ f) ≡ count * n
-  vectors-long = length-append v f ∙ omega (arith, h.fielded, h.rest, filled count n h.some)
+  vectors_long : length (v ++ f) ≡ count * n
+  vectors_long = length-append v f ∙ omega (arith, h.fielded, h.rest, filled count n h.some)
 
-  lengths-pass : Sound ≡ first (length-checks output n (length (v ++ f)) (count * n))
-  lengths-pass = lengths-sound h.out vectors-long
+  lengths_pass : Sound ≡ first (length_checks output n (length (v ++ f)) (count * n))
+  lengths_pass = lengths_sound h.out vectors_long
 
-  pub taylor-told : (ts : List Check) {r : Checked} → Sound ≡ first ts → r ≡ first (finite-checks (v ++ f)) → r ≡ first (vector-checks n ts count (v ++ f) output)
-  unfolding vector-checks vector-checks-by
-  taylor-told ts st e = sound-on (count-checks count) _ refl (count-sound h.some h.most) (sound-on ts _ refl st (sound-on (length-checks output n (length (v ++ f)) (count * n)) _ refl lengths-pass e))
+  pub taylor_told : (ts : List Check) {r : Checked} → Sound ≡ first ts → r ≡ first (finite_checks (v ++ f)) → r ≡ first (vector_checks n ts count (v ++ f) output)
+  unfolding vector_checks vector_checks_by
+  taylor_told ts st e = sound_on (count_checks count) _ refl (count_sound h.some h.most) (sound_on ts _ refl st (sound_on (length_checks output n (length (v ++ f)) (count * n)) _ refl lengths_pass e))
 
-  pub krylov-told : (tau : Float) (os : List Check) {r : Checked} → Sound ≡ first (time-checks tau) → r ≡ first (finite-checks (v ++ f) ++ os)
-      → r ≡ first (vector-checks-by (time-checks tau) (length-checks output n (length (v ++ f)) (count * n) ++ []) count (v ++ f) ++ os)
-  unfolding vector-checks-by count-checks time-checks length-checks finite-checks
-  krylov-told tau os st e = sound-on (count-checks count) _ refl (count-sound h.some h.most) (sound-on (time-checks tau) _ refl st (sound-on (length-checks output n (length (v ++ f)) (count * n)) _ refl lengths-pass e))
+  pub krylov_told : (tau : Float) (os : List Check) {r : Checked} → Sound ≡ first (time_checks tau) → r ≡ first (finite_checks (v ++ f) ++ os)
+      → r ≡ first (vector_checks_by (time_checks tau) (length_checks output n (length (v ++ f)) (count * n) ++ []) count (v ++ f) ++ os)
+  unfolding vector_checks_by count_checks time_checks length_checks finite_checks
+  krylov_told tau os st e = sound_on (count_checks count) _ refl (count_sound h.some h.most) (sound_on (time_checks tau) _ refl st (sound_on (length_checks output n (length (v ++ f)) (count * n)) _ refl lengths_pass e))
 
 module _
     {starts cols : List ℕ}
@@ -99,93 +99,93 @@ module _
 
   -- ---- by Taylor
   module _ (cap : ℕ) where
-    pub taylor-fits : {j : Job} → j ≡ combination-job g tau cap d f (length w₀) → j.checked ≡ Sound → 0 + (g.n + d) ≤ length w₀
-    taylor-fits ej e =
-        let al = taylor-calls.allowed-combination mass ok {work = w₀} f few ej e refl in
-        let x = rw ej at (taylor-calls.field_fits al) in
+    pub taylor_fits : {j : Job} → j ≡ combination_job g tau cap d f (length w₀) → j.checked ≡ Sound → 0 + (g.n + d) ≤ length w₀
+    taylor_fits ej e =
+        let al = taylor_calls.allowed_combination mass ok {work = w₀} f few ej e refl in
+        let x = rw ej at (taylor_calls.field_fits al) in
         omega (arith, x)
 
-    pub taylor-runs : {j : Job} {w₁ : List Float} → j ≡ combination-job g tau cap d f (length w₀) → j.checked ≡ Sound → length w₁ ≡ length w₀
+    pub taylor_runs : {j : Job} {w₁ : List Float} → j ≡ combination_job g tau cap d f (length w₀) → j.checked ≡ Sound → length w₁ ≡ length w₀
         → Allowed starts cols vals mass w₁ j × (Coupled j.b j.g.n j.d (length f) × (length out ≡ j.g.n))
-    taylor-runs ej e l = taylor-calls.runs-combination mass ok f few fits h.out ej e l
+    taylor_runs ej e l = taylor_calls.runs_combination mass ok f few fits h.out ej e l
 
-    module _ (gs : List Check) (sound : Sound ≡ first gs) (timed : Sound ≡ first (plan-checks tau cap)) {r : Checked} (told : r ≡ first (finite-checks w)) where
-      pub taylor-refused : {k : ℕ} {x : Float} → r ≡ Refused k x
-          → ends (taylor.Refusal k x) out w₀ ≡ phi-combination (after-checks gs (csr g.n starts cols vals) (given g.with_mass mass) g) tau cap count w out w₀
-      taylor-refused e = taylor-calls.refused-vectors mass ok gs sound tau cap count w out w₀ (taylor-told v f h (plan-checks tau cap) timed told) e
+    module _ (gs : List Check) (sound : Sound ≡ first gs) (timed : Sound ≡ first (plan_checks tau cap)) {r : Checked} (told : r ≡ first (finite_checks w)) where
+      pub taylor_refused : {k : ℕ} {x : Float} → r ≡ Refused k x
+          → ends (taylor.Refusal k x) out w₀ ≡ phi_combination (after_checks gs (csr g.n starts cols vals) (given g.with_mass mass) g) tau cap count w out w₀
+      taylor_refused e = taylor_calls.refused_vectors mass ok gs sound tau cap count w out w₀ (taylor_told v f h (plan_checks tau cap) timed told) e
 
-      module _ (passed : r ≡ Sound) {j : Job} (ej : j ≡ combination-job g tau cap d f (length w₀)) where
-        job_is : j ≡ combination-job g tau cap d (further g.n w) (length w₀)
-        job_is = ej ∙ ap (λ (x : List Float). combination-job g tau cap d x (length w₀)) (sym (behind v f h))
+      module _ (passed : r ≡ Sound) {j : Job} (ej : j ≡ combination_job g tau cap d f (length w₀)) where
+        job_is : j ≡ combination_job g tau cap d (further g.n w) (length w₀)
+        job_is = ej ∙ ap (λ (x : List Float). combination_job g tau cap d x (length w₀)) (sym (behind v f h))
 
-        pub taylor-not-admitted : {k : ℕ} {x : Float} → j.checked ≡ Refused k x
-            → ends (taylor.Refusal k x) out w₀ ≡ phi-combination (after-checks gs (csr g.n starts cols vals) (given g.with_mass mass) g) tau cap count w out w₀
-        taylor-not-admitted e = taylor-calls.refused-sweeps mass ok gs sound tau cap count w out w₀ (taylor-told v f h (plan-checks tau cap) timed told) passed job_is e
+        pub taylor_not_admitted : {k : ℕ} {x : Float} → j.checked ≡ Refused k x
+            → ends (taylor.Refusal k x) out w₀ ≡ phi_combination (after_checks gs (csr g.n starts cols vals) (given g.with_mass mass) g) tau cap count w out w₀
+        taylor_not_admitted e = taylor_calls.refused_sweeps mass ok gs sound tau cap count w out w₀ (taylor_told v f h (plan_checks tau cap) timed told) passed job_is e
 
-        pub taylor-is : {c : Call TaylorAnswer} {w₁ : List Float} → j.checked ≡ Sound
-            → w₁ ≡ splice 0 (combination-start g.n v d j.inv) w₀
-            → c ≡ job-end j (matrix-of j.g starts cols vals mass) (swept-fields (operator-by j (matrix-of j.g starts cols vals mass) f) j.tau (window 0 (j.g.n + j.d) w₁)) w₁
-            → c ≡ phi-combination (after-checks gs (csr g.n starts cols vals) (given g.with_mass mass) g) tau cap count w out w₀
-        taylor-is {w₁ = w₁} e e₁ ec =
+        pub taylor_is : {c : Call TaylorAnswer} {w₁ : List Float} → j.checked ≡ Sound
+            → w₁ ≡ splice 0 (combination_start g.n v d j.inv) w₀
+            → c ≡ job_end j (matrix_of j.g starts cols vals mass) (swept_fields (operator_by j (matrix_of j.g starts cols vals mass) f) j.tau (window 0 (j.g.n + j.d) w₁)) w₁
+            → c ≡ phi_combination (after_checks gs (csr g.n starts cols vals) (given g.with_mass mass) g) tau cap count w out w₀
+        taylor_is {w₁ = w₁} e e₁ ec =
             let start = e₁ ∙ ap (λ (y : List Float). splice 0 y w₀) (sym (start_of g.n v f h.fielded d j.inv)) in
-            let run = ec ∙ ap (λ (x : List Float). job-end j (matrix-of j.g starts cols vals mass) (swept-fields (operator-by j (matrix-of j.g starts cols vals mass) x) j.tau (window 0 (j.g.n + j.d) w₁)) w₁) (sym (behind v f h)) in
-            taylor-calls.combined-is mass ok gs sound tau cap count w out w₀ (taylor-told v f h (plan-checks tau cap) timed told) passed job_is e
-            (taylor-calls.ran mass ok gs sound tau cap d w (further g.n w) out w₀ few wide job_is e start run)
+            let run = ec ∙ ap (λ (x : List Float). job_end j (matrix_of j.g starts cols vals mass) (swept_fields (operator_by j (matrix_of j.g starts cols vals mass) x) j.tau (window 0 (j.g.n + j.d) w₁)) w₁) (sym (behind v f h)) in
+            taylor_calls.combined_is mass ok gs sound tau cap count w out w₀ (taylor_told v f h (plan_checks tau cap) timed told) passed job_is e
+            (taylor_calls.ran mass ok gs sound tau cap d w (further g.n w) out w₀ few wide job_is e start run)
 
   -- ---- by Krylov
-  module _ (o : KrylovPhiOptions) (timed : Sound ≡ first (time-checks tau)) {r : Checked} (told : r ≡ first (finite-checks w ++ option-checks o (dimension g.n d o.m))) where
-    early : r ≡ first (vector-checks-by (time-checks tau) (length-checks (length out) g.n (length w) (count * g.n) ++ []) count w ++ option-checks o (dimension g.n d o.m))
-    early = krylov-told v f h tau (option-checks o (dimension g.n d o.m)) timed told
+  module _ (o : KrylovPhiOptions) (timed : Sound ≡ first (time_checks tau)) {r : Checked} (told : r ≡ first (finite_checks w ++ option_checks o (dimension g.n d o.m))) where
+    early : r ≡ first (vector_checks_by (time_checks tau) (length_checks (length out) g.n (length w) (count * g.n) ++ []) count w ++ option_checks o (dimension g.n d o.m))
+    early = krylov_told v f h tau (option_checks o (dimension g.n d o.m)) timed told
 
-    pub dimension-small : r ≡ Sound → dimension g.n d o.m ≤ 128
-    dimension-small e = (krylov-calls.early-known g tau count w o (length out) [] early e).1
+    pub dimension_small : r ≡ Sound → dimension g.n d o.m ≤ 128
+    dimension_small e = (krylov_calls.early_known g tau count w o (length out) [] early e).1
 
-    abbrev Job-of : RunJob → Type 0
-    Job-of j = Admitted g tau count w (scaling-of g tau count w Own) o (length-checks (length out) g.n (length w) (count * g.n) ++ []) (length w₀) j
+    abbrev JobOf : RunJob → Type 0
+    JobOf j = Admitted g tau count w (scaling_of g tau count w Own) o (length_checks (length out) g.n (length w) (count * g.n) ++ []) (length w₀) j
 
-    pub krylov-refused : (gs : List Check) → Sound ≡ first gs → {k : ℕ} {x : Float} → r ≡ Refused k x
-        → ends (krylov.Refusal k x) out w₀ ≡ phi-combination-krylov (after-checks gs (csr g.n starts cols vals) (given g.with_mass mass) g) tau count w o out w₀
-    unfolding phi-combination-krylov krylov-checks krylov-checks-by length-checks
-    krylov-refused gs sound e = refused-by krylov.Refusal _ out w₀ _ e (sound-on gs _ refl sound (rw (quotients-rows (csr g.n starts cols vals) (given g.with_mass mass)) (refused-up _ _ e early ∙ ap first (append_assoc (vector-checks-by (time-checks tau) (length-checks (length out) g.n (length w) (count * g.n)) count w) (option-checks o (dimension g.n d o.m)) _))))
+    pub krylov_refused : (gs : List Check) → Sound ≡ first gs → {k : ℕ} {x : Float} → r ≡ Refused k x
+        → ends (krylov.Refusal k x) out w₀ ≡ phi_combination_krylov (after_checks gs (csr g.n starts cols vals) (given g.with_mass mass) g) tau count w o out w₀
+    unfolding phi_combination_krylov krylov_checks krylov_checks_by length_checks
+    krylov_refused gs sound e = refused_by krylov.Refusal _ out w₀ _ e (sound_on gs _ refl sound (rw (quotients_rows (csr g.n starts cols vals) (given g.with_mass mass)) (refused_up _ _ e early ∙ ap first (append_assoc (vector_checks_by (time_checks tau) (length_checks (length out) g.n (length w) (count * g.n)) count w) (option_checks o (dimension g.n d o.m)) _))))
 
-    module _ (passed : r ≡ Sound) {j : RunJob} {M : ℕ} (eM : M ≡ dimension g.n d o.m) (ej : j ≡ run-job-by g tau d f (scaling-by Own (magnitude g.n f tau d)) o M (length w₀)) where
-      pub job_of : Job-of j
+    module _ (passed : r ≡ Sound) {j : RunJob} {M : ℕ} (eM : M ≡ dimension g.n d o.m) (ej : j ≡ run_job_by g tau d f (scaling_by Own (magnitude g.n f tau d)) o M (length w₀)) where
+      pub job_of : JobOf j
       job_of =
-          krylov-calls.admitted g tau count w o (length out) [] early _ (length w₀) passed
-          (ej ∙ (λ i. run-job-by g tau d (sym (behind v f h) i) (scaling-by Own (magnitude g.n (sym (behind v f h) i) tau d)) o (eM i) (length w₀)))
+          krylov_calls.admitted g tau count w o (length out) [] early _ (length w₀) passed
+          (ej ∙ (λ i. run_job_by g tau d (sym (behind v f h) i) (scaling_by Own (magnitude g.n (sym (behind v f h) i) tau d)) o (eM i) (length w₀)))
 
-      pub krylov-fits : j.checked ≡ Sound → j.k.y + (g.n + d) ≤ length w₀
-      krylov-fits e =
-          let x = (krylov-calls.start_fits mass ok [] ends-sound tau count w o out w₀ job_of e).1 in
+      pub krylov_fits : j.checked ≡ Sound → j.k.y + (g.n + d) ≤ length w₀
+      krylov_fits e =
+          let x = (krylov_calls.start_fits mass ok [] ends_sound tau count w o out w₀ job_of e).1 in
           omega (arith, x, ap (λ (y : RunJob). y.d) ej)
 
-      pub krylov-runs : {w₁ : ℕ} → j.checked ≡ Sound → w₁ ≡ length w₀ → Runnable starts cols vals mass j (length f) w₁ × (length out ≡ j.g.n)
-      krylov-runs e l = rw (behind v f h) at (krylov-calls.runs-job mass ok [] ends-sound tau count w o out w₀ job_of e l)
+      pub krylov_runs : {w₁ : ℕ} → j.checked ≡ Sound → w₁ ≡ length w₀ → Runnable starts cols vals mass j (length f) w₁ × (length out ≡ j.g.n)
+      krylov_runs e l = rw (behind v f h) at (krylov_calls.runs_job mass ok [] ends_sound tau count w o out w₀ job_of e l)
 
       module _ (gs : List Check) (sound : Sound ≡ first gs) where
-        pub krylov-not-admitted : {k : ℕ} {x : Float} → j.checked ≡ Refused k x
-            → ends (krylov.Refusal k x) out w₀ ≡ phi-combination-krylov (after-checks gs (csr g.n starts cols vals) (given g.with_mass mass) g) tau count w o out w₀
-        krylov-not-admitted e = krylov-calls.refused-run mass ok gs sound tau count w o out w₀ job_of e
+        pub krylov_not_admitted : {k : ℕ} {x : Float} → j.checked ≡ Refused k x
+            → ends (krylov.Refusal k x) out w₀ ≡ phi_combination_krylov (after_checks gs (csr g.n starts cols vals) (given g.with_mass mass) g) tau count w o out w₀
+        krylov_not_admitted e = krylov_calls.refused_run mass ok gs sound tau count w o out w₀ job_of e
 
-        pub krylov-is : {c : Call KrylovAnswer} {w₁ : List Float} → j.checked ≡ Sound
-            → w₁ ≡ splice j.k.y (combination-start g.n v d j.eta.inv) w₀
-            → c ≡ after_run j.g.n j.need w₁ (run_of j (matrix-of j.g starts cols vals mass) f (window j.k.y (j.g.n + j.d) w₁))
-            → c ≡ phi-combination-krylov (after-checks gs (csr g.n starts cols vals) (given g.with_mass mass) g) tau count w o out w₀
-        krylov-is {w₁ = w₁} e e₁ ec =
-            let d-is : d ≡ j.d = ap (λ (y : RunJob). y.d) (sym ej) in
-            let start = e₁ ∙ ap (λ (y : List Float). splice j.k.y y w₀) (sym (start_of g.n v f h.fielded d j.eta.inv) ∙ ap (λ (k : ℕ). combination-start g.n w k j.eta.inv) d-is) in
-            let run = ec ∙ ap (λ (x : List Float). after_run j.g.n j.need w₁ (run_of j (matrix-of j.g starts cols vals mass) x (window j.k.y (j.g.n + j.d) w₁))) (sym (behind v f h)) in
-            krylov-calls.combined-is mass ok gs sound tau count w o out w₀ job_of e start run
+        pub krylov_is : {c : Call KrylovAnswer} {w₁ : List Float} → j.checked ≡ Sound
+            → w₁ ≡ splice j.k.y (combination_start g.n v d j.eta.inv) w₀
+            → c ≡ after_run j.g.n j.need w₁ (run_of j (matrix_of j.g starts cols vals mass) f (window j.k.y (j.g.n + j.d) w₁))
+            → c ≡ phi_combination_krylov (after_checks gs (csr g.n starts cols vals) (given g.with_mass mass) g) tau count w o out w₀
+        krylov_is {w₁ = w₁} e e₁ ec =
+            let d_is : d ≡ j.d = ap (λ (y : RunJob). y.d) (sym ej) in
+            let start = e₁ ∙ ap (λ (y : List Float). splice j.k.y y w₀) (sym (start_of g.n v f h.fielded d j.eta.inv) ∙ ap (λ (k : ℕ). combination_start g.n w k j.eta.inv) d_is) in
+            let run = ec ∙ ap (λ (x : List Float). after_run j.g.n j.need w₁ (run_of j (matrix_of j.g starts cols vals mass) x (window j.k.y (j.g.n + j.d) w₁))) (sym (behind v f h)) in
+            krylov_calls.combined_is mass ok gs sound tau count w o out w₀ job_of e start run
 
 -- ---- its checks before it
 module _ (n : ℕ) (s : Stage) {output field used : ℕ} (xs : List Float) (h : Fitting n s output field used (length xs)) where
-  pub stage-whole : Whole n s.count field (length (take (used + (s.count - 1) * n - used) (drop used xs))) output
-  stage-whole =
+  pub stage_whole : Whole n s.count field (length (take (used + (s.count - 1) * n - used) (drop used xs))) output
+  stage_whole =
       record {
         some = h.some;
         most = h.most;
         fielded = h.fielded;
-        rest = ap length (part-window used ((s.count - 1) * n) xs) ∙ length-window used ((s.count - 1) * n) xs h.within;
+        rest = ap length (part_window used ((s.count - 1) * n) xs) ∙ length_window used ((s.count - 1) * n) xs h.within;
         out = h.out;
       }
 
@@ -198,18 +198,18 @@ module _
     (used : ℕ)
     (xs v out w₀ : List Float)
     {r : Checked}
-    (told : r ≡ first (stage-checks n s last (length out) (length v) used (length xs))) where
-  told-by : r ≡ first (stage-checks g.matrix.n s last (length out) (length v) used (length xs))
-  told-by = told ∙ ap (λ (k : ℕ). first (stage-checks k s last (length out) (length v) used (length xs))) (sym rows)
+    (told : r ≡ first (stage_checks n s last (length out) (length v) used (length xs))) where
+  told_by : r ≡ first (stage_checks g.matrix.n s last (length out) (length v) used (length xs))
+  told_by = told ∙ ap (λ (k : ℕ). first (stage_checks k s last (length out) (length v) used (length xs))) (sym rows)
 
-  pub stage-refused : {k : ℕ} {x : Float} → r ≡ Refused k x → ends (phi.Refusal k x) out w₀ ≡ stage-end g s last used xs v out w₀
-  unfolding stage-end
-  stage-refused e = refused-by phi.Refusal _ out w₀ _ e told-by
+  pub stage_refused : {k : ℕ} {x : Float} → r ≡ Refused k x → ends (phi.Refusal k x) out w₀ ≡ stage_end g s last used xs v out w₀
+  unfolding stage_end
+  stage_refused e = refused_by phi.Refusal _ out w₀ _ e told_by
 
   pub stage_is : {c : Call PhiAnswer} → r ≡ Sound
       → c ≡ combine s.solver g s.tau s.count (v ++ take (used + (s.count - 1) * n - used) (drop used xs)) out w₀
-      → c ≡ stage-end g s last used xs v out w₀
-  unfolding stage-end
+      → c ≡ stage_end g s last used xs v out w₀
+  unfolding stage_end
   stage_is e ec =
-      let f = part-window used ((s.count - 1) * n) xs ∙ ap (λ (k : ℕ). window used ((s.count - 1) * k) xs) (sym rows) in
-      runs phi.Refusal _ out w₀ _ e told-by (ec ∙ ap (λ (y : List Float). combine s.solver g s.tau s.count (v ++ y) out w₀) f)
+      let f = part_window used ((s.count - 1) * n) xs ∙ ap (λ (k : ℕ). window used ((s.count - 1) * k) xs) (sym rows) in
+      runs phi.Refusal _ out w₀ _ e told_by (ec ∙ ap (λ (y : List Float). combine s.solver g s.tau s.count (v ++ y) out w₀) f)

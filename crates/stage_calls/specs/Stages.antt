@@ -6,33 +6,33 @@ use Rattle.checks.specs.First.{first}
 use Rattle.checks.specs.declared.Checked.{Checked}
 use Rattle.checks.specs.declared.Checked.TheVariants.{Sound, Refused}
 use Rattle.generator_action.specs.Generator.{Generator}
-use Rattle.combination.specs.Call.{Call, ends, unless-refused}
-use Rattle.taylor_job.specs.Calls.{open-Calls}
-use Rattle.krylov_job.specs.KrylovCall.{open-KrylovCall}
-use Rattle.phi_solver.specs.Combine.{of-taylor, of-krylov, answering, combine}
+use Rattle.combination.specs.Call.{Call, ends, unless_refused}
+use Rattle.taylor_job.specs.Calls.{open_calls}
+use Rattle.krylov_job.specs.KrylovCall.{open_krylov_call}
+use Rattle.phi_solver.specs.Combine.{of_taylor, of_krylov, answering, combine}
 use Rattle.phi_solver.specs.declared.PhiAnswer.{PhiAnswer}
 use Rattle.schedule_checks.specs.declared.Stage.{Stage}
 use Rattle.schedule_checks.specs.declared.StagedAnswer.{StagedAnswer}
 use Rattle.schedule_checks.specs.declared.StagedAnswer.TheVariants.{Refusal, Staged}
-use Rattle.schedule_checks.specs.Schedule.{Schedule, stage, stages-of, schedule-checks, Progress, further-need, stage-checks, counted, settle}
+use Rattle.schedule_checks.specs.Schedule.{Schedule, stage, stages_of, schedule_checks, Progress, further_need, stage_checks, counted, settle}
 
-unfoldable pub unless-stage-refused : Checked → ℕ → Progress → Turn Progress (Call StagedAnswer) → Turn Progress (Call StagedAnswer)
-unless-stage-refused (Refused k x) i p t = out (ends (Refusal k x (i + 1)) p.output p.memory)
-unless-stage-refused Sound i p t = t
+unfoldable pub unless_stage_refused : Checked → ℕ → Progress → Turn Progress (Call StagedAnswer) → Turn Progress (Call StagedAnswer)
+unless_stage_refused (Refused k x) i p t = out (ends (Refusal k x (i + 1)) p.output p.memory)
+unless_stage_refused Sound i p t = t
 
 -- the single call of a stage: w_0 is the field, and the further vectors are the next ones of the slice
-abbrev pub stage-call : Generator → Stage → List Float → Progress → Call PhiAnswer
-stage-call g s further p =
-    combine s.solver g s.tau s.count (p.field ++ window p.used (further-need g.matrix.n s) further) p.output p.memory
+abbrev pub stage_call : Generator → Stage → List Float → Progress → Call PhiAnswer
+stage_call g s further p =
+    combine s.solver g s.tau s.count (p.field ++ window p.used (further_need g.matrix.n s) further) p.output p.memory
 
 -- stage i + 1 of the schedule, checked when it is reached
-unfoldable pub stage-step : Generator → Schedule → List Float → ℕ → Progress → Turn Progress (Call StagedAnswer)
-stage-step g schedule further i p =
+unfoldable pub stage_step : Generator → Schedule → List Float → ℕ → Progress → Turn Progress (Call StagedAnswer)
+stage_step g schedule further i p =
     let n = g.matrix.n in
     let s = stage schedule i in
-    let c = stage-call g s further p in
-    unless-stage-refused (first (stage-checks n s (eqb (i + 1) (stages-of schedule)) (length p.output) (length p.field) p.used (length further))) i p
-    (settle i (p.used + further-need n s) p.report c c.answer)
+    let c = stage_call g s further p in
+    unless_stage_refused (first (stage_checks n s (eqb (i + 1) (stages_of schedule)) (length p.output) (length p.field) p.used (length further))) i p
+    (settle i (p.used + further_need n s) p.report c c.answer)
 
 -- ---- the whole
 unfoldable pub concluded : Turn Progress (Call StagedAnswer) → Call StagedAnswer
@@ -44,15 +44,15 @@ abbrev pub begun : List Float → List Float → List Float → Progress
 begun start output memory = record { field = start; output = output; memory = memory; used = 0; report = record { applications = 0; substeps = 0; rejected = 0 } }
 
 -- refused before any stage: 1 to 11, then 37
-abbrev pub before-stages : ℕ → Float → StagedAnswer
-before-stages k x = Refusal k x 0
+abbrev pub before_stages : ℕ → Float → StagedAnswer
+before_stages k x = Refusal k x 0
 
 unfoldable pub staged : Generator → Schedule → List Float → List Float → List Float → List Float → Call StagedAnswer
 staged g schedule start further output memory =
-    unless-refused before-stages (first (g.checks ++ schedule-checks schedule)) output memory
-    (concluded (walk (stage-step g schedule further) (stages-of schedule) 0 (on (begun start output memory))))
+    unless_refused before_stages (first (g.checks ++ schedule_checks schedule)) output memory
+    (concluded (walk (stage_step g schedule further) (stages_of schedule) 0 (on (begun start output memory))))
 
--- to compute: a line `unfolding open-Stages` opens every definition of this file and of those below it
-unfoldable pub open-Stages : Unit {0}
-unfolding stage schedule-checks stage-checks counted settle unless-stage-refused stage-step concluded staged walk window answering of-taylor of-krylov combine open-Calls open-KrylovCall
-open-Stages = tt
+-- to compute: a line `unfolding open_stages` opens every definition of this file and of those below it
+unfoldable pub open_stages : Unit {0}
+unfolding stage schedule_checks stage_checks counted settle unless_stage_refused stage_step concluded staged walk window answering of_taylor of_krylov combine open_calls open_krylov_call
+open_stages = tt

@@ -5,15 +5,15 @@ ghost use Rattle.checks.specs.declared.Checked.TheVariants.{Sound};
 ghost use Rattle.general_operator.specs.Csr.{csr};
 ghost use Rattle.generator_action.specs.Mass.{given};
 ghost use Rattle.generator_action.specs.Known.{Passed};
-ghost use Rattle.combination.specs.Checks.{time-checks, plan-checks};
+ghost use Rattle.combination.specs.Checks.{time_checks, plan_checks};
 ghost use Rattle.combination.specs.Call.{ends};
-ghost use Rattle.taylor_schedule.specs.Inner.{after-checks};
-ghost use Rattle.taylor_job.specs.Calls.{phi-combination};
-ghost use Rattle.krylov_job.specs.KrylovCall.{phi-combination-krylov};
+ghost use Rattle.taylor_schedule.specs.Inner.{after_checks};
+ghost use Rattle.taylor_job.specs.Calls.{phi_combination};
+ghost use Rattle.krylov_job.specs.KrylovCall.{phi_combination_krylov};
 ghost use Rattle.phi_solver.specs.Combine.{combine};
-ghost use Rattle.schedule_checks.specs.Schedule.{time-checks-of};
+ghost use Rattle.schedule_checks.specs.Schedule.{time_checks_of};
 ghost use Rattle.schedule_checks.specs.Inner.{field_of};
-ghost use Rattle.stage_calls.specs.Inner.{Whole, stage-end};
+ghost use Rattle.stage_calls.specs.Inner.{Whole, stage_end};
 
 use checks::Checked;
 use generator_action::Shape;
@@ -39,8 +39,8 @@ fn taylor_stage(
     work: &mut [f64],
 ) -> TaylorAnswer
     requires passed { Passed (csr g.n starts.now cols.now vals.now) (given g.with_mass mass.now) g }
-    requires whole { Whole g.n count (length (field_of initial start.now out.old)) (length vectors.now) (length out.old) × (Sound ≡ first (plan-checks tau cap)) }
-    ensures { (gs : List Check) → Sound ≡ first gs → ends result out.new work.new ≡ phi-combination (after-checks gs (csr g.n starts.now cols.now vals.now) (given g.with_mass mass.now) g) tau cap count (field_of initial start.now out.old ++ vectors.now) out.old work.old }
+    requires whole { Whole g.n count (length (field_of initial start.now out.old)) (length vectors.now) (length out.old) × (Sound ≡ first (plan_checks tau cap)) }
+    ensures { (gs : List Check) → Sound ≡ first gs → ends result out.new work.new ≡ phi_combination (after_checks gs (csr g.n starts.now cols.now vals.now) (given g.with_mass mass.now) g) tau cap count (field_of initial start.now out.old ++ vectors.now) out.old work.old }
 {
     let finite = stage_checks::check_field(initial, start, out, vectors);
     let Checked::Sound = finite else {
@@ -73,8 +73,8 @@ fn krylov_stage(
     work: &mut [f64],
 ) -> KrylovAnswer
     requires passed { Passed (csr g.n starts.now cols.now vals.now) (given g.with_mass mass.now) g }
-    requires whole { Whole g.n count (length (field_of initial start.now out.old)) (length vectors.now) (length out.old) × (Sound ≡ first (time-checks tau)) }
-    ensures { (gs : List Check) → Sound ≡ first gs → ends result out.new work.new ≡ phi-combination-krylov (after-checks gs (csr g.n starts.now cols.now vals.now) (given g.with_mass mass.now) g) tau count (field_of initial start.now out.old ++ vectors.now) o out.old work.old }
+    requires whole { Whole g.n count (length (field_of initial start.now out.old)) (length vectors.now) (length out.old) × (Sound ≡ first (time_checks tau)) }
+    ensures { (gs : List Check) → Sound ≡ first gs → ends result out.new work.new ≡ phi_combination_krylov (after_checks gs (csr g.n starts.now cols.now vals.now) (given g.with_mass mass.now) g) tau count (field_of initial start.now out.old ++ vectors.now) o out.old work.old }
 {
     let d = count - 1;
     let m = krylov_job::clamp_m(o.m, g.n + d);
@@ -107,8 +107,8 @@ fn stage_call(
     work: &mut [f64],
 ) -> PhiAnswer
     requires passed { Passed (csr g.n starts.now cols.now vals.now) (given g.with_mass mass.now) g }
-    requires whole { Whole g.n s.count (length (field_of initial start.now out.old)) (length vectors.now) (length out.old) × (Sound ≡ first (time-checks-of s.solver s.tau)) }
-    ensures { (gs : List Check) → Sound ≡ first gs → ends result out.new work.new ≡ combine s.solver (after-checks gs (csr g.n starts.now cols.now vals.now) (given g.with_mass mass.now) g) s.tau s.count (field_of initial start.now out.old ++ vectors.now) out.old work.old }
+    requires whole { Whole g.n s.count (length (field_of initial start.now out.old)) (length vectors.now) (length out.old) × (Sound ≡ first (time_checks_of s.solver s.tau)) }
+    ensures { (gs : List Check) → Sound ≡ first gs → ends result out.new work.new ≡ combine s.solver (after_checks gs (csr g.n starts.now cols.now vals.now) (given g.with_mass mass.now) g) s.tau s.count (field_of initial start.now out.old ++ vectors.now) out.old work.old }
 {
     let tau = s.tau;
     let count = s.count;
@@ -141,7 +141,7 @@ pub fn run_stage(
 ) -> PhiAnswer
     requires passed { Passed (csr g.n starts.now cols.now vals.now) (given g.with_mass mass.now) g }
     requires used_bound { used ≤ 192000000 }
-    ensures { (gs : List Check) → Sound ≡ first gs → ends result out.new work.new ≡ stage-end (after-checks gs (csr g.n starts.now cols.now vals.now) (given g.with_mass mass.now) g) s last used further.now (field_of initial start.now out.old) out.old work.old }
+    ensures { (gs : List Check) → Sound ≡ first gs → ends result out.new work.new ≡ stage_end (after_checks gs (csr g.n starts.now cols.now vals.now) (given g.with_mass mass.now) g) s last used further.now (field_of initial start.now out.old) out.old work.old }
 {
     let n = g.n;
     let field = stage_turns::field_length(initial, start.len(), out.len());

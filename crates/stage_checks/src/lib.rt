@@ -1,9 +1,9 @@
 // One stage of a schedule, and its checks.
 ghost use Rattle.std.specs.Prelude.{◌≡◌, ◌&&◌, ◌++◌, ◌+◌, ◌-◌, ◌*◌, ◌≤◌, ◌<◌, eqb, length};
 ghost use Rattle.checks.specs.First.{first};
-ghost use Rattle.combination.specs.Checks.{finite-checks};
-ghost use Rattle.schedule_checks.specs.Schedule.{solver-of, stage, wrong-slice, time-checks-of, stage-checks};
-ghost use Rattle.schedule_checks.specs.Inner.{schedule-of, field_of};
+ghost use Rattle.combination.specs.Checks.{finite_checks};
+ghost use Rattle.schedule_checks.specs.Schedule.{solver_of, stage, wrong_slice, time_checks_of, stage_checks};
+ghost use Rattle.schedule_checks.specs.Inner.{schedule_of, field_of};
 
 use checks::Checked;
 use krylov_job::KrylovPhiOptions;
@@ -12,7 +12,7 @@ use schedule_checks::Stage;
 
 // Taylor is 0, with a highest degree; any other number is Krylov, with tol, m and max_substeps.
 fn solver_of(solver: u32, degree: u32, tol: f64, m: usize, limit: usize) -> PhiSolver
-    ensures { result ≡ solver-of (eqb solver 0) degree tol m limit }
+    ensures { result ≡ solver_of (eqb solver 0) degree tol m limit }
 {
     if solver == 0 {
         return PhiSolver::Taylor(degree);
@@ -36,7 +36,7 @@ pub fn stage_at(
     limits: &[usize],
 ) -> Stage
     requires { (i < length taus.now) × (i < length counts.now) × (i < length solvers.now) × (i < length degrees.now) × (i < length tols.now) × (i < length ms.now) × (i < length limits.now) }
-    ensures { result ≡ stage (schedule-of taus.now counts.now solvers.now degrees.now tols.now ms.now limits.now) i }
+    ensures { result ≡ stage (schedule_of taus.now counts.now solvers.now degrees.now tols.now ms.now limits.now) i }
 {
     let solver = solver_of(solvers[i], degrees[i], tols[i], ms[i], limits[i]);
     Stage {
@@ -48,7 +48,7 @@ pub fn stage_at(
 
 // 14, and of Taylor 33 behind it.
 fn check_time_of(solver: PhiSolver, tau: f64) -> Checked
-    ensures { result ≡ first (time-checks-of solver tau) }
+    ensures { result ≡ first (time_checks_of solver tau) }
 {
     match solver {
         PhiSolver::Taylor(degree) => combination::check_plan(tau, degree),
@@ -59,7 +59,7 @@ fn check_time_of(solver: PhiSolver, tau: f64) -> Checked
 // The slice is too short for this stage, or too long at the last.
 fn wrong_slice(need: usize, last: bool, used: usize, further: usize) -> bool
     requires { (need ≤ 3000000) × (used ≤ 192000000) }
-    ensures { result ≡ wrong-slice need last used further }
+    ensures { result ≡ wrong_slice need last used further }
 {
     let to = used + need;
     if further < to {
@@ -79,7 +79,7 @@ pub fn check_stage(
     further: usize,
 ) -> Checked
     requires { (n ≤ 1000000) × (used ≤ 192000000) }
-    ensures { result ≡ first (stage-checks n s last output field used further) }
+    ensures { result ≡ first (stage_checks n s last output field used further) }
 {
     let vectors = combination::check_count(s.count);
     let Checked::Sound = vectors else {
@@ -103,7 +103,7 @@ pub fn check_stage(
 
 // 17 of w_0, which is the start field or the output's, and of the further vectors behind it.
 pub fn check_field(initial: bool, start: &[f64], out: &[f64], vectors: &[f64]) -> Checked
-    ensures { result ≡ first (finite-checks (field_of initial start.now out.now ++ vectors.now)) }
+    ensures { result ≡ first (finite_checks (field_of initial start.now out.now ++ vectors.now)) }
 {
     let behind = vector_checks::check_finite(vectors);
     if initial {

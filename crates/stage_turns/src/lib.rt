@@ -2,10 +2,10 @@
 ghost use Rattle.std.specs.Prelude.{◌≡◌, List, ◌+◌, ◌-◌, ◌*◌, ◌≤◌, length, Float};
 ghost use Rattle.lists.specs.Window.{splice};
 ghost use Rattle.checks.specs.First.{first};
-ghost use Rattle.combination.specs.Combination.{combination-start};
+ghost use Rattle.combination.specs.Combination.{combination_start};
 ghost use Rattle.combination.specs.Call.{ends};
 ghost use Rattle.schedule_checks.specs.Schedule.{stage, settle};
-ghost use Rattle.schedule_checks.specs.Inner.{field_of, turn_at, Few, Counted, Moderate, counted-by};
+ghost use Rattle.schedule_checks.specs.Inner.{field_of, turn_at, Few, Counted, Moderate, counted_by};
 
 use phi_solver::PhiAnswer;
 use schedule_checks::{SoFar, StageTurn, StagedReport};
@@ -22,7 +22,7 @@ pub fn start_field(
     at: usize,
 )
     requires { (length (field_of initial start.now out.now) ≡ n) × (at + (n + d) ≤ length work.old) }
-    ensures { work.new ≡ splice at (combination-start n (field_of initial start.now out.now) d inv) work.old }
+    ensures { work.new ≡ splice at (combination_start n (field_of initial start.now out.now) d inv) work.old }
 {
     if initial {
         krylov_run::start_in(n, start, d, inv, work, at);
@@ -44,7 +44,7 @@ pub fn field_length(initial: bool, start: usize, output: usize) -> usize
 // The counts so far and those of one call, with what its vectors use of the slice.
 fn counted(p: SoFar, need: usize, applications: u64, substeps: u64, rejected: u64) -> SoFar
     requires { Counted 63 p × (need ≤ 3000000) × (applications ≤ 128849018850) × (substeps ≤ 1000000) × (rejected ≤ 10000000) }
-    ensures { result ≡ counted-by p need applications substeps rejected }
+    ensures { result ≡ counted_by p need applications substeps rejected }
 {
     let r = p.report;
     let report = StagedReport {

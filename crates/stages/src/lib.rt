@@ -4,13 +4,13 @@ ghost use Rattle.lists.specs.Walk.{walk, on};
 ghost use Rattle.checks.specs.First.{first};
 ghost use Rattle.checks.specs.declared.Checked.TheVariants.{Sound};
 ghost use Rattle.general_operator.specs.Csr.{csr};
-ghost use Rattle.generator_action.specs.Mass.{given, quotient-need, generator-checks};
+ghost use Rattle.generator_action.specs.Mass.{given, quotient_need, generator_checks};
 ghost use Rattle.generator_action.specs.Generator.{forward};
 ghost use Rattle.generator_action.specs.Known.{Passed};
 ghost use Rattle.combination.specs.Call.{ends};
-ghost use Rattle.schedule_checks.specs.Schedule.{schedule-checks};
-ghost use Rattle.stage_calls.specs.Stages.{stage-step, begun, concluded, staged};
-ghost use Rattle.schedule_checks.specs.Inner.{schedule-of, turn_at};
+ghost use Rattle.schedule_checks.specs.Schedule.{schedule_checks};
+ghost use Rattle.stage_calls.specs.Stages.{stage_step, begun, concluded, staged};
+ghost use Rattle.schedule_checks.specs.Inner.{schedule_of, turn_at};
 
 use checks::Checked;
 use generator_action::{MatrixAnswer, Shape};
@@ -36,9 +36,9 @@ fn run_stages(
     work: &mut [f64],
 ) -> StageTurn
     requires passed { Passed (csr g.n starts.now cols.now vals.now) (given g.with_mass mass.now) g }
-    requires value { (Sound ≡ first (generator-checks (csr g.n starts.now cols.now vals.now) (given g.with_mass mass.now))) × (g.stored ≡ quotient-need (csr g.n starts.now cols.now vals.now) (given g.with_mass mass.now)) }
-    requires value_2 { Sound ≡ first (schedule-checks (schedule-of taus.now counts.now solvers.now degrees.now tols.now ms.now limits.now)) }
-    ensures { turn_at result out.new out.new work.new ≡ walk (stage-step (forward (csr g.n starts.now cols.now vals.now) (given g.with_mass mass.now)) (schedule-of taus.now counts.now solvers.now degrees.now tols.now ms.now limits.now) further.now) (length taus.now) 0 (on (begun start.now out.old work.old)) }
+    requires value { (Sound ≡ first (generator_checks (csr g.n starts.now cols.now vals.now) (given g.with_mass mass.now))) × (g.stored ≡ quotient_need (csr g.n starts.now cols.now vals.now) (given g.with_mass mass.now)) }
+    requires value_2 { Sound ≡ first (schedule_checks (schedule_of taus.now counts.now solvers.now degrees.now tols.now ms.now limits.now)) }
+    ensures { turn_at result out.new out.new work.new ≡ walk (stage_step (forward (csr g.n starts.now cols.now vals.now) (given g.with_mass mass.now)) (schedule_of taus.now counts.now solvers.now degrees.now tols.now ms.now limits.now) further.now) (length taus.now) 0 (on (begun start.now out.old work.old)) }
 {
     let k = taus.len();
     let none = StagedReport {
@@ -107,7 +107,7 @@ pub fn stages(
     out: &mut [f64],
     work: &mut [f64],
 ) -> StagedAnswer
-    ensures { ends result out.new work.new ≡ staged (forward (csr n starts.now cols.now vals.now) (given with_mass mass.now)) (schedule-of taus.now counts.now solvers.now degrees.now tols.now ms.now limits.now) start.now further.now out.old work.old }
+    ensures { ends result out.new work.new ≡ staged (forward (csr n starts.now cols.now vals.now) (given with_mass mass.now)) (schedule_of taus.now counts.now solvers.now degrees.now tols.now ms.now limits.now) start.now further.now out.old work.old }
 {
     let matrix = generator_checks::check_generator(n, starts, cols, vals, with_mass, mass);
     let MatrixAnswer::Norm(norm, _) = matrix else {

@@ -7,54 +7,54 @@ use lib.Ieee.{Float}
 use Rattle.checks.specs.First.{Check, first}
 use Rattle.checks.specs.declared.Checked.{Checked}
 use Rattle.checks.specs.declared.Checked.TheVariants.{Sound, Refused}
-use Rattle.checks.proofs.First.{sound-append}
+use Rattle.checks.proofs.First.{sound_append}
 use Rattle.generator_action.specs.Generator.{Generator}
-use Rattle.combination.specs.Call.{Call, unless-refused}
-use Rattle.combination.specs.Checks.{count-checks, plan-checks, time-checks, vector-checks, vector-checks-by}
-use Rattle.taylor_schedule.proofs.Admitted.{Vectors, vectors-known}
-use Rattle.taylor_job.specs.Calls.{combination-checks, phi-combination}
+use Rattle.combination.specs.Call.{Call, unless_refused}
+use Rattle.combination.specs.Checks.{count_checks, plan_checks, time_checks, vector_checks, vector_checks_by}
+use Rattle.taylor_schedule.proofs.Admitted.{Vectors, vectors_known}
+use Rattle.taylor_job.specs.Calls.{combination_checks, phi_combination}
 use Rattle.taylor_job.specs.declared.TaylorAnswer.{TaylorAnswer}
 use Rattle.taylor_job.specs.declared.TaylorAnswer.TheVariants as taylor
-use Rattle.krylov_job.specs.KrylovCall.{krylov-checks, krylov-checks-by, phi-combination-krylov}
-use Rattle.phi_solver.specs.Combine.{of-taylor, of-krylov, answering, combine}
+use Rattle.krylov_job.specs.KrylovCall.{krylov_checks, krylov_checks_by, phi_combination_krylov}
+use Rattle.phi_solver.specs.Combine.{of_taylor, of_krylov, answering, combine}
 use Rattle.krylov_job.specs.declared.KrylovAnswer.{KrylovAnswer}
 use Rattle.krylov_job.specs.declared.KrylovAnswer.TheVariants as krylov
 use Rattle.phi_solver.specs.declared.PhiSolver.{PhiSolver}
 use Rattle.phi_solver.specs.declared.PhiSolver.TheVariants as solver
-use Rattle.schedule_checks.specs.Schedule.{time-checks-of}
+use Rattle.schedule_checks.specs.Schedule.{time_checks_of}
 use Rattle.stages_claims.specs.Ran.{Gave}
 
-taylor-passed : (x : Checked) (output memory : List Float) (end : Call TaylorAnswer) → Gave (of-taylor (unless-refused taylor.Refusal x output memory end).answer) → x ≡ Sound
-unfolding unless-refused of-taylor
-taylor-passed Sound output memory end h = refl
-taylor-passed (Refused k x) output memory end h = absurd h
+taylor_passed : (x : Checked) (output memory : List Float) (end : Call TaylorAnswer) → Gave (of_taylor (unless_refused taylor.Refusal x output memory end).answer) → x ≡ Sound
+unfolding unless_refused of_taylor
+taylor_passed Sound output memory end h = refl
+taylor_passed (Refused k x) output memory end h = absurd h
 
-krylov-passed : (x : Checked) (output memory : List Float) (end : Call KrylovAnswer) → Gave (of-krylov (unless-refused krylov.Refusal x output memory end).answer) → x ≡ Sound
-unfolding unless-refused of-krylov
-krylov-passed Sound output memory end h = refl
-krylov-passed (Refused k x) output memory end h = absurd h
+krylov_passed : (x : Checked) (output memory : List Float) (end : Call KrylovAnswer) → Gave (of_krylov (unless_refused krylov.Refusal x output memory end).answer) → x ≡ Sound
+unfolding unless_refused of_krylov
+krylov_passed Sound output memory end h = refl
+krylov_passed (Refused k x) output memory end h = absurd h
 
 -- 1 to 11, 12 to 16
 pub record Taken (s : PhiSolver) (g : Generator) (tau : Float) (count long output : ℕ) : Type 0 where
   pub generator : Sound ≡ first g.checks
-  pub timed : Sound ≡ first (time-checks-of s tau)
+  pub timed : Sound ≡ first (time_checks_of s tau)
   pub vectors : Vectors g.matrix.n count long output
 
 module _ (g : Generator) (tau : Float) (count : ℕ) (w output memory : List Float) where
   abbrev n : ℕ
   n = g.matrix.n
 
-  taken-by : (ts : List Check) → Sound ≡ first (vector-checks n ts count w (length output)) → (Sound ≡ first ts) × Vectors n count (length w) (length output)
-  unfolding vector-checks vector-checks-by
-  taken-by ts e = ((sound-append ts _ (sound-append (count-checks count) _ e).1).0, vectors-known n ts count w (length output) refl e)
+  taken_by : (ts : List Check) → Sound ≡ first (vector_checks n ts count w (length output)) → (Sound ≡ first ts) × Vectors n count (length w) (length output)
+  unfolding vector_checks vector_checks_by
+  taken_by ts e = ((sound_append ts _ (sound_append (count_checks count) _ e).1).0, vectors_known n ts count w (length output) refl e)
 
   pub taken : (s : PhiSolver) → Gave (combine s g tau count w output memory).answer → Taken s g tau count (length w) (length output)
-  unfolding combine answering phi-combination combination-checks phi-combination-krylov krylov-checks krylov-checks-by vector-checks
+  unfolding combine answering phi_combination combination_checks phi_combination_krylov krylov_checks krylov_checks_by vector_checks
   taken (solver.Taylor cap) h =
-      let c = sound-append g.checks _ (sym (taylor-passed _ output memory _ h)) in
-      let v = taken-by (plan-checks tau cap) (sound-append (vector-checks n (plan-checks tau cap) count w (length output)) _ c.1).0 in
+      let c = sound_append g.checks _ (sym (taylor_passed _ output memory _ h)) in
+      let v = taken_by (plan_checks tau cap) (sound_append (vector_checks n (plan_checks tau cap) count w (length output)) _ c.1).0 in
       record { generator = c.0; timed = v.0; vectors = v.1 }
   taken (solver.Krylov o) h =
-      let c = sound-append g.checks _ (sym (krylov-passed _ output memory _ h)) in
-      let v = taken-by (time-checks tau) (sound-append (vector-checks n (time-checks tau) count w (length output)) _ c.1).0 in
+      let c = sound_append g.checks _ (sym (krylov_passed _ output memory _ h)) in
+      let v = taken_by (time_checks tau) (sound_append (vector_checks n (time_checks tau) count w (length output)) _ c.1).0 in
       record { generator = c.0; timed = v.0; vectors = v.1 }

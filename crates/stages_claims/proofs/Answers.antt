@@ -11,43 +11,43 @@ use Rattle.lists.specs.Walk.{Turn, on, out}
 use Rattle.checks.specs.First.{first}
 use Rattle.checks.specs.declared.Checked.{Checked}
 use Rattle.checks.specs.declared.Checked.TheVariants.{Sound, Refused}
-use Rattle.checks.proofs.First.{sound-append, sound-on}
+use Rattle.checks.proofs.First.{sound_append, sound_on}
 use Rattle.generator_action.specs.Generator.{Generator}
-use Rattle.combination.specs.Call.{Call, ends, unless-refused}
+use Rattle.combination.specs.Call.{Call, ends, unless_refused}
 use Rattle.phi_solver.specs.declared.PhiAnswer.{PhiAnswer}
 use Rattle.phi_solver.specs.declared.PhiAnswer.TheVariants as phi
-use Rattle.schedule_checks.specs.Schedule.{Schedule, stage, stages-of, schedule-checks, stage-checks, Progress}
+use Rattle.schedule_checks.specs.Schedule.{Schedule, stage, stages_of, schedule_checks, stage_checks, Progress}
 use Rattle.schedule_checks.specs.declared.StagedReport.{StagedReport}
 use Rattle.schedule_checks.specs.declared.StagedAnswer.{StagedAnswer}
 use Rattle.schedule_checks.specs.declared.StagedAnswer.TheVariants.{Refusal, Staged}
-use Rattle.schedule_checks.proofs.Checks.{schedule-known}
-use Rattle.stage_calls.specs.Stages.{stage-step, concluded, begun, before-stages, staged}
+use Rattle.schedule_checks.proofs.Checks.{schedule_known}
+use Rattle.stage_calls.specs.Stages.{stage_step, concluded, begun, before_stages, staged}
 use Rattle.stages_claims.specs.Ran.{Ran}
 use Rattle.stages_claims.specs.Claims.{Complete, ByList, ByCall, RefusedAt}
-use Rattle.stages_claims.proofs.Walks.{next, walk-next, stays, EndedAt, ended_at}
+use Rattle.stages_claims.proofs.Walks.{next, walk_next, stays, EndedAt, ended_at}
 use Rattle.stages_claims.proofs.Accepted.{taken}
-use Rattle.stages_claims.proofs.Reached.{stands, Outcome, early, late, result, outcome, early-step, late-step, call-is, reached, standing, back}
+use Rattle.stages_claims.proofs.Reached.{stands, Outcome, early, late, result, outcome, early_step, late_step, call_is, reached, standing, back}
 
 -- ---- answers told apart
-report-of : StagedReport → StagedAnswer → StagedReport
-report-of d (Refusal k x i) = d
-report-of d (Staged r) = r
+report_of : StagedReport → StagedAnswer → StagedReport
+report_of d (Refusal k x i) = d
+report_of d (Staged r) = r
 
-staged-same : {r r' : StagedReport} {o o' m m' : List Float} → ends (Staged r) o m ≡ ends (Staged r') o' m' → (r ≡ r') × (o ≡ o') × (m ≡ m')
-unfolding report-of
-staged-same {r} e = (ap (λ (c : Call StagedAnswer). report-of r c.answer) e, ap (λ (c : Call StagedAnswer). c.output) e, ap (λ (c : Call StagedAnswer). c.memory) e)
+staged_same : {r r' : StagedReport} {o o' m m' : List Float} → ends (Staged r) o m ≡ ends (Staged r') o' m' → (r ≡ r') × (o ≡ o') × (m ≡ m')
+unfolding report_of
+staged_same {r} e = (ap (λ (c : Call StagedAnswer). report_of r c.answer) e, ap (λ (c : Call StagedAnswer). c.output) e, ap (λ (c : Call StagedAnswer). c.memory) e)
 
-staged-not : {k : ℕ} {x : Float} {i : ℕ} {r : StagedReport} {o o' m m' : List Float} → ends (Refusal k x i) o m ≡ ends (Staged r) o' m' → zero ≡ 1
-staged-not {k} {x} {i} {r} e = apart (ap (λ (c : Call StagedAnswer). c.answer) e)
+staged_not : {k : ℕ} {x : Float} {i : ℕ} {r : StagedReport} {o o' m m' : List Float} → ends (Refusal k x i) o m ≡ ends (Staged r) o' m' → zero ≡ 1
+staged_not {k} {x} {i} {r} e = apart (ap (λ (c : Call StagedAnswer). c.answer) e)
   where
     apart : {k : ℕ} {x : Float} {i : ℕ} {r : StagedReport} → Refusal k x i ≡ Staged r → zero ≡ 1
     apart e = cc
 
-staged-not-by : {k : ℕ} {x : Float} {i : ℕ} {r : StagedReport} → Staged r ≡ Refusal k x i → zero ≡ 1
-staged-not-by e = cc
+staged_not_by : {k : ℕ} {x : Float} {i : ℕ} {r : StagedReport} → Staged r ≡ Refusal k x i → zero ≡ 1
+staged_not_by e = cc
 
-refusal-same : {k k' : ℕ} {x x' : Float} {i i' : ℕ} {o o' m m' : List Float} → ends (Refusal k x i) o m ≡ ends (Refusal k' x' i') o' m' → (k ≡ k') × (x ≡ x') × (i ≡ i') × (o ≡ o') × (m ≡ m')
-refusal-same e =
+refusal_same : {k k' : ℕ} {x x' : Float} {i i' : ℕ} {o o' m m' : List Float} → ends (Refusal k x i) o m ≡ ends (Refusal k' x' i') o' m' → (k ≡ k') × (x ≡ x') × (i ≡ i') × (o ≡ o') × (m ≡ m')
+refusal_same e =
     let a = ap (λ (c : Call StagedAnswer). c.answer) e in
     (number a, double a, place a, ap (λ (c : Call StagedAnswer). c.output) e, ap (λ (c : Call StagedAnswer). c.memory) e)
   where
@@ -65,7 +65,7 @@ module _ (g : Generator) (s : Schedule) (start further output memory : List Floa
   n = g.matrix.n
 
   abbrev K : ℕ
-  K = stages-of s
+  K = stages_of s
 
   abbrev whole : Call StagedAnswer
   whole = staged g s start further output memory
@@ -74,13 +74,13 @@ module _ (g : Generator) (s : Schedule) (start further output memory : List Floa
   stand = stands g s start further output memory
 
   -- ---- where 1 to 11 and 37 pass the answer is that of the stages
-  answer-is : Sound ≡ first (g.checks ++ schedule-checks s) → whole ≡ concluded (stand K)
-  unfolding staged unless-refused
-  answer-is e = ap (λ (c : Checked). unless-refused before-stages c output memory (concluded (stand K))) (sym e)
+  answer_is : Sound ≡ first (g.checks ++ schedule_checks s) → whole ≡ concluded (stand K)
+  unfolding staged unless_refused
+  answer_is e = ap (λ (c : Checked). unless_refused before_stages c output memory (concluded (stand K))) (sym e)
 
   -- a stage that ends the soak refuses
-  ended-refused : (e : Call StagedAnswer) → EndedAt (stage-step g s further) (begun start output memory) K e → (k : ℕ) × ((x : Float) × ((i : ℕ) × (e.answer ≡ Refusal k x i)))
-  ended-refused e a = go (outcome g s start further output memory a.turn a.state)
+  ended_refused : (e : Call StagedAnswer) → EndedAt (stage_step g s further) (begun start output memory) K e → (k : ℕ) × ((x : Float) × ((i : ℕ) × (e.answer ≡ Refusal k x i)))
+  ended_refused e a = go (outcome g s start further output memory a.turn a.state)
     where
       same : {x y : Call StagedAnswer} → ◌≡◌ {A = Turn Progress (Call StagedAnswer)} (out x) (out y) → x ≡ y
       same e = cc
@@ -93,10 +93,10 @@ module _ (g : Generator) (s : Schedule) (start further output memory : List Floa
       go (late k x b c d) = (k, (x, (a.turn + 1, ap (λ (c : Call StagedAnswer). c.answer) (same (sym a.ended ∙ d)))))
       go (result b c d) = absurd (omega (arith, differ (sym d ∙ a.ended)))
 
-  field-output : (i : ℕ) (f o m : List Float) (xs : List PhiAnswer) → 1 ≤ i → Ran g s start further output memory i f o m xs → f ≡ o
+  field_output : (i : ℕ) (f o m : List Float) (xs : List PhiAnswer) → 1 ≤ i → Ran g s start further output memory i f o m xs → f ≡ o
   unfolding Ran
-  field-output zero f o m xs l r = absurd (omega (arith, l))
-  field-output (suc i) f o m xs l r = r.field_is ∙ sym r.output-is
+  field_output zero f o m xs l r = absurd (omega (arith, l))
+  field_output (suc i) f o m xs l r = r.field_is ∙ sym r.output_is
 
   moved : (i : ℕ) {f f' o o' m m' : List Float} (xs : List PhiAnswer) → f ≡ f' → o ≡ o' → m ≡ m' → Ran g s start further output memory i f o m xs → Ran g s start further output memory i f' o' m' xs
   moved i {f} {f'} {o} {o'} {m} {m'} xs ef eo em r =
@@ -105,58 +105,58 @@ module _ (g : Generator) (s : Schedule) (start further output memory : List Floa
       (subst (λ (x : List Float). Ran g s start further output memory i x o m xs) ef r))
 
   -- ---- a result
-  pub result-complete : (r : StagedReport) (o m : List Float) → whole ≡ ends (Staged r) o m → Complete g s start further output memory r o m
-  unfolding concluded staged unless-refused
-  result-complete r o m e = by-checks (first (g.checks ++ schedule-checks s)) refl
+  pub result_complete : (r : StagedReport) (o m : List Float) → whole ≡ ends (Staged r) o m → Complete g s start further output memory r o m
+  unfolding concluded staged unless_refused
+  result_complete r o m e = by_checks (first (g.checks ++ schedule_checks s)) refl
     where
-      refused : {k : ℕ} {x : Float} → first (g.checks ++ schedule-checks s) ≡ Refused k x → zero ≡ 1
-      refused h = staged-not (sym (refused-is h) ∙ e)
+      refused : {k : ℕ} {x : Float} → first (g.checks ++ schedule_checks s) ≡ Refused k x → zero ≡ 1
+      refused h = staged_not (sym (refused_is h) ∙ e)
         where
-          refused-is : {k : ℕ} {x : Float} → first (g.checks ++ schedule-checks s) ≡ Refused k x → whole ≡ ends (Refusal k x 0) output memory
-          refused-is h = ap (λ (c : Checked). unless-refused before-stages c output memory (concluded (stand K))) h
+          refused_is : {k : ℕ} {x : Float} → first (g.checks ++ schedule_checks s) ≡ Refused k x → whole ≡ ends (Refusal k x 0) output memory
+          refused_is h = ap (λ (c : Checked). unless_refused before_stages c output memory (concluded (stand K))) h
 
-      by-stand : Sound ≡ first (g.checks ++ schedule-checks s) → (t : Turn Progress (Call StagedAnswer)) → stand K ≡ t → ends (Staged r) o m ≡ concluded t → Complete g s start further output memory r o m
-      by-stand h (on p) d c =
-          let q = staged-same c in
+      by_stand : Sound ≡ first (g.checks ++ schedule_checks s) → (t : Turn Progress (Call StagedAnswer)) → stand K ≡ t → ends (Staged r) o m ≡ concluded t → Complete g s start further output memory r o m
+      by_stand h (on p) d c =
+          let q = staged_same c in
           let a = reached g s start further output memory K p d in
-          let scheduled = (sound-append g.checks _ h).1 in
-          let some = (schedule-known s refl scheduled).some in
-          let f-is = field-output K p.field p.output p.memory a.answers some a.ran in
+          let scheduled = (sound_append g.checks _ h).1 in
+          let some = (schedule_known s refl scheduled).some in
+          let f_is = field_output K p.field p.output p.memory a.answers some a.ran in
           record {
             scheduled = scheduled;
             answers = a.answers;
-            ran = moved K a.answers (f-is ∙ sym q.1) (sym q.1) (sym q.2) a.ran;
-            used-up = a.all some refl;
+            ran = moved K a.answers (f_is ∙ sym q.1) (sym q.1) (sym q.2) a.ran;
+            used_up = a.all some refl;
             counts = q.0 ∙ a.report;
           }
-      by-stand h (out x) d c =
-          let t = ended-refused x (ended_at (stage-step g s further) (begun start output memory) K x d) in
-          absurd (omega (arith, staged-not-by (ap (λ (c : Call StagedAnswer). c.answer) c ∙ t.1.1.1)))
+      by_stand h (out x) d c =
+          let t = ended_refused x (ended_at (stage_step g s further) (begun start output memory) K x d) in
+          absurd (omega (arith, staged_not_by (ap (λ (c : Call StagedAnswer). c.answer) c ∙ t.1.1.1)))
 
-      by-checks : (c : Checked) → first (g.checks ++ schedule-checks s) ≡ c → Complete g s start further output memory r o m
-      by-checks (Refused k x) h = absurd (omega (arith, refused h))
-      by-checks Sound h = by-stand (sym h) (stand K) refl (sym e ∙ answer-is (sym h))
+      by_checks : (c : Checked) → first (g.checks ++ schedule_checks s) ≡ c → Complete g s start further output memory r o m
+      by_checks (Refused k x) h = absurd (omega (arith, refused h))
+      by_checks Sound h = by_stand (sym h) (stand K) refl (sym e ∙ answer_is (sym h))
 
   -- the generator's checks pass where a stage has a result
-  generator-passed : (i : ℕ) (f o m : List Float) (xs : List PhiAnswer) → 1 ≤ i → Ran g s start further output memory i f o m xs → Sound ≡ first g.checks
+  generator_passed : (i : ℕ) (f o m : List Float) (xs : List PhiAnswer) → 1 ≤ i → Ran g s start further output memory i f o m xs → Sound ≡ first g.checks
   unfolding Ran
-  generator-passed zero f o m xs l r = absurd (omega (arith, l))
-  generator-passed (suc i) f o m xs l r = (taken g _ _ _ r.out r.lent _ r.gave).generator
+  generator_passed zero f o m xs l r = absurd (omega (arith, l))
+  generator_passed (suc i) f o m xs l r = (taken g _ _ _ r.out r.lent _ r.gave).generator
 
-  pub complete-result : (r : StagedReport) (o m : List Float) → Complete g s start further output memory r o m → whole ≡ ends (Staged r) o m
+  pub complete_result : (r : StagedReport) (o m : List Float) → Complete g s start further output memory r o m → whole ≡ ends (Staged r) o m
   unfolding concluded
-  complete-result r o m c =
-      let some = (schedule-known s refl c.scheduled).some in
-      let checks = sound-on g.checks _ refl (generator-passed K o o m c.answers some c.ran) c.scheduled in
-      answer-is checks
-      ∙ ap concluded (back g s start further output memory K o o m c.answers c.ran (omega arith) (λ e. c.used-up))
+  complete_result r o m c =
+      let some = (schedule_known s refl c.scheduled).some in
+      let checks = sound_on g.checks _ refl (generator_passed K o o m c.answers some c.ran) c.scheduled in
+      answer_is checks
+      ∙ ap concluded (back g s start further output memory K o o m c.answers c.ran (omega arith) (λ e. c.used_up))
       ∙ ap (λ (x : StagedReport). ends (Staged x) o m) (sym c.counts)
 
   -- ---- a refusal after 1 to 11 and 37
-  module _ (sound : Sound ≡ first (g.checks ++ schedule-checks s)) where
-    pub refused-at : (i k : ℕ) (x : Float) (o' m' : List Float) → whole ≡ ends (Refusal k x (i + 1)) o' m' → RefusedAt g s start further output memory i k x o' m'
+  module _ (sound : Sound ≡ first (g.checks ++ schedule_checks s)) where
+    pub refused_at : (i k : ℕ) (x : Float) (o' m' : List Float) → whole ≡ ends (Refusal k x (i + 1)) o' m' → RefusedAt g s start further output memory i k x o' m'
     unfolding concluded
-    refused-at i k x o' m' e = by-stand (stand K) refl
+    refused_at i k x o' m' e = by_stand (stand K) refl
       where
         same : {x y : Call StagedAnswer} → ◌≡◌ {A = Turn Progress (Call StagedAnswer)} (out x) (out y) → x ≡ y
         same e = cc
@@ -164,7 +164,7 @@ module _ (g : Generator) (s : Schedule) (start further output memory : List Floa
         differ : {x : Progress} {y : Call StagedAnswer} → ◌≡◌ {A = Turn Progress (Call StagedAnswer)} (on x) (out y) → zero ≡ 1
         differ e = cc
 
-        placed : (a : EndedAt (stage-step g s further) (begun start output memory) K (ends (Refusal k x (i + 1)) o' m')) → a.turn ≡ i → (p : Progress) (xs : List PhiAnswer)
+        placed : (a : EndedAt (stage_step g s further) (begun start output memory) K (ends (Refusal k x (i + 1)) o' m')) → a.turn ≡ i → (p : Progress) (xs : List PhiAnswer)
             → Ran g s start further output memory a.turn p.field p.output p.memory xs
             → (ByList g s start further output memory a.turn p.field p.output p.memory k x o' m' ⊎ ByCall g s start further output memory a.turn p.field p.output p.memory k x o' m')
             → RefusedAt g s start further output memory i k x o' m'
@@ -172,43 +172,43 @@ module _ (g : Generator) (s : Schedule) (start further output memory : List Floa
             subst (λ (j : ℕ). RefusedAt g s start further output memory j k x o' m') e
             (record { reached = a.below; field = p.field; out = p.output; lent = p.memory; answers = xs; ran = r; refused = f })
 
-        by-outcome : (a : EndedAt (stage-step g s further) (begun start output memory) K (ends (Refusal k x (i + 1)) o' m')) → Outcome g s start further output memory a.turn a.state → RefusedAt g s start further output memory i k x o' m'
-        by-outcome a (early k' x' b c) =
+        by_outcome : (a : EndedAt (stage_step g s further) (begun start output memory) K (ends (Refusal k x (i + 1)) o' m')) → Outcome g s start further output memory a.turn a.state → RefusedAt g s start further output memory i k x o' m'
+        by_outcome a (early k' x' b c) =
             let r = reached g s start further output memory a.turn a.state a.stood in
-            let q = refusal-same (same (sym c ∙ a.ended)) in
-            let list = ap (λ (u : ℕ). first (stage-checks n (stage s a.turn) (eqb (a.turn + 1) K) (length a.state.output) (length a.state.field) u (length further))) (sym r.used) ∙ b ∙ (λ j. Refused (q.0 j) (q.1 j)) in
+            let q = refusal_same (same (sym c ∙ a.ended)) in
+            let list = ap (λ (u : ℕ). first (stage_checks n (stage s a.turn) (eqb (a.turn + 1) K) (length a.state.output) (length a.state.field) u (length further))) (sym r.used) ∙ b ∙ (λ j. Refused (q.0 j) (q.1 j)) in
             placed a (omega (arith, q.2)) a.state r.answers r.ran (inl (list, sym q.3, sym q.4))
-        by-outcome a (late k' x' b c d) =
+        by_outcome a (late k' x' b c d) =
             let r = reached g s start further output memory a.turn a.state a.stood in
-            let q = refusal-same (same (sym d ∙ a.ended)) in
-            let call = call-is g s start further output memory a.turn a.state r.used in
-            let list = b ∙ ap (λ (u : ℕ). first (stage-checks n (stage s a.turn) (eqb (a.turn + 1) K) (length a.state.output) (length a.state.field) u (length further))) r.used in
+            let q = refusal_same (same (sym d ∙ a.ended)) in
+            let call = call_is g s start further output memory a.turn a.state r.used in
+            let list = b ∙ ap (λ (u : ℕ). first (stage_checks n (stage s a.turn) (eqb (a.turn + 1) K) (length a.state.output) (length a.state.field) u (length further))) r.used in
             let told = ap (λ (y : Call PhiAnswer). y.answer) (sym call) ∙ c ∙ (λ j. phi.Refusal (q.0 j) (q.1 j)) in
             placed a (omega (arith, q.2)) a.state r.answers r.ran (inr (list, told, sym q.3 ∙ ap (λ (y : Call PhiAnswer). y.output) call, sym q.4 ∙ ap (λ (y : Call PhiAnswer). y.memory) call))
-        by-outcome a (result b c d) = absurd (omega (arith, differ (sym d ∙ a.ended)))
+        by_outcome a (result b c d) = absurd (omega (arith, differ (sym d ∙ a.ended)))
 
-        by-stand : (t : Turn Progress (Call StagedAnswer)) → stand K ≡ t → RefusedAt g s start further output memory i k x o' m'
-        by-stand (on p) d = absurd (omega (arith, staged-not (sym (sym (answer-is sound ∙ ap concluded d) ∙ e))))
-        by-stand (out y) d =
-            let same : y ≡ ends (Refusal k x (i + 1)) o' m' = sym (answer-is sound ∙ ap concluded d) ∙ e in
-            let a = ended_at (stage-step g s further) (begun start output memory) K (ends (Refusal k x (i + 1)) o' m') (d ∙ ap out same) in
-            by-outcome a (outcome g s start further output memory a.turn a.state)
+        by_stand : (t : Turn Progress (Call StagedAnswer)) → stand K ≡ t → RefusedAt g s start further output memory i k x o' m'
+        by_stand (on p) d = absurd (omega (arith, staged_not (sym (sym (answer_is sound ∙ ap concluded d) ∙ e))))
+        by_stand (out y) d =
+            let same : y ≡ ends (Refusal k x (i + 1)) o' m' = sym (answer_is sound ∙ ap concluded d) ∙ e in
+            let a = ended_at (stage_step g s further) (begun start output memory) K (ends (Refusal k x (i + 1)) o' m') (d ∙ ap out same) in
+            by_outcome a (outcome g s start further output memory a.turn a.state)
 
-    pub at-refused : (i k : ℕ) (x : Float) (o' m' : List Float) → RefusedAt g s start further output memory i k x o' m' → whole ≡ ends (Refusal k x (i + 1)) o' m'
+    pub at_refused : (i k : ℕ) (x : Float) (o' m' : List Float) → RefusedAt g s start further output memory i k x o' m' → whole ≡ ends (Refusal k x (i + 1)) o' m'
     unfolding concluded
-    at-refused i k x o' m' r =
+    at_refused i k x o' m' r =
         let P = standing g s start further output memory i r.field r.out r.lent r.answers in
         let l = r.reached in
         let b = back g s start further output memory i r.field r.out r.lent r.answers r.ran (omega (arith, l)) (λ e. absurd (omega (arith, l, e))) in
-        let e = stays (stage-step g s further) (on (begun start output memory)) (suc i) (K - suc i) (walk-next (stage-step g s further) (on (begun start output memory)) i ∙ ap (next (stage-step g s further) i) b ∙ stepped r.refused) in
+        let e = stays (stage_step g s further) (on (begun start output memory)) (suc i) (K - suc i) (walk_next (stage_step g s further) (on (begun start output memory)) i ∙ ap (next (stage_step g s further) i) b ∙ stepped r.refused) in
         let n : suc i + (K - suc i) ≡ K = omega (arith, l) in
-        answer-is sound ∙ ap concluded (ap stand (sym n) ∙ e)
+        answer_is sound ∙ ap concluded (ap stand (sym n) ∙ e)
       where
         stepped : (ByList g s start further output memory i r.field r.out r.lent k x o' m' ⊎ ByCall g s start further output memory i r.field r.out r.lent k x o' m')
-            → stage-step g s further i (standing g s start further output memory i r.field r.out r.lent r.answers) ≡ out (ends (Refusal k x (i + 1)) o' m')
-        stepped (inl h) = early-step g s start further output memory i (standing g s start further output memory i r.field r.out r.lent r.answers) h.0 ∙ (λ j. out (ends (Refusal k x (i + 1)) (sym h.1 j) (sym h.2 j)))
+            → stage_step g s further i (standing g s start further output memory i r.field r.out r.lent r.answers) ≡ out (ends (Refusal k x (i + 1)) o' m')
+        stepped (inl h) = early_step g s start further output memory i (standing g s start further output memory i r.field r.out r.lent r.answers) h.0 ∙ (λ j. out (ends (Refusal k x (i + 1)) (sym h.1 j) (sym h.2 j)))
         stepped (inr h) =
-            let call = call-is g s start further output memory i (standing g s start further output memory i r.field r.out r.lent r.answers) refl in
-            late-step g s start further output memory i (standing g s start further output memory i r.field r.out r.lent r.answers) h.0 (ap (λ (y : Call PhiAnswer). y.answer) call ∙ h.1)
+            let call = call_is g s start further output memory i (standing g s start further output memory i r.field r.out r.lent r.answers) refl in
+            late_step g s start further output memory i (standing g s start further output memory i r.field r.out r.lent r.answers) h.0 (ap (λ (y : Call PhiAnswer). y.answer) call ∙ h.1)
             ∙ (λ j. out (ends (Refusal k x (i + 1)) (call j).output (call j).memory))
             ∙ (λ j. out (ends (Refusal k x (i + 1)) (sym h.2 j) (sym h.3 j)))

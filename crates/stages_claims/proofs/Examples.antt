@@ -13,39 +13,39 @@ use Rattle.checks.specs.First.{first}
 use Rattle.combination.specs.Call.{Call, ends}
 use Rattle.phi_solver.specs.declared.PhiAnswer.{PhiAnswer}
 use Rattle.phi_solver.specs.declared.PhiAnswer.TheVariants as phi
-use Rattle.schedule_checks.specs.Inner.{schedule-of}
-use Rattle.schedule_checks.specs.Schedule.{Schedule, schedule-checks}
+use Rattle.schedule_checks.specs.Inner.{schedule_of}
+use Rattle.schedule_checks.specs.Schedule.{Schedule, schedule_checks}
 use Rattle.schedule_checks.specs.declared.StagedAnswer.TheVariants.{Refusal, Staged}
-use Rattle.stage_calls.specs.Stages.{staged, open-Stages}
-use Rattle.stages_claims.specs.Ran.{vectors-before, Gave, total, call_at, Ran}
-use Rattle.stages_claims.proofs.Answers.{complete-result}
+use Rattle.stage_calls.specs.Stages.{staged, open_stages}
+use Rattle.stages_claims.specs.Ran.{vectors_before, Gave, total, call_at, Ran}
+use Rattle.stages_claims.proofs.Answers.{complete_result}
 
 abbrev empty : Csr
 empty = csr 1 (0 ∷ 0 ∷ []) [] []
 
 -- three Taylor stages of two vectors each
 abbrev three : Schedule
-three = schedule-of (replicate 3 1f) (replicate 3 2) (replicate 3 0) (replicate 3 30) (replicate 3 nan) (replicate 3 0) (replicate 3 0)
+three = schedule_of (replicate 3 1f) (replicate 3 2) (replicate 3 0) (replicate 3 30) (replicate 3 nan) (replicate 3 0) (replicate 3 0)
 
 -- a slice of one value is too short for stage 2: the field of stage 1, and its 3 + 2 doubles cleared; the sixth stays
 too_short : staged (forward empty none) three (1f ∷ []) (nat 2 ∷ []) (nat 7 ∷ []) (replicate 6 (nat 9)) ≡ ends (Refusal 16 (nat 1) 2) (nat 3 ∷ []) (replicate 5 +0 ++ (nat 9 ∷ []))
-unfolding open-Stages
+unfolding open_stages
 too_short = refl
 
 -- a slice of four is too long for the three, told at the last
 too_long : staged (forward empty none) three (1f ∷ []) (nat 2 ∷ nat 3 ∷ nat 4 ∷ nat 5 ∷ []) (nat 7 ∷ []) (replicate 6 (nat 9)) ≡ ends (Refusal 16 (nat 4) 3) (nat 6 ∷ []) (replicate 5 +0 ++ (nat 9 ∷ []))
-unfolding open-Stages
+unfolding open_stages
 too_long = refl
 
 -- a matrix of no rows: refused before any stage
 no_rows : staged (forward (csr 0 (0 ∷ []) [] []) none) three (1f ∷ []) (nat 2 ∷ []) (nat 7 ∷ []) (replicate 6 (nat 9)) ≡ ends (Refusal 1 (nat 1) 0) (nat 7 ∷ []) (replicate 6 (nat 9))
-unfolding open-Stages
+unfolding open_stages
 no_rows = refl
 
 -- no stages: 37, before any
-no-stages : staged (forward empty none) (schedule-of [] [] [] [] [] [] []) (1f ∷ []) [] (nat 7 ∷ []) (replicate 6 (nat 9)) ≡ ends (Refusal 37 nan 0) (nat 7 ∷ []) (replicate 6 (nat 9))
-unfolding open-Stages
-no-stages = refl
+no_stages : staged (forward empty none) (schedule_of [] [] [] [] [] [] []) (1f ∷ []) [] (nat 7 ∷ []) (replicate 6 (nat 9)) ≡ ends (Refusal 37 nan 0) (nat 7 ∷ []) (replicate 6 (nat 9))
+unfolding open_stages
+no_stages = refl
 
 abbrev four : Csr
 four =
@@ -65,14 +65,14 @@ abbrev small : Float
 small = bits 0x3f70000000000000
 
 -- the second stage is refused during its run: 27, with its first substep's field, and what it needed cleared
-limited : staged (forward four none) (schedule-of (+0 ∷ 1f ∷ []) (1 ∷ 2 ∷ []) (0 ∷ 1 ∷ []) (30 ∷ 0 ∷ []) (nan ∷ hundredth ∷ []) (0 ∷ 3 ∷ []) (0 ∷ 1 ∷ [])) start heating (replicate 4 +0) (replicate 60 (nat 9))
+limited : staged (forward four none) (schedule_of (+0 ∷ 1f ∷ []) (1 ∷ 2 ∷ []) (0 ∷ 1 ∷ []) (30 ∷ 0 ∷ []) (nan ∷ hundredth ∷ []) (0 ∷ 3 ∷ []) (0 ∷ 1 ∷ [])) start heating (replicate 4 +0) (replicate 60 (nat 9))
     ≡ ends (Refusal 27 (bits 0x3e620310ebf08c7b) 2) (bits 0xc001b9196788d1dc ∷ bits 0x3fff7a32475dbb61 ∷ bits 0x3fe02723fdd5eb38 ∷ bits 0xc004a90a6aa9d7d8 ∷ []) (replicate 59 +0 ++ (nat 9 ∷ []))
-unfolding open-Stages
+unfolding open_stages
 limited = refl
 
 -- Krylov, whose highest degree nobody looks at, then Taylor, whose tolerance, dimension and limit nobody looks at
 abbrev both : Schedule
-both = schedule-of (1f ∷ small ∷ []) (2 ∷ 2 ∷ []) (1 ∷ 0 ∷ []) (99 ∷ 20 ∷ []) (hundredth ∷ nan ∷ []) (3 ∷ 0 ∷ []) (100000 ∷ 0 ∷ [])
+both = schedule_of (1f ∷ small ∷ []) (2 ∷ 2 ∷ []) (1 ∷ 0 ∷ []) (99 ∷ 20 ∷ []) (hundredth ∷ nan ∷ []) (3 ∷ 0 ∷ []) (100000 ∷ 0 ∷ [])
 
 abbrev cooling : List Float
 cooling = nat 1 ∷ nat 2 ∷ nat 3 ∷ nat 4 ∷ []
@@ -93,21 +93,21 @@ warmed = phi.Krylov (record { matvecs = 12; substeps = 3; rejected = 1; est_erro
 abbrev cooled : PhiAnswer
 cooled = phi.Taylor (record { s = 3; m = 20; mu = +0; applications = 60 })
 
-warm-up : call_at (forward four none) both start (heating ++ cooling) (replicate 4 +0) (replicate 60 (nat 9)) 0 start (replicate 4 +0) (replicate 60 (nat 9)) ≡ ends warmed warm after_both
-unfolding vectors-before open-Stages
-warm-up = refl
+warm_up : call_at (forward four none) both start (heating ++ cooling) (replicate 4 +0) (replicate 60 (nat 9)) 0 start (replicate 4 +0) (replicate 60 (nat 9)) ≡ ends warmed warm after_both
+unfolding vectors_before open_stages
+warm_up = refl
 
-cool-down : call_at (forward four none) both start (heating ++ cooling) (replicate 4 +0) (replicate 60 (nat 9)) 1 warm warm after_both ≡ ends cooled cool after_both
-unfolding vectors-before open-Stages
-cool-down = refl
+cool_down : call_at (forward four none) both start (heating ++ cooling) (replicate 4 +0) (replicate 60 (nat 9)) 1 warm warm after_both ≡ ends cooled cool after_both
+unfolding vectors_before open_stages
+cool_down = refl
 
 -- 12 and 60 products, 3 substeps and 1 rejection
-two-solvers : staged (forward four none) both start (heating ++ cooling) (replicate 4 +0) (replicate 60 (nat 9)) ≡ ends (Staged (record { applications = 72; substeps = 3; rejected = 1 })) cool after_both
-unfolding Ran vectors-before total quotients
-two-solvers =
-    complete-result (forward four none) both start (heating ++ cooling) (replicate 4 +0) (replicate 60 (nat 9)) _ cool after_both
+two_solvers : staged (forward four none) both start (heating ++ cooling) (replicate 4 +0) (replicate 60 (nat 9)) ≡ ends (Staged (record { applications = 72; substeps = 3; rejected = 1 })) cool after_both
+unfolding Ran vectors_before total quotients
+two_solvers =
+    complete_result (forward four none) both start (heating ++ cooling) (replicate 4 +0) (replicate 60 (nat 9)) _ cool after_both
     (record {
-      scheduled = unfold schedule-checks first in refl;
+      scheduled = unfold schedule_checks first in refl;
       answers = warmed ∷ cooled ∷ [];
       ran =
           record {
@@ -123,19 +123,19 @@ two-solvers =
                   answers = [];
                   earlier = (refl, refl, refl, refl);
                   lies = omega arith;
-                  gave = subst (λ (c : Call PhiAnswer). Gave c.answer) (sym warm-up) tt;
-                  field_is = ap (λ (c : Call PhiAnswer). c.output) (sym warm-up);
-                  output-is = ap (λ (c : Call PhiAnswer). c.output) (sym warm-up);
-                  memory-is = ap (λ (c : Call PhiAnswer). c.memory) (sym warm-up);
-                  answers-are = ap (λ (c : Call PhiAnswer). c.answer ∷ []) (sym warm-up);
+                  gave = subst (λ (c : Call PhiAnswer). Gave c.answer) (sym warm_up) tt;
+                  field_is = ap (λ (c : Call PhiAnswer). c.output) (sym warm_up);
+                  output_is = ap (λ (c : Call PhiAnswer). c.output) (sym warm_up);
+                  memory_is = ap (λ (c : Call PhiAnswer). c.memory) (sym warm_up);
+                  answers_are = ap (λ (c : Call PhiAnswer). c.answer ∷ []) (sym warm_up);
                 };
             lies = omega arith;
-            gave = subst (λ (c : Call PhiAnswer). Gave c.answer) (sym cool-down) tt;
-            field_is = ap (λ (c : Call PhiAnswer). c.output) (sym cool-down);
-            output-is = ap (λ (c : Call PhiAnswer). c.output) (sym cool-down);
-            memory-is = ap (λ (c : Call PhiAnswer). c.memory) (sym cool-down);
-            answers-are = ap (λ (c : Call PhiAnswer). warmed ∷ c.answer ∷ []) (sym cool-down);
+            gave = subst (λ (c : Call PhiAnswer). Gave c.answer) (sym cool_down) tt;
+            field_is = ap (λ (c : Call PhiAnswer). c.output) (sym cool_down);
+            output_is = ap (λ (c : Call PhiAnswer). c.output) (sym cool_down);
+            memory_is = ap (λ (c : Call PhiAnswer). c.memory) (sym cool_down);
+            answers_are = ap (λ (c : Call PhiAnswer). warmed ∷ c.answer ∷ []) (sym cool_down);
           };
-      used-up = refl;
+      used_up = refl;
       counts = refl;
     })

@@ -11,7 +11,7 @@ use lib.Ieee.{Float, nan}
 use borrow.Author.Tests.{eqb-true, eq-eqb}
 use Rattle.lists.specs.Walk.{Turn, on, out, walk}
 use Rattle.lists.specs.Window.{window}
-use Rattle.lists.proofs.Window.{length-window}
+use Rattle.lists.proofs.Window.{length_window}
 use Rattle.doubles.specs.F64.{if◌then◌else◌, at}
 use Rattle.checks.specs.First.{Check, first}
 use Rattle.checks.specs.declared.Checked.{Checked}
@@ -21,39 +21,39 @@ use Rattle.combination.specs.Call.{Call, ends}
 use Rattle.phi_solver.specs.Combine.{combine}
 use Rattle.phi_solver.specs.declared.PhiAnswer.{PhiAnswer}
 use Rattle.phi_solver.specs.declared.PhiAnswer.TheVariants as phi
-use Rattle.schedule_checks.specs.Schedule.{Schedule, solver-of, stage, stages-of, further-need, stage-checks, Progress, counted, settle}
+use Rattle.schedule_checks.specs.Schedule.{Schedule, solver_of, stage, stages_of, further_need, stage_checks, Progress, counted, settle}
 use Rattle.schedule_checks.specs.declared.StagedReport.{StagedReport}
 use Rattle.schedule_checks.specs.declared.StagedAnswer.{StagedAnswer}
 use Rattle.schedule_checks.specs.declared.StagedAnswer.TheVariants.{Refusal}
-use Rattle.stage_calls.specs.Stages.{unless-stage-refused, stage-call, stage-step, begun}
-use Rattle.stages_claims.specs.Ran.{count_at, vectors-before, Gave, applications-of, substeps-of, rejected-of, total, sums, call_at, Next, Ran}
-use Rattle.stages_claims.proofs.Walks.{next, walk-next}
-use Rattle.stages_claims.proofs.Checks.{stage-sound, stage-passing, timed-known}
+use Rattle.stage_calls.specs.Stages.{unless_stage_refused, stage_call, stage_step, begun}
+use Rattle.stages_claims.specs.Ran.{count_at, vectors_before, Gave, applications_of, substeps_of, rejected_of, total, sums, call_at, Next, Ran}
+use Rattle.stages_claims.proofs.Walks.{next, walk_next}
+use Rattle.stages_claims.proofs.Checks.{stage_sound, stage_passing, timed_known}
 use Rattle.stages_claims.proofs.Accepted.{taken}
 
 -- ---- sums
-pub total-snoc : (f : PhiAnswer → ℕ) (xs : List PhiAnswer) (a : PhiAnswer) → total f (xs ++ (a ∷ [])) ≡ total f xs + f a
+pub total_snoc : (f : PhiAnswer → ℕ) (xs : List PhiAnswer) (a : PhiAnswer) → total f (xs ++ (a ∷ [])) ≡ total f xs + f a
 unfolding total
-total-snoc f [] a = omega arith
-total-snoc f (b ∷ bs) a = omega (arith, total-snoc f bs a)
+total_snoc f [] a = omega arith
+total_snoc f (b ∷ bs) a = omega (arith, total_snoc f bs a)
 
-counted-sums : (xs : List PhiAnswer) (a : PhiAnswer) → Gave a → counted (sums xs) a ≡ sums (xs ++ (a ∷ []))
+counted_sums : (xs : List PhiAnswer) (a : PhiAnswer) → Gave a → counted (sums xs) a ≡ sums (xs ++ (a ∷ []))
 unfolding counted
-counted-sums xs (phi.Refusal k x) h = absurd h
-counted-sums xs (phi.Taylor t) h =
-    let a = sym (total-snoc applications-of xs (phi.Taylor t)) in
-    let b : total substeps-of xs ≡ total substeps-of (xs ++ (phi.Taylor t ∷ [])) = omega (arith, total-snoc substeps-of xs (phi.Taylor t)) in
-    let c : total rejected-of xs ≡ total rejected-of (xs ++ (phi.Taylor t ∷ [])) = omega (arith, total-snoc rejected-of xs (phi.Taylor t)) in
+counted_sums xs (phi.Refusal k x) h = absurd h
+counted_sums xs (phi.Taylor t) h =
+    let a = sym (total_snoc applications_of xs (phi.Taylor t)) in
+    let b : total substeps_of xs ≡ total substeps_of (xs ++ (phi.Taylor t ∷ [])) = omega (arith, total_snoc substeps_of xs (phi.Taylor t)) in
+    let c : total rejected_of xs ≡ total rejected_of (xs ++ (phi.Taylor t ∷ [])) = omega (arith, total_snoc rejected_of xs (phi.Taylor t)) in
     λ i. record { applications = a i; substeps = b i; rejected = c i }
-counted-sums xs (phi.Krylov t) h =
-    let a = sym (total-snoc applications-of xs (phi.Krylov t)) in
-    let b = sym (total-snoc substeps-of xs (phi.Krylov t)) in
-    let c = sym (total-snoc rejected-of xs (phi.Krylov t)) in
+counted_sums xs (phi.Krylov t) h =
+    let a = sym (total_snoc applications_of xs (phi.Krylov t)) in
+    let b = sym (total_snoc substeps_of xs (phi.Krylov t)) in
+    let c = sym (total_snoc rejected_of xs (phi.Krylov t)) in
     λ i. record { applications = a i; substeps = b i; rejected = c i }
 
-solver-same : (b : Bool) (degree : ℕ) (tol : Float) (m limit : ℕ) → solver-of b degree tol m limit ≡ (if b then solver-of true degree tol m limit else solver-of false degree tol m limit)
-solver-same true degree tol m limit = refl
-solver-same false degree tol m limit = refl
+solver_same : (b : Bool) (degree : ℕ) (tol : Float) (m limit : ℕ) → solver_of b degree tol m limit ≡ (if b then solver_of true degree tol m limit else solver_of false degree tol m limit)
+solver_same true degree tol m limit = refl
+solver_same false degree tol m limit = refl
 
 pub filled : (count n : ℕ) → 1 ≤ count → count * n ≡ n + (count - 1) * n
 filled zero n h = absurd (omega arith)
@@ -67,13 +67,13 @@ module _ (g : Generator) (s : Schedule) (start further output memory : List Floa
   n = g.matrix.n
 
   abbrev pub stands : ℕ → Turn Progress (Call StagedAnswer)
-  stands i = walk (stage-step g s further) i 0 (on (begun start output memory))
+  stands i = walk (stage_step g s further) i 0 (on (begun start output memory))
 
-  abbrev pub checks-at : ℕ → Progress → List Check
-  checks-at i p = stage-checks n (stage s i) (eqb (i + 1) (stages-of s)) (length p.output) (length p.field) p.used (length further)
+  abbrev pub checks_at : ℕ → Progress → List Check
+  checks_at i p = stage_checks n (stage s i) (eqb (i + 1) (stages_of s)) (length p.output) (length p.field) p.used (length further)
 
   abbrev pub made_at : ℕ → Progress → Call PhiAnswer
-  made_at i p = stage-call g (stage s i) further p
+  made_at i p = stage_call g (stage s i) further p
 
   abbrev pub after : ℕ → Progress → Progress
   after i p =
@@ -81,79 +81,79 @@ module _ (g : Generator) (s : Schedule) (start further output memory : List Floa
         field = (made_at i p).output;
         output = (made_at i p).output;
         memory = (made_at i p).memory;
-        used = p.used + further-need n (stage s i);
+        used = p.used + further_need n (stage s i);
         report = counted p.report (made_at i p).answer;
       }
 
   -- a refusal by the stage's own list, and one by its call
-  pub early-step : (i : ℕ) (p : Progress) {k : ℕ} {x : Float} → first (checks-at i p) ≡ Refused k x → stage-step g s further i p ≡ out (ends (Refusal k x (i + 1)) p.output p.memory)
-  unfolding stage-step unless-stage-refused
-  early-step i p e = ap (λ (c : Checked). unless-stage-refused c i p (settle i (p.used + further-need n (stage s i)) p.report (made_at i p) (made_at i p).answer)) e
+  pub early_step : (i : ℕ) (p : Progress) {k : ℕ} {x : Float} → first (checks_at i p) ≡ Refused k x → stage_step g s further i p ≡ out (ends (Refusal k x (i + 1)) p.output p.memory)
+  unfolding stage_step unless_stage_refused
+  early_step i p e = ap (λ (c : Checked). unless_stage_refused c i p (settle i (p.used + further_need n (stage s i)) p.report (made_at i p) (made_at i p).answer)) e
 
-  pub late-step : (i : ℕ) (p : Progress) {k : ℕ} {x : Float} → Sound ≡ first (checks-at i p) → (made_at i p).answer ≡ phi.Refusal k x
-      → stage-step g s further i p ≡ out (ends (Refusal k x (i + 1)) (made_at i p).output (made_at i p).memory)
-  unfolding stage-step unless-stage-refused settle
-  late-step i p e ea =
-      ap (λ (c : Checked). unless-stage-refused c i p (settle i (p.used + further-need n (stage s i)) p.report (made_at i p) (made_at i p).answer)) (sym e)
-      ∙ ap (settle i (p.used + further-need n (stage s i)) p.report (made_at i p)) ea
+  pub late_step : (i : ℕ) (p : Progress) {k : ℕ} {x : Float} → Sound ≡ first (checks_at i p) → (made_at i p).answer ≡ phi.Refusal k x
+      → stage_step g s further i p ≡ out (ends (Refusal k x (i + 1)) (made_at i p).output (made_at i p).memory)
+  unfolding stage_step unless_stage_refused settle
+  late_step i p e ea =
+      ap (λ (c : Checked). unless_stage_refused c i p (settle i (p.used + further_need n (stage s i)) p.report (made_at i p) (made_at i p).answer)) (sym e)
+      ∙ ap (settle i (p.used + further_need n (stage s i)) p.report (made_at i p)) ea
 
   -- ---- what stage i + 1 comes to
   pub data Outcome (i : ℕ) (p : Progress) : Type 0 where
-    early : (k : ℕ) (x : Float) → first (checks-at i p) ≡ Refused k x → stage-step g s further i p ≡ out (ends (Refusal k x (i + 1)) p.output p.memory) → Outcome i p
-    late : (k : ℕ) (x : Float) → Sound ≡ first (checks-at i p) → (made_at i p).answer ≡ phi.Refusal k x → stage-step g s further i p ≡ out (ends (Refusal k x (i + 1)) (made_at i p).output (made_at i p).memory) → Outcome i p
-    result : Sound ≡ first (checks-at i p) → Gave (made_at i p).answer → stage-step g s further i p ≡ on (after i p) → Outcome i p
+    early : (k : ℕ) (x : Float) → first (checks_at i p) ≡ Refused k x → stage_step g s further i p ≡ out (ends (Refusal k x (i + 1)) p.output p.memory) → Outcome i p
+    late : (k : ℕ) (x : Float) → Sound ≡ first (checks_at i p) → (made_at i p).answer ≡ phi.Refusal k x → stage_step g s further i p ≡ out (ends (Refusal k x (i + 1)) (made_at i p).output (made_at i p).memory) → Outcome i p
+    result : Sound ≡ first (checks_at i p) → Gave (made_at i p).answer → stage_step g s further i p ≡ on (after i p) → Outcome i p
 
   pub outcome : (i : ℕ) (p : Progress) → Outcome i p
-  unfolding stage-step unless-stage-refused settle
-  outcome i p = by-checks (first (checks-at i p)) refl
+  unfolding stage_step unless_stage_refused settle
+  outcome i p = by_checks (first (checks_at i p)) refl
     where
       settled : Turn Progress (Call StagedAnswer)
-      settled = settle i (p.used + further-need n (stage s i)) p.report (made_at i p) (made_at i p).answer
+      settled = settle i (p.used + further_need n (stage s i)) p.report (made_at i p) (made_at i p).answer
 
-      by_answer : Sound ≡ first (checks-at i p) → (a : PhiAnswer) → (made_at i p).answer ≡ a → Outcome i p
-      by_answer e (phi.Refusal k x) ea = late k x e ea (late-step i p e ea)
+      by_answer : Sound ≡ first (checks_at i p) → (a : PhiAnswer) → (made_at i p).answer ≡ a → Outcome i p
+      by_answer e (phi.Refusal k x) ea = late k x e ea (late_step i p e ea)
       by_answer e (phi.Taylor t) ea =
           result e (subst Gave (sym ea) tt)
-          (ap (λ (c : Checked). unless-stage-refused c i p settled) (sym e)
-          ∙ ap (settle i (p.used + further-need n (stage s i)) p.report (made_at i p)) ea
-          ∙ ap (λ (a : PhiAnswer). on (record { field = (made_at i p).output; output = (made_at i p).output; memory = (made_at i p).memory; used = p.used + further-need n (stage s i); report = counted p.report a })) (sym ea))
+          (ap (λ (c : Checked). unless_stage_refused c i p settled) (sym e)
+          ∙ ap (settle i (p.used + further_need n (stage s i)) p.report (made_at i p)) ea
+          ∙ ap (λ (a : PhiAnswer). on (record { field = (made_at i p).output; output = (made_at i p).output; memory = (made_at i p).memory; used = p.used + further_need n (stage s i); report = counted p.report a })) (sym ea))
       by_answer e (phi.Krylov t) ea =
           result e (subst Gave (sym ea) tt)
-          (ap (λ (c : Checked). unless-stage-refused c i p settled) (sym e)
-          ∙ ap (settle i (p.used + further-need n (stage s i)) p.report (made_at i p)) ea
-          ∙ ap (λ (a : PhiAnswer). on (record { field = (made_at i p).output; output = (made_at i p).output; memory = (made_at i p).memory; used = p.used + further-need n (stage s i); report = counted p.report a })) (sym ea))
+          (ap (λ (c : Checked). unless_stage_refused c i p settled) (sym e)
+          ∙ ap (settle i (p.used + further_need n (stage s i)) p.report (made_at i p)) ea
+          ∙ ap (λ (a : PhiAnswer). on (record { field = (made_at i p).output; output = (made_at i p).output; memory = (made_at i p).memory; used = p.used + further_need n (stage s i); report = counted p.report a })) (sym ea))
 
-      by-checks : (c : Checked) → first (checks-at i p) ≡ c → Outcome i p
-      by-checks (Refused k x) e = early k x e (early-step i p e)
-      by-checks Sound e = by_answer (sym e) (made_at i p).answer refl
+      by_checks : (c : Checked) → first (checks_at i p) ≡ c → Outcome i p
+      by_checks (Refused k x) e = early k x e (early_step i p e)
+      by_checks Sound e = by_answer (sym e) (made_at i p).answer refl
 
   -- ---- the call of a stage, by the numbers of the lists
-  pub call-is : (i : ℕ) (p : Progress) → p.used ≡ vectors-before s i * n → made_at i p ≡ call_at g s start further output memory i p.field p.output p.memory
+  pub call_is : (i : ℕ) (p : Progress) → p.used ≡ vectors_before s i * n → made_at i p ≡ call_at g s start further output memory i p.field p.output p.memory
   unfolding stage
-  call-is i p e =
-      (λ j. combine (solver-same (eqb (get_or s.solvers i 0) 0) (get_or s.degrees i 0) (at s.tols i) (get_or s.ms i 0) (get_or s.limits i 0) j) g (get_or s.taus i nan) (count_at s i) (p.field ++ window (e j) ((count_at s i - 1) * n) further) p.output p.memory)
+  call_is i p e =
+      (λ j. combine (solver_same (eqb (get_or s.solvers i 0) 0) (get_or s.degrees i 0) (at s.tols i) (get_or s.ms i 0) (get_or s.limits i 0) j) g (get_or s.taus i nan) (count_at s i) (p.field ++ window (e j) ((count_at s i - 1) * n) further) p.output p.memory)
 
-  pub more_vectors : (i : ℕ) → vectors-before s (suc i) * n ≡ vectors-before s i * n + (count_at s i - 1) * n
-  unfolding vectors-before
-  more_vectors i = add-mul (vectors-before s i) (count_at s i - 1) n
+  pub more_vectors : (i : ℕ) → vectors_before s (suc i) * n ≡ vectors_before s i * n + (count_at s i - 1) * n
+  unfolding vectors_before
+  more_vectors i = add-mul (vectors_before s i) (count_at s i - 1) n
 
   -- ---- after i stages with results
   pub record Reached (i : ℕ) (p : Progress) : Type 0 where
     pub answers : List PhiAnswer
     pub ran : Ran g s start further output memory i p.field p.output p.memory answers
-    pub used : p.used ≡ vectors-before s i * n
+    pub used : p.used ≡ vectors_before s i * n
     pub report : p.report ≡ sums answers
-    pub all : 1 ≤ i → i ≡ stages-of s → vectors-before s i * n ≡ length further
+    pub all : 1 ≤ i → i ≡ stages_of s → vectors_before s i * n ≡ length further
 
-  reached-first : Reached 0 (begun start output memory)
-  unfolding Ran vectors-before total
-  reached-first = record { answers = []; ran = (refl, refl, refl, refl); used = sym (zero-mul n); report = refl; all = λ l e. absurd (omega (arith, l)) }
+  reached_first : Reached 0 (begun start output memory)
+  unfolding Ran vectors_before total
+  reached_first = record { answers = []; ran = (refl, refl, refl, refl); used = sym (zero-mul n); report = refl; all = λ l e. absurd (omega (arith, l)) }
 
-  reached-next : (i : ℕ) (p : Progress) → Reached i p → Sound ≡ first (checks-at i p) → Gave (made_at i p).answer → Reached (suc i) (after i p)
+  reached_next : (i : ℕ) (p : Progress) → Reached i p → Sound ≡ first (checks_at i p) → Gave (made_at i p).answer → Reached (suc i) (after i p)
   unfolding Ran stage
-  reached-next i p r e h =
-      let k = stage-passing n (stage s i) (eqb (i + 1) (stages-of s)) (length p.output) (length p.field) p.used (length further) e in
-      let c = call-is i p r.used in
+  reached_next i p r e h =
+      let k = stage_passing n (stage s i) (eqb (i + 1) (stages_of s)) (length p.output) (length p.field) p.used (length further) e in
+      let c = call_is i p r.used in
       let m = more_vectors i in
       record {
         answers = r.answers ++ ((call_at g s start further output memory i p.field p.output p.memory).answer ∷ []);
@@ -167,21 +167,21 @@ module _ (g : Generator) (s : Schedule) (start further output memory : List Floa
               lies = omega (arith, m, r.used, k.within);
               gave = subst (λ (x : Call PhiAnswer). Gave x.answer) c h;
               field_is = ap (λ (x : Call PhiAnswer). x.output) c;
-              output-is = ap (λ (x : Call PhiAnswer). x.output) c;
-              memory-is = ap (λ (x : Call PhiAnswer). x.memory) c;
-              answers-are = refl;
+              output_is = ap (λ (x : Call PhiAnswer). x.output) c;
+              memory_is = ap (λ (x : Call PhiAnswer). x.memory) c;
+              answers_are = refl;
             };
         used = omega (arith, m, r.used);
         report =
             ap (λ (x : StagedReport). counted x (made_at i p).answer) r.report
-            ∙ counted-sums r.answers (made_at i p).answer h
+            ∙ counted_sums r.answers (made_at i p).answer h
             ∙ ap (λ (x : Call PhiAnswer). sums (r.answers ++ (x.answer ∷ []))) c;
-        all = λ l e. let f : i + 1 ≡ stages-of s = omega (arith, e) in let a = k.all (eq-eqb (i + 1) (stages-of s) f) in omega (arith, m, r.used, a);
+        all = λ l e. let f : i + 1 ≡ stages_of s = omega (arith, e) in let a = k.all (eq-eqb (i + 1) (stages_of s) f) in omega (arith, m, r.used, a);
       }
 
   pub reached : (i : ℕ) (p : Progress) → stands i ≡ on p → Reached i p
   unfolding walk
-  reached zero p e = subst (Reached 0) (same e) reached-first
+  reached zero p e = subst (Reached 0) (same e) reached_first
     where
       same : {x y : Progress} → ◌≡◌ {A = Turn Progress (Call StagedAnswer)} (on x) (on y) → x ≡ y
       same e = cc
@@ -194,82 +194,82 @@ module _ (g : Generator) (s : Schedule) (start further output memory : List Floa
       differ e = cc
 
       go : (t : Turn Progress (Call StagedAnswer)) → stands i ≡ t → ((q : Progress) → stands i ≡ on q → Reached i q) → Reached (suc i) p
-      go (out x) d h = absurd (omega (arith, differ (sym (walk-next (stage-step g s further) (on (begun start output memory)) i ∙ ap (next (stage-step g s further) i) d) ∙ e)))
-      go (on q) d h = by-outcome (outcome i q)
+      go (out x) d h = absurd (omega (arith, differ (sym (walk_next (stage_step g s further) (on (begun start output memory)) i ∙ ap (next (stage_step g s further) i) d) ∙ e)))
+      go (on q) d h = by_outcome (outcome i q)
         where
-          stepped : stage-step g s further i q ≡ on p
-          stepped = sym (walk-next (stage-step g s further) (on (begun start output memory)) i ∙ ap (next (stage-step g s further) i) d) ∙ e
+          stepped : stage_step g s further i q ≡ on p
+          stepped = sym (walk_next (stage_step g s further) (on (begun start output memory)) i ∙ ap (next (stage_step g s further) i) d) ∙ e
 
-          by-outcome : Outcome i q → Reached (suc i) p
-          by-outcome (early k x a b) = absurd (omega (arith, differ (sym b ∙ stepped)))
-          by-outcome (late k x a b c) = absurd (omega (arith, differ (sym c ∙ stepped)))
-          by-outcome (result a b c) = subst (Reached (suc i)) (same (sym c ∙ stepped)) (reached-next i q (h q d) a b)
+          by_outcome : Outcome i q → Reached (suc i) p
+          by_outcome (early k x a b) = absurd (omega (arith, differ (sym b ∙ stepped)))
+          by_outcome (late k x a b c) = absurd (omega (arith, differ (sym c ∙ stepped)))
+          by_outcome (result a b c) = subst (Reached (suc i)) (same (sym c ∙ stepped)) (reached_next i q (h q d) a b)
 
   -- ---- and the other way round
   abbrev pub standing : ℕ → List Float → List Float → List Float → List PhiAnswer → Progress
-  standing i f o m xs = record { field = f; output = o; memory = m; used = vectors-before s i * n; report = sums xs }
+  standing i f o m xs = record { field = f; output = o; memory = m; used = vectors_before s i * n; report = sums xs }
 
   -- a stage whose call gives a result passes its checks
-  checks-pass : (i : ℕ) (p : Progress) → p.used ≡ vectors-before s i * n → vectors-before s (suc i) * n ≤ length further → (suc i ≡ stages-of s → vectors-before s (suc i) * n ≡ length further)
-      → Gave (made_at i p).answer → Sound ≡ first (checks-at i p)
-  checks-pass i p u lies all h =
+  checks_pass : (i : ℕ) (p : Progress) → p.used ≡ vectors_before s i * n → vectors_before s (suc i) * n ≤ length further → (suc i ≡ stages_of s → vectors_before s (suc i) * n ≡ length further)
+      → Gave (made_at i p).answer → Sound ≡ first (checks_at i p)
+  checks_pass i p u lies all h =
       let S = stage s i in
       let m = more_vectors i in
-      let t = taken g S.tau S.count (p.field ++ window p.used (further-need n S) further) p.output p.memory S.solver h in
+      let t = taken g S.tau S.count (p.field ++ window p.used (further_need n S) further) p.output p.memory S.solver h in
       let c : S.count ≡ count_at s i = unfold stage in refl in
-      let need : p.used + (S.count - 1) * n ≡ vectors-before s (suc i) * n = rw c (omega (arith, m, u)) in
-      let lw = length-window p.used (further-need n S) further (omega (arith, need, lies)) in
-      let la = length-append p.field (window p.used (further-need n S) further) in
-      stage-sound n S (eqb (i + 1) (stages-of s)) (length p.output) (length p.field) p.used (length further)
+      let need : p.used + (S.count - 1) * n ≡ vectors_before s (suc i) * n = rw c (omega (arith, m, u)) in
+      let lw = length_window p.used (further_need n S) further (omega (arith, need, lies)) in
+      let la = length-append p.field (window p.used (further_need n S) further) in
+      stage_sound n S (eqb (i + 1) (stages_of s)) (length p.output) (length p.field) p.used (length further)
       (record {
         some = t.vectors.some;
         most = t.vectors.most;
-        timed = timed-known S.solver S.tau t.timed;
+        timed = timed_known S.solver S.tau t.timed;
         out = t.vectors.out;
         fielded = omega (arith, lw, la, t.vectors.flat, filled S.count n t.vectors.some);
         within = omega (arith, need, lies);
-        all = λ e. let f = eqb-true (i + 1) (stages-of s) e in omega (arith, need, all (omega (arith, f)));
+        all = λ e. let f = eqb-true (i + 1) (stages_of s) e in omega (arith, need, all (omega (arith, f)));
       })
 
   module _ (i : ℕ) (f o m : List Float) (xs : List PhiAnswer) (r : Next g s start further output memory i (Ran g s start further output memory i) f o m xs) where
     abbrev here : Progress
     here = standing i r.field r.out r.lent r.answers
 
-    call-here : made_at i here ≡ call_at g s start further output memory i r.field r.out r.lent
-    call-here = call-is i here refl
+    call_here : made_at i here ≡ call_at g s start further output memory i r.field r.out r.lent
+    call_here = call_is i here refl
 
-    gave-here : Gave (made_at i here).answer
-    gave-here = subst (λ (x : Call PhiAnswer). Gave x.answer) (sym call-here) r.gave
+    gave_here : Gave (made_at i here).answer
+    gave_here = subst (λ (x : Call PhiAnswer). Gave x.answer) (sym call_here) r.gave
 
     after_is : after i here ≡ standing (suc i) f o m xs
     unfolding stage
     after_is =
-        let left = ap (λ (x : Call PhiAnswer). x.output) call-here in
-        let f-is = left ∙ sym r.field_is in
-        let o_is = left ∙ sym r.output-is in
-        let m-is = ap (λ (x : Call PhiAnswer). x.memory) call-here ∙ sym r.memory-is in
-        let u-is = sym (more_vectors i) in
-        let r-is = counted-sums r.answers (made_at i here).answer gave-here ∙ ap (λ (x : Call PhiAnswer). sums (r.answers ++ (x.answer ∷ []))) call-here ∙ ap sums (sym r.answers-are) in
-        λ j. record { field = f-is j; output = o_is j; memory = m-is j; used = u-is j; report = r-is j }
+        let left = ap (λ (x : Call PhiAnswer). x.output) call_here in
+        let f_is = left ∙ sym r.field_is in
+        let o_is = left ∙ sym r.output_is in
+        let m_is = ap (λ (x : Call PhiAnswer). x.memory) call_here ∙ sym r.memory_is in
+        let u_is = sym (more_vectors i) in
+        let r_is = counted_sums r.answers (made_at i here).answer gave_here ∙ ap (λ (x : Call PhiAnswer). sums (r.answers ++ (x.answer ∷ []))) call_here ∙ ap sums (sym r.answers_are) in
+        λ j. record { field = f_is j; output = o_is j; memory = m_is j; used = u_is j; report = r_is j }
 
-    step-here : (suc i ≡ stages-of s → vectors-before s (suc i) * n ≡ length further) → stage-step g s further i here ≡ on (standing (suc i) f o m xs)
-    step-here all = by-outcome (outcome i here)
+    step_here : (suc i ≡ stages_of s → vectors_before s (suc i) * n ≡ length further) → stage_step g s further i here ≡ on (standing (suc i) f o m xs)
+    step_here all = by_outcome (outcome i here)
       where
-        ok : Sound ≡ first (checks-at i here)
-        ok = checks-pass i here refl r.lies all gave-here
+        ok : Sound ≡ first (checks_at i here)
+        ok = checks_pass i here refl r.lies all gave_here
 
-        refused-not : {k : ℕ} {x : Float} → Sound ≡ Refused k x → zero ≡ 1
-        refused-not e = cc
+        refused_not : {k : ℕ} {x : Float} → Sound ≡ Refused k x → zero ≡ 1
+        refused_not e = cc
 
-        by-outcome : Outcome i here → stage-step g s further i here ≡ on (standing (suc i) f o m xs)
-        by-outcome (early k x a b) = absurd (omega (arith, refused-not (ok ∙ a)))
-        by-outcome (late k x a b c) = absurd (subst Gave b gave-here)
-        by-outcome (result a b c) = c ∙ ap on after_is
+        by_outcome : Outcome i here → stage_step g s further i here ≡ on (standing (suc i) f o m xs)
+        by_outcome (early k x a b) = absurd (omega (arith, refused_not (ok ∙ a)))
+        by_outcome (late k x a b c) = absurd (subst Gave b gave_here)
+        by_outcome (result a b c) = c ∙ ap on after_is
 
-  pub back : (i : ℕ) (f o m : List Float) (xs : List PhiAnswer) → Ran g s start further output memory i f o m xs → i ≤ stages-of s → (i ≡ stages-of s → vectors-before s i * n ≡ length further)
+  pub back : (i : ℕ) (f o m : List Float) (xs : List PhiAnswer) → Ran g s start further output memory i f o m xs → i ≤ stages_of s → (i ≡ stages_of s → vectors_before s i * n ≡ length further)
       → stands i ≡ on (standing i f o m xs)
-  unfolding Ran vectors-before total walk
+  unfolding Ran vectors_before total walk
   back zero f o m xs r l u = λ j. on (record { field = sym r.0 j; output = sym r.1 j; memory = sym r.2 j; used = sym (zero-mul n) j; report = sums (sym r.3 j) })
   back (suc i) f o m xs r l u =
       let d = back i r.field r.out r.lent r.answers r.earlier (omega (arith, l)) (λ e. absurd (omega (arith, l, e))) in
-      walk-next (stage-step g s further) (on (begun start output memory)) i ∙ ap (next (stage-step g s further) i) d ∙ step-here i f o m xs r u
+      walk_next (stage_step g s further) (on (begun start output memory)) i ∙ ap (next (stage_step g s further) i) d ∙ step_here i f o m xs r u

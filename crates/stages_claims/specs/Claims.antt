@@ -5,37 +5,37 @@ use Rattle.checks.specs.declared.Checked.TheVariants.{Sound, Refused}
 use Rattle.generator_action.specs.Generator.{Generator}
 use Rattle.phi_solver.specs.declared.PhiAnswer.{PhiAnswer}
 use Rattle.phi_solver.specs.declared.PhiAnswer.TheVariants as phi
-use Rattle.schedule_checks.specs.Schedule.{Schedule, stage, stages-of, schedule-checks, stage-checks}
+use Rattle.schedule_checks.specs.Schedule.{Schedule, stage, stages_of, schedule_checks, stage_checks}
 use Rattle.schedule_checks.specs.declared.StagedReport.{StagedReport}
-use Rattle.stages_claims.specs.Ran.{vectors-before, sums, call_at, Ran}
+use Rattle.stages_claims.specs.Ran.{vectors_before, sums, call_at, Ran}
 
 module _ (g : Generator) (s : Schedule) (start further output memory : List Float) where
   -- a result with the report r leaves o and m: every stage's call gave a result, the last of them o and m; the slice is used up exactly, and the report has the plain sums
   pub record Complete (r : StagedReport) (o m : List Float) : Type 0 where
-    pub scheduled : Sound ≡ first (schedule-checks s)
+    pub scheduled : Sound ≡ first (schedule_checks s)
     pub answers : List PhiAnswer
-    pub ran : Ran g s start further output memory (stages-of s) o o m answers
-    pub used-up : vectors-before s (stages-of s) * g.matrix.n ≡ length further
+    pub ran : Ran g s start further output memory (stages_of s) o o m answers
+    pub used_up : vectors_before s (stages_of s) * g.matrix.n ≡ length further
     pub counts : r ≡ sums answers
 
   -- 12 to 16 of stage i + 1 from the field f, with the lengths of what is handed in and the vectors of the stages before
-  abbrev pub stage-list : ℕ → List Float → List Float → List Check
-  stage-list i f o =
-      stage-checks g.matrix.n (stage s i) (eqb (i + 1) (stages-of s)) (length o) (length f) (vectors-before s i * g.matrix.n) (length further)
+  abbrev pub stage_list : ℕ → List Float → List Float → List Check
+  stage_list i f o =
+      stage_checks g.matrix.n (stage s i) (eqb (i + 1) (stages_of s)) (length o) (length f) (vectors_before s i * g.matrix.n) (length further)
 
   -- by that list, which changes nothing
   abbrev pub ByList : ℕ → List Float → List Float → List Float → ℕ → Float → List Float → List Float → Type 0
-  ByList i f o m k x o' m' = (first (stage-list i f o) ≡ Refused k x) × (o' ≡ o) × (m' ≡ m)
+  ByList i f o m k x o' m' = (first (stage_list i f o) ≡ Refused k x) × (o' ≡ o) × (m' ≡ m)
 
   -- or, where that list passes, by its single call
   abbrev pub ByCall : ℕ → List Float → List Float → List Float → ℕ → Float → List Float → List Float → Type 0
   ByCall i f o m k x o' m' =
       let c = call_at g s start further output memory i f o m in
-      (Sound ≡ first (stage-list i f o)) × (c.answer ≡ phi.Refusal k x) × (o' ≡ c.output) × (m' ≡ c.memory)
+      (Sound ≡ first (stage_list i f o)) × (c.answer ≡ phi.Refusal k x) × (o' ≡ c.output) × (m' ≡ c.memory)
 
   -- stage i + 1 refuses by k with x and leaves o' and m': the stages before it have results
   pub record RefusedAt (i k : ℕ) (x : Float) (o' m' : List Float) : Type 0 where
-    pub reached : i < stages-of s
+    pub reached : i < stages_of s
     pub field : List Float
     pub out : List Float
     pub lent : List Float

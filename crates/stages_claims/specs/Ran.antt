@@ -14,8 +14,8 @@ use Rattle.schedule_checks.specs.Schedule.{Schedule}
 use Rattle.schedule_checks.specs.declared.StagedReport.{StagedReport}
 
 -- ---- stage i + 1, by its numbers
-abbrev pub solver-at : Schedule → ℕ → PhiSolver
-solver-at s i =
+abbrev pub solver_at : Schedule → ℕ → PhiSolver
+solver_at s i =
     if eqb (get_or s.solvers i 0) 0
     then solver.Taylor (get_or s.degrees i 0)
     else solver.Krylov (record { tol = get_or s.tols i nan; m = get_or s.ms i 0; max_substeps = get_or s.limits i 0 })
@@ -24,9 +24,9 @@ abbrev pub count_at : Schedule → ℕ → ℕ
 count_at s i = get_or s.counts i 0
 
 -- how many further vectors the first i stages bring
-unfoldable pub vectors-before : Schedule → ℕ → ℕ
-vectors-before s zero = 0
-vectors-before s (suc i) = vectors-before s i + (count_at s i - 1)
+unfoldable pub vectors_before : Schedule → ℕ → ℕ
+vectors_before s zero = 0
+vectors_before s (suc i) = vectors_before s i + (count_at s i - 1)
 
 -- a call that gave a result
 abbrev pub Gave : PhiAnswer → Type 0
@@ -35,20 +35,20 @@ Gave (Taylor t) = Unit {0}
 Gave (Krylov t) = Unit {0}
 
 -- ---- what was counted
-abbrev pub applications-of : PhiAnswer → ℕ
-applications-of (Refusal k x) = 0
-applications-of (Taylor t) = t.applications
-applications-of (Krylov t) = t.matvecs
+abbrev pub applications_of : PhiAnswer → ℕ
+applications_of (Refusal k x) = 0
+applications_of (Taylor t) = t.applications
+applications_of (Krylov t) = t.matvecs
 
-abbrev pub substeps-of : PhiAnswer → ℕ
-substeps-of (Refusal k x) = 0
-substeps-of (Taylor t) = 0
-substeps-of (Krylov t) = t.substeps
+abbrev pub substeps_of : PhiAnswer → ℕ
+substeps_of (Refusal k x) = 0
+substeps_of (Taylor t) = 0
+substeps_of (Krylov t) = t.substeps
 
-abbrev pub rejected-of : PhiAnswer → ℕ
-rejected-of (Refusal k x) = 0
-rejected-of (Taylor t) = 0
-rejected-of (Krylov t) = t.rejected
+abbrev pub rejected_of : PhiAnswer → ℕ
+rejected_of (Refusal k x) = 0
+rejected_of (Taylor t) = 0
+rejected_of (Krylov t) = t.rejected
 
 unfoldable pub total : (PhiAnswer → ℕ) → List PhiAnswer → ℕ
 total f [] = 0
@@ -56,14 +56,14 @@ total f (a ∷ xs) = f a + total f xs
 
 -- the plain sums
 abbrev pub sums : List PhiAnswer → StagedReport
-sums xs = record { applications = total applications-of xs; substeps = total substeps-of xs; rejected = total rejected-of xs }
+sums xs = record { applications = total applications_of xs; substeps = total substeps_of xs; rejected = total rejected_of xs }
 
 module _ (g : Generator) (s : Schedule) (start further output memory : List Float) where
   -- the single call of stage i + 1 from the field f
   abbrev pub call_at : ℕ → List Float → List Float → List Float → Call PhiAnswer
   call_at i f o m =
-      combine (solver-at s i) g (get_or s.taus i nan) (count_at s i)
-      (f ++ window (vectors-before s i * g.matrix.n) ((count_at s i - 1) * g.matrix.n) further) o m
+      combine (solver_at s i) g (get_or s.taus i nan) (count_at s i)
+      (f ++ window (vectors_before s i * g.matrix.n) ((count_at s i - 1) * g.matrix.n) further) o m
 
   -- one more stage after those of `before`: its vectors lie in the slice, and its call gave a result
   pub record Next (i : ℕ) (before : List Float → List Float → List Float → List PhiAnswer → Type 0) (f o m : List Float) (xs : List PhiAnswer) : Type 0 where
@@ -72,12 +72,12 @@ module _ (g : Generator) (s : Schedule) (start further output memory : List Floa
     pub lent : List Float
     pub answers : List PhiAnswer
     pub earlier : before field out lent answers
-    pub lies : vectors-before s (suc i) * g.matrix.n ≤ length further
+    pub lies : vectors_before s (suc i) * g.matrix.n ≤ length further
     pub gave : Gave (call_at i field out lent).answer
     pub field_is : f ≡ (call_at i field out lent).output
-    pub output-is : o ≡ (call_at i field out lent).output
-    pub memory-is : m ≡ (call_at i field out lent).memory
-    pub answers-are : xs ≡ answers ++ ((call_at i field out lent).answer ∷ [])
+    pub output_is : o ≡ (call_at i field out lent).output
+    pub memory_is : m ≡ (call_at i field out lent).memory
+    pub answers_are : xs ≡ answers ++ ((call_at i field out lent).answer ∷ [])
 
   -- the first i stages gave results, the answers xs: w_0 of the next stage, the output and the working memory are f, o and m
   unfoldable pub Ran : ℕ → List Float → List Float → List Float → List PhiAnswer → Type 0

@@ -8,11 +8,11 @@ use Rattle.schedule_checks.specs.declared.StagedAnswer.{StagedAnswer}
 use Rattle.schedule_checks.specs.declared.StagedAnswer.TheVariants.{Refusal, Staged}
 
 -- no stage is reached where the generator's checks refuse
-abbrev pub stage-told : Checked → ℕ
-stage-told (Refused k x) = 0
-stage-told Sound = 1
+abbrev pub stage_told : Checked → ℕ
+stage_told (Refused k x) = 0
+stage_told Sound = 1
 
-unfoldable pub one-stage : ℕ → PhiAnswer → StagedAnswer
-one-stage i (phi.Refusal k x) = Refusal k x i
-one-stage i (phi.Taylor t) = Staged (record { applications = t.applications; substeps = 0; rejected = 0 })
-one-stage i (phi.Krylov t) = Staged (record { applications = t.matvecs; substeps = t.substeps; rejected = t.rejected })
+unfoldable pub one_stage : ℕ → PhiAnswer → StagedAnswer
+one_stage i (phi.Refusal k x) = Refusal k x i
+one_stage i (phi.Taylor t) = Staged (record { applications = t.applications; substeps = 0; rejected = 0 })
+one_stage i (phi.Krylov t) = Staged (record { applications = t.matvecs; substeps = t.substeps; rejected = t.rejected })

@@ -7,18 +7,18 @@ use Prim.Native.Nat.{ℕ}
 use lib.ListN.{replicate}
 use lib.Ieee.{Float, nan, neg, binary64, round}
 use Rattle.doubles.specs.F64.{◌⊗◌, nat, 1f, 2f, +0}
-use Rattle.pow2.specs.Pow2.{eta-scaling, open-Pow2}
-use Rattle.power.specs.Power.{root, open-Power}
-use Rattle.round2.specs.Rounded.{round2, open-Rounded}
-use Rattle.dot.specs.Dot.{dot, open-Dot}
-use Rattle.general_operator.specs.Csr.{Csr, csr, row-sum-norm, apply-generator}
-use Rattle.generator_action.specs.Mass.{Mass, quotients, open-Mass}
+use Rattle.pow2.specs.Pow2.{eta_scaling, open_pow2}
+use Rattle.power.specs.Power.{root, open_power}
+use Rattle.round2.specs.Rounded.{round2, open_rounded}
+use Rattle.dot.specs.Dot.{dot, open_dot}
+use Rattle.general_operator.specs.Csr.{Csr, csr, row_sum_norm, apply_generator}
+use Rattle.generator_action.specs.Mass.{Mass, quotients, open_mass}
 use Rattle.generator_action.specs.Generator.{forward}
-use Rattle.csr_shift.specs.Shift.{negated-csr-shift}
+use Rattle.csr_shift.specs.Shift.{negated_csr_shift}
 use Rattle.csr_shift.specs.declared.Shift.{Shift}
 use Rattle.csr_shift.specs.declared.Shift.TheVariants.{Unshifted, By}
-use Rattle.phi_shift.specs.Plan.{argument, shifted-bound, open-Plan}
-use Rattle.krylov_job.specs.KrylovCall.{phi-combination-krylov, open-KrylovCall}
+use Rattle.phi_shift.specs.Plan.{argument, shifted_bound, open_plan}
+use Rattle.krylov_job.specs.KrylovCall.{phi_combination_krylov, open_krylov_call}
 use Rattle.krylov_job.specs.declared.KrylovPhiOptions.{KrylovPhiOptions}
 use Rattle.krylov_job.specs.declared.KrylovAnswer.{KrylovAnswer}
 use Rattle.krylov_job.specs.declared.KrylovAnswer.TheVariants.{Refusal, Result}
@@ -28,26 +28,26 @@ unfoldable ratio : ℕ → ℕ → Float
 ratio a b = round binary64 false a b
 
 -- the shift and the shifted norm; nothing without a shift
-abbrev shift-and-norm : Shift → List Float
-shift-and-norm Unshifted = []
-shift-and-norm (By g norm) = g ∷ norm ∷ []
+abbrev shift_and_norm : Shift → List Float
+shift_and_norm Unshifted = []
+shift_and_norm (By g norm) = g ∷ norm ∷ []
 
 -- the argument of the shifted plan; nothing without a shift
-abbrev shifted-argument : Float → Shift → List Float
-shifted-argument tau Unshifted = []
-shifted-argument tau (By g norm) = shifted-bound tau (tau ⊗ g) norm ⊗ 2f ∷ []
+abbrev shifted_argument : Float → Shift → List Float
+shifted_argument tau Unshifted = []
+shifted_argument tau (By g norm) = shifted_bound tau (tau ⊗ g) norm ⊗ 2f ∷ []
 
 -- (a b; b a)
-abbrev two-rows : Float → Float → Csr
-two-rows a b = csr 2 (0 ∷ 2 ∷ 4 ∷ []) (0 ∷ 1 ∷ 0 ∷ 1 ∷ []) (a ∷ b ∷ b ∷ a ∷ [])
+abbrev two_rows : Float → Float → Csr
+two_rows a b = csr 2 (0 ∷ 2 ∷ 4 ∷ []) (0 ∷ 1 ∷ 0 ∷ 1 ∷ []) (a ∷ b ∷ b ∷ a ∷ [])
 
 -- (2 -1; -1 2)
 abbrev laplace : Csr
-laplace = two-rows 2f (neg 1f)
+laplace = two_rows 2f (neg 1f)
 
 -- (0 1; 1 0)
 abbrev exchange : Csr
-exchange = two-rows +0 1f
+exchange = two_rows +0 1f
 
 -- one row with the entry 2
 abbrev two : Csr
@@ -77,15 +77,15 @@ data Job : Type 0 where
   Krylov : Csr → Float → ℕ → List Float → KrylovPhiOptions → Job
 
 unfoldable answer : Job → List Float
-answer (Eta x) = (eta-scaling x).eta ∷ (eta-scaling x).inv ∷ []
+answer (Eta x) = (eta_scaling x).eta ∷ (eta_scaling x).inv ∷ []
 answer (Round2 x) = round2 x ∷ []
 answer (Root t q) = root t q ∷ []
 answer (Dot x y) = dot x y ∷ []
-answer (Product a mass x) = apply-generator (quotients a mass) x
-answer (Shifts q) = shift-and-norm (negated-csr-shift q (row-sum-norm q))
-answer (Arguments tau q) = argument tau (row-sum-norm q) ∷ shifted-argument tau (negated-csr-shift q (row-sum-norm q))
+answer (Product a mass x) = apply_generator (quotients a mass) x
+answer (Shifts q) = shift_and_norm (negated_csr_shift q (row_sum_norm q))
+answer (Arguments tau q) = argument tau (row_sum_norm q) ∷ shifted_argument tau (negated_csr_shift q (row_sum_norm q))
 answer (Krylov a tau count w o) =
-    let c = phi-combination-krylov (forward a none) tau count w o (replicate a.n (nat 7)) (replicate 100 (nat 9)) in
+    let c = phi_combination_krylov (forward a none) tau count w o (replicate a.n (nat 7)) (replicate 100 (nat 9)) in
     told c.answer ++ c.output
 
 record Case : Type 0 where
@@ -115,5 +115,5 @@ table =
     ∷ []
 
 starred : map (λ (c : Case). answer c.job) table ≡ map (λ (c : Case). c.is) table
-unfolding table answer ratio open-Pow2 open-Power open-Rounded open-Dot open-Mass open-Plan open-KrylovCall
+unfolding table answer ratio open_pow2 open_power open_rounded open_dot open_mass open_plan open_krylov_call
 starred = refl

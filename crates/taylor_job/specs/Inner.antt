@@ -3,15 +3,15 @@ use Rattle.std.specs.Prelude.{Bool, List, ◌≡◌, ℕ, ◌+◌, ◌*◌, ◌�
 use Rattle.general_operator.specs.Csr.{Csr, csr}
 use Rattle.generator_action.specs.Mass.{given}
 use Rattle.generator_action.specs.Known.{Passed}
-use Rattle.csr_shift.specs.Shift.{negated-csr-shift}
-use Rattle.expmv.specs.Select.{select-s-m}
+use Rattle.csr_shift.specs.Shift.{negated_csr_shift}
+use Rattle.expmv.specs.Select.{select_s_m}
 use Rattle.expmv.specs.declared.Selected.TheVariants.{Row}
 use Rattle.phi_action_helpers.specs.Augmented.{Augmented, augmented}
 use Rattle.phi_action_helpers.specs.declared.Layout.{Layout}
 use Rattle.phi_action_helpers.specs.declared.SweepPlan.{SweepPlan}
 use Rattle.phi_shift.specs.Plan.{argument, with_shift}
 use Rattle.combination.specs.Call.{Call, ends, cleared}
-use Rattle.combination.specs.Checks.{taylor-need}
+use Rattle.combination.specs.Checks.{taylor_need}
 use Rattle.taylor_schedule.specs.declared.Job.{Job}
 use Rattle.taylor_job.specs.Calls.{Fields, report}
 use Rattle.taylor_job.specs.declared.TaylorAnswer.{TaylorAnswer}
@@ -25,17 +25,17 @@ layout n d mass = record { n = n; d = d; w = n + d; av = 2 * (n + d); q = 3 * n 
 pub record Allowed (starts cols : List ℕ) (vals mass work : List Float) (j : Job) : Type 0 where
   pub passed : Passed (csr j.g.n starts cols vals) (given j.g.with_mass mass) j.g
   pub short : j.d ≤ 3
-  pub needed : j.need ≡ taylor-need j.g.n j.d j.g.stored
+  pub needed : j.need ≡ taylor_need j.g.n j.d j.g.stored
   pub enough : j.need ≤ length work
-  pub row : select-s-m j.cap (argument j.tau j.g.norm) ≡ Row j.s j.m
+  pub row : select_s_m j.cap (argument j.tau j.g.norm) ≡ Row j.s j.m
 
 -- the plan from the row that the checks found
-abbrev pub plan-by : Job → Csr → SweepPlan
-plan-by j q = with_shift j.cap j.tau j.s j.m (negated-csr-shift q j.g.norm)
+abbrev pub plan_by : Job → Csr → SweepPlan
+plan_by j q = with_shift j.cap j.tau j.s j.m (negated_csr_shift q j.g.norm)
 
-abbrev pub operator-by : Job → Csr → List Float → Augmented
-operator-by j q vectors = augmented q j.d vectors j.b.places j.b.gains j.b.count
+abbrev pub operator_by : Job → Csr → List Float → Augmented
+operator_by j q vectors = augmented q j.d vectors j.b.places j.b.gains j.b.count
 
 -- how it ends: the report, the fields, and what was needed cleared
-abbrev pub job-end : Job → Csr → (SweepPlan → Fields) → List Float → Call TaylorAnswer
-job-end j q run memory = ends (report (plan-by j q) (run (plan-by j q)).applied) (run (plan-by j q)).fields (cleared j.need memory)
+abbrev pub job_end : Job → Csr → (SweepPlan → Fields) → List Float → Call TaylorAnswer
+job_end j q run memory = ends (report (plan_by j q) (run (plan_by j q)).applied) (run (plan_by j q)).fields (cleared j.need memory)

@@ -6,12 +6,12 @@ ghost use Rattle.doubles.specs.F64.{+0};
 ghost use Rattle.checks.specs.First.{first};
 ghost use Rattle.general_operator.specs.Csr.{csr, Valid};
 ghost use Rattle.generator_action.specs.Mass.{given, stored};
-ghost use Rattle.csr_shift.specs.Shift.{negated-csr-shift};
-ghost use Rattle.phi_action_helpers.specs.Laid.{matrix-at, operator-at, Ready, Lined};
+ghost use Rattle.csr_shift.specs.Shift.{negated_csr_shift};
+ghost use Rattle.phi_action_helpers.specs.Laid.{matrix_at, operator_at, Ready, Lined};
 ghost use Rattle.combination.specs.Call.{ends, cleared};
-ghost use Rattle.taylor_schedule.specs.Inner.{Coupled, matrix-of};
-ghost use Rattle.taylor_job.specs.Inner.{layout, plan-by, operator-by, job-end, Allowed};
-ghost use Rattle.taylor_job.specs.Calls.{report, swept-fields};
+ghost use Rattle.taylor_schedule.specs.Inner.{Coupled, matrix_of};
+ghost use Rattle.taylor_job.specs.Inner.{layout, plan_by, operator_by, job_end, Allowed};
+ghost use Rattle.taylor_job.specs.Calls.{report, swept_fields};
 
 use csr_shift::Shift;
 use phi_action_helpers::{Layout, SweepArgs, SweepPlan};
@@ -56,9 +56,9 @@ pub fn shift_at(
     l: Layout,
     norm: f64,
 ) -> Shift
-    requires valid { Valid (matrix-at l starts.now cols.now vals.now work.now) }
+    requires valid { Valid (matrix_at l starts.now cols.now vals.now work.now) }
     requires vals_in_bounds { l.mass ≡ true → l.q + length vals.now ≤ length work.now }
-    ensures { result ≡ negated-csr-shift (matrix-at l starts.now cols.now vals.now work.now) norm }
+    ensures { result ≡ negated_csr_shift (matrix_at l starts.now cols.now vals.now work.now) norm }
 {
     let n = l.n;
     if l.mass {
@@ -79,7 +79,7 @@ pub fn prepare(
     j: Job,
 ) -> SweepPlan
     requires { Allowed starts.now cols.now vals.now mass.now work.old j }
-    ensures value { result ≡ plan-by j (matrix-of j.g starts.now cols.now vals.now mass.now) }
+    ensures value { result ≡ plan_by j (matrix_of j.g starts.now cols.now vals.now mass.now) }
     ensures work_after { work.new ≡ splice (layout j.g.n j.d j.g.with_mass).q (stored (csr j.g.n starts.now cols.now vals.now) (given j.g.with_mass mass.now)) work.old }
 {
     let g = j.g;
@@ -103,8 +103,8 @@ pub fn swept_out(
 ) -> u64
     requires ready { Ready x.l x.b starts.now cols.now vals.now vectors.now work.old }
     requires lined { Lined x.l × (x.p.m ≤ 30) × (place + x.l.n ≤ length out.old) }
-    ensures value { result ≡ (swept-fields (operator-at x.l x.b starts.now cols.now vals.now vectors.now work.old) x.tau (window 0 (x.l.n + x.l.d) work.old) x.p).applied }
-    ensures out_after { out.new ≡ splice place (swept-fields (operator-at x.l x.b starts.now cols.now vals.now vectors.now work.old) x.tau (window 0 (x.l.n + x.l.d) work.old) x.p).fields out.old }
+    ensures value { result ≡ (swept_fields (operator_at x.l x.b starts.now cols.now vals.now vectors.now work.old) x.tau (window 0 (x.l.n + x.l.d) work.old) x.p).applied }
+    ensures out_after { out.new ≡ splice place (swept_fields (operator_at x.l x.b starts.now cols.now vals.now vectors.now work.old) x.tau (window 0 (x.l.n + x.l.d) work.old) x.p).fields out.old }
     ensures kept { Kept 0 x.l.q +0 work.old work.new }
 {
     let n = x.l.n;
@@ -141,7 +141,7 @@ pub fn run_job(
 ) -> TaylorAnswer
     requires allowed { Allowed starts.now cols.now vals.now mass.now work.old j }
     requires coupled { Coupled j.b j.g.n j.d (length vectors.now) × (length out.old ≡ j.g.n) }
-    ensures { ends result out.new work.new ≡ job-end j (matrix-of j.g starts.now cols.now vals.now mass.now) (swept-fields (operator-by j (matrix-of j.g starts.now cols.now vals.now mass.now) vectors.now) j.tau (window 0 (j.g.n + j.d) work.old)) work.old }
+    ensures { ends result out.new work.new ≡ job_end j (matrix_of j.g starts.now cols.now vals.now mass.now) (swept_fields (operator_by j (matrix_of j.g starts.now cols.now vals.now mass.now) vectors.now) j.tau (window 0 (j.g.n + j.d) work.old)) work.old }
 {
     let g = j.g;
     let l = layout(g.n, j.d, g.with_mass);

@@ -7,12 +7,12 @@ ghost use Rattle.general_operator.specs.Csr.{csr};
 ghost use Rattle.generator_action.specs.Mass.{given, stored};
 ghost use Rattle.generator_action.specs.Generator.{forward};
 ghost use Rattle.generator_action.specs.Known.{Passed};
-ghost use Rattle.csr_shift.specs.Shift.{negated-csr-shift};
+ghost use Rattle.csr_shift.specs.Shift.{negated_csr_shift};
 ghost use Rattle.phi_shift.specs.Plan.{with_shift};
 ghost use Rattle.combination.specs.Call.{ends};
-ghost use Rattle.taylor_schedule.specs.Inner.{matrix-of, after-checks};
-ghost use Rattle.taylor_plan.specs.Inner.{quotients-alone, admitted};
-ghost use Rattle.taylor_plan.specs.TaylorPlan.{taylor-plan};
+ghost use Rattle.taylor_schedule.specs.Inner.{matrix_of, after_checks};
+ghost use Rattle.taylor_plan.specs.Inner.{quotients_alone, admitted};
+ghost use Rattle.taylor_plan.specs.TaylorPlan.{taylor_plan};
 
 use checks::Checked;
 use generator_action::{MatrixAnswer, Shape};
@@ -36,7 +36,7 @@ fn admit_plan(g: Shape, tau: f64, cap: u32, memory: usize) -> Schedule
 
 // The quotients stand at the front of the lent memory, and nothing behind them.
 fn quotients_alone(n: usize, mass: bool) -> Layout
-    ensures { result ≡ quotients-alone n mass }
+    ensures { result ≡ quotients_alone n mass }
 {
     Layout {
         n: n,
@@ -63,7 +63,7 @@ fn from_row(
 ) -> SweepPlan
     requires passed { Passed (csr g.n starts.now cols.now vals.now) (given g.with_mass mass.now) g }
     requires stored_in_bounds { g.stored ≤ length work.old }
-    ensures value { result ≡ with_shift cap tau s m (negated-csr-shift (matrix-of g starts.now cols.now vals.now mass.now) g.norm) }
+    ensures value { result ≡ with_shift cap tau s m (negated_csr_shift (matrix_of g starts.now cols.now vals.now mass.now) g.norm) }
     ensures work_after { work.new ≡ splice 0 (stored (csr g.n starts.now cols.now vals.now) (given g.with_mass mass.now)) work.old }
 {
     let l = quotients_alone(g.n, g.with_mass);
@@ -84,7 +84,7 @@ fn planned(
     work: &mut [f64],
 ) -> TaylorAnswer
     requires { Passed (csr g.n starts.now cols.now vals.now) (given g.with_mass mass.now) g }
-    ensures { (gs : List Check) → Sound ≡ first gs → ends result [] work.new ≡ taylor-plan (after-checks gs (csr g.n starts.now cols.now vals.now) (given g.with_mass mass.now) g) tau cap work.old }
+    ensures { (gs : List Check) → Sound ≡ first gs → ends result [] work.new ≡ taylor_plan (after_checks gs (csr g.n starts.now cols.now vals.now) (given g.with_mass mass.now) g) tau cap work.old }
 {
     let row = admit_plan(g, tau, cap, work.len());
     let checked = row.checked;
@@ -108,7 +108,7 @@ pub fn taylor_plan(
     cap: u32,
     work: &mut [f64],
 ) -> TaylorAnswer
-    ensures { ends result [] work.new ≡ taylor-plan (forward (csr n starts.now cols.now vals.now) (given with_mass mass.now)) tau cap work.old }
+    ensures { ends result [] work.new ≡ taylor_plan (forward (csr n starts.now cols.now vals.now) (given with_mass mass.now)) tau cap work.old }
 {
     let matrix = generator_checks::check_generator(n, starts, cols, vals, with_mass, mass);
     let MatrixAnswer::Norm(norm, _) = matrix else {

@@ -10,22 +10,22 @@ use lib.ListN.{length, get_or, replicate, set, length-replicate, length-append, 
 use lib.Ieee.{Float}
 use borrow.Author.Tests.{eqb-true, eqb-false, not-false, ltb-false, lt-ltb}
 use Rattle.lists.specs.Window.{window}
-use Rattle.lists.proofs.Bounds.{column-within}
+use Rattle.lists.proofs.Bounds.{column_within}
 use Rattle.lists.proofs.Loop.{get_d_tabulate}
-use Rattle.lists.proofs.Window.{length-window}
+use Rattle.lists.proofs.Window.{length_window}
 use Rattle.doubles.specs.F64.{+0}
 use Rattle.checks.specs.First.{Check, first}
-use Rattle.checks.proofs.First.{sound-cons, sound-append}
+use Rattle.checks.proofs.First.{sound_cons, sound_append}
 use Rattle.checks.specs.declared.Checked.{Checked}
 use Rattle.checks.specs.declared.Checked.TheVariants.{Sound}
-use Rattle.general_operator.proofs.Sound.{or-false}
-use Rattle.expmv.specs.Select.{select-s-m}
+use Rattle.general_operator.proofs.Sound.{or_false}
+use Rattle.expmv.specs.Select.{select_s_m}
 use Rattle.expmv.specs.declared.Selected.{Selected}
 use Rattle.expmv.specs.declared.Selected.TheVariants.{NoRow, Row}
 use Rattle.phi_shift.specs.Plan.{argument}
-use Rattle.combination.specs.Combination.{vector, eta-of, column-places, combination-start, init-aug-vector}
-use Rattle.combination.specs.Checks.{no_row, count-checks, index-checks, plan-checks, length-checks, finite-checks, magnitude-checks, schedule-checks, memory-checks, vector-checks-by, vector-checks, sweep-checks, job-checks}
-use Rattle.taylor_schedule.specs.Inner.{row-sweeps, row-degree, one-column, Coupled}
+use Rattle.combination.specs.Combination.{vector, eta_of, column_places, combination_start, init_aug_vector}
+use Rattle.combination.specs.Checks.{no_row, count_checks, index_checks, plan_checks, length_checks, finite_checks, magnitude_checks, schedule_checks, memory_checks, vector_checks_by, vector_checks, sweep_checks, job_checks}
+use Rattle.taylor_schedule.specs.Inner.{row_sweeps, row_degree, one_column, Coupled}
 
 -- ---- 12 to 17
 pub record Vectors (n count long output : ℕ) : Type 0 where
@@ -34,93 +34,93 @@ pub record Vectors (n count long output : ℕ) : Type 0 where
   pub out : output ≡ n
   pub flat : long ≡ count * n
 
-above-0 : (k : ℕ) → (k ≡ 0 → zero ≡ 1) → 1 ≤ k
-above-0 zero h = absurd (omega (arith, h refl))
-above-0 (suc k) h = omega arith
+above_0 : (k : ℕ) → (k ≡ 0 → zero ≡ 1) → 1 ≤ k
+above_0 zero h = absurd (omega (arith, h refl))
+above_0 (suc k) h = omega arith
 
-pub vectors-known : (n : ℕ) (ts : List Check) (count : ℕ) (w : List Float) (output : ℕ) {r : Checked} → r ≡ Sound → r ≡ first (vector-checks n ts count w output)
+pub vectors_known : (n : ℕ) (ts : List Check) (count : ℕ) (w : List Float) (output : ℕ) {r : Checked} → r ≡ Sound → r ≡ first (vector_checks n ts count w output)
     → Vectors n count (length w) output
-unfolding vector-checks vector-checks-by count-checks length-checks
-vectors-known n ts count w output e f =
-    let s = sound-append (count-checks count) _ (sym e ∙ f) in
-    let c = or-false (eqb count 0) (ltb 4 count) (sound-cons _ _ _ _ s.0).0 in
-    let t = sound-append ts _ s.1 in
-    let l = sound-append (length-checks output n (length w) (count * n)) (finite-checks w) t.1 in
-    let a = sound-cons _ _ _ _ l.0 in
-    let b = sound-cons _ _ _ _ a.1 in
+unfolding vector_checks vector_checks_by count_checks length_checks
+vectors_known n ts count w output e f =
+    let s = sound_append (count_checks count) _ (sym e ∙ f) in
+    let c = or_false (eqb count 0) (ltb 4 count) (sound_cons _ _ _ _ s.0).0 in
+    let t = sound_append ts _ s.1 in
+    let l = sound_append (length_checks output n (length w) (count * n)) (finite_checks w) t.1 in
+    let a = sound_cons _ _ _ _ l.0 in
+    let b = sound_cons _ _ _ _ a.1 in
     record {
-      some = above-0 count (λ z. absurd (eqb-false count 0 c.0 z));
+      some = above_0 count (λ z. absurd (eqb-false count 0 c.0 z));
       most = ltb-false 4 count c.1;
       out = eqb-true output n (not-false _ a.0);
       flat = eqb-true (length w) (count * n) (not-false _ b.0);
     }
 
 -- with nothing between 16 and 17
-pub of-one-slice : (n : ℕ) (ts : List Check) (count : ℕ) (w : List Float) (output : ℕ) {r : Checked}
-    → r ≡ first (vector-checks-by ts (length-checks output n (length w) (count * n) ++ []) count w)
-    → r ≡ first (vector-checks n ts count w output)
-unfolding vector-checks length-checks
-of-one-slice n ts count w output e = e
+pub of_one_slice : (n : ℕ) (ts : List Check) (count : ℕ) (w : List Float) (output : ℕ) {r : Checked}
+    → r ≡ first (vector_checks_by ts (length_checks output n (length w) (count * n) ++ []) count w)
+    → r ≡ first (vector_checks n ts count w output)
+unfolding vector_checks length_checks
+of_one_slice n ts count w output e = e
 
 -- d = count - 1: w_0 and the vectors from w_1 to w_d fill the slice
-vectors-fill : (count n : ℕ) → 1 ≤ count → (count - 1) * n + n ≡ count * n
-vectors-fill zero n h = absurd (omega arith)
-vectors-fill (suc d) n h = ap (λ (k : ℕ). k * n + n) (omega arith) ∙ sym (suc-mul d n)
+vectors_fill : (count n : ℕ) → 1 ≤ count → (count - 1) * n + n ≡ count * n
+vectors_fill zero n h = absurd (omega arith)
+vectors_fill (suc d) n h = ap (λ (k : ℕ). k * n + n) (omega arith) ∙ sym (suc-mul d n)
 
 module _ {n count long output : ℕ} (v : Vectors n count long output) where
-  pub further-within : (count - 1) * n ≤ long - n
-  further-within = omega (arith, vectors-fill count n v.some, v.flat)
+  pub further_within : (count - 1) * n ≤ long - n
+  further_within = omega (arith, vectors_fill count n v.some, v.flat)
 
-  pub first-within : n ≤ long
-  first-within = omega (arith, vectors-fill count n v.some, v.flat)
+  pub first_within : n ≤ long
+  first_within = omega (arith, vectors_fill count n v.some, v.flat)
 
 -- the columns lie in the slice
-columns-in : (n d long : ℕ) → d * n ≤ long → d ≤ 3 → (j : ℕ) → j < d → get_or (column-places n d) j 0 + n ≤ long
-unfolding column-places
-columns-in n d long h few j l =
-    let w = column-within (d - j - 1) d n (omega arith) in
+columns_in : (n d long : ℕ) → d * n ≤ long → d ≤ 3 → (j : ℕ) → j < d → get_or (column_places n d) j 0 + n ≤ long
+unfolding column_places
+columns_in n d long h few j l =
+    let w = column_within (d - j - 1) d n (omega arith) in
     rw (get_d_tabulate {A = ℕ} 3 _ j 0 (omega arith), lt-ltb j d l) (omega (arith, w))
 
-pub coupled-in : (n d long : ℕ) (gains : List Float) → d * n ≤ long → d ≤ 3 → Coupled (record { places = column-places n d; gains = gains; count = d }) n d long
-coupled-in n d long gains h few = record { few = few; chained = omega arith; short = few; columns = columns-in n d long h few }
+pub coupled_in : (n d long : ℕ) (gains : List Float) → d * n ≤ long → d ≤ 3 → Coupled (record { places = column_places n d; gains = gains; count = d }) n d long
+coupled_in n d long gains h few = record { few = few; chained = omega arith; short = few; columns = columns_in n d long h few }
 
-pub coupled-one : (n long : ℕ) (eta : Float) → long ≡ n → Coupled (one-column eta) n 3 long
-coupled-one n long eta e = record { few = omega arith; chained = omega arith; short = omega arith; columns = first-only }
+pub coupled_one : (n long : ℕ) (eta : Float) → long ≡ n → Coupled (one_column eta) n 3 long
+coupled_one n long eta e = record { few = omega arith; chained = omega arith; short = omega arith; columns = first_only }
   where
-    first-only : (j : ℕ) → j < 1 → get_or (one-column eta).places j 0 + n ≤ long
-    first-only zero h = omega arith
-    first-only (suc j) h = absurd (omega arith)
+    first_only : (j : ℕ) → j < 1 → get_or (one_column eta).places j 0 + n ≤ long
+    first_only zero h = omega arith
+    first_only (suc j) h = absurd (omega arith)
 
 -- ---- 24 to 26
-row_is : (r : Selected) → no_row r ≡ false → r ≡ Row (row-sweeps r) (row-degree r)
+row_is : (r : Selected) → no_row r ≡ false → r ≡ Row (row_sweeps r) (row_degree r)
 row_is NoRow h = cc
 row_is (Row s m) h = refl
 
 -- the schedule has a row, and the memory is long enough
 pub record Planned (tau : Float) (cap : ℕ) (norm : Float) (memory need : ℕ) : Type 0 where
-  pub row : select-s-m cap (argument tau norm) ≡ Row (row-sweeps (select-s-m cap (argument tau norm))) (row-degree (select-s-m cap (argument tau norm)))
+  pub row : select_s_m cap (argument tau norm) ≡ Row (row_sweeps (select_s_m cap (argument tau norm))) (row_degree (select_s_m cap (argument tau norm)))
   pub room : need ≤ memory
 
-pub enough-known : (memory need : ℕ) → Sound ≡ first (memory-checks memory need) → need ≤ memory
-unfolding memory-checks
-enough-known memory need e = ltb-false memory need (sound-cons _ _ _ _ e).0
+pub enough_known : (memory need : ℕ) → Sound ≡ first (memory_checks memory need) → need ≤ memory
+unfolding memory_checks
+enough_known memory need e = ltb-false memory need (sound_cons _ _ _ _ e).0
 
-pub planned-known : (norm tau : Float) (cap memory need : ℕ) → Sound ≡ first (schedule-checks cap norm tau ++ memory-checks memory need) → Planned tau cap norm memory need
-unfolding schedule-checks
-planned-known norm tau cap memory need e =
-    let t = sound-append (schedule-checks cap norm tau) (memory-checks memory need) e in
-    let a = sound-cons _ _ _ _ t.0 in
-    record { row = row_is _ (sound-cons _ _ _ _ a.1).0; room = enough-known memory need t.1 }
+pub planned_known : (norm tau : Float) (cap memory need : ℕ) → Sound ≡ first (schedule_checks cap norm tau ++ memory_checks memory need) → Planned tau cap norm memory need
+unfolding schedule_checks
+planned_known norm tau cap memory need e =
+    let t = sound_append (schedule_checks cap norm tau) (memory_checks memory need) e in
+    let a = sound_cons _ _ _ _ t.0 in
+    record { row = row_is _ (sound_cons _ _ _ _ a.1).0; room = enough_known memory need t.1 }
 
 -- ---- 21, 22 and 24 to 26 of a combination
-pub sweeps-known : (n : ℕ) (tau : Float) (cap d : ℕ) (f : List Float) (norm : Float) (memory need : ℕ) → Sound ≡ first (sweep-checks n tau cap d f norm memory need) → Planned tau cap norm memory need
-unfolding sweep-checks
-sweeps-known n tau cap d f norm memory need e = planned-known norm tau cap memory need (sound-append (magnitude-checks n f tau d (eta-of n f tau d).eta) _ e).1
+pub sweeps_known : (n : ℕ) (tau : Float) (cap d : ℕ) (f : List Float) (norm : Float) (memory need : ℕ) → Sound ≡ first (sweep_checks n tau cap d f norm memory need) → Planned tau cap norm memory need
+unfolding sweep_checks
+sweeps_known n tau cap d f norm memory need e = planned_known norm tau cap memory need (sound_append (magnitude_checks n f tau d (eta_of n f tau d).eta) _ e).1
 
 -- ---- 13 to 17, 33 and 24 to 26 of an action
-pub index-known : (k : ℕ) {r : Checked} → r ≡ Sound → r ≡ first (index-checks k) → k ≤ 3
-unfolding index-checks
-index-known k e f = ltb-false 3 k (sound-cons _ _ _ _ (sym e ∙ f)).0
+pub index_known : (k : ℕ) {r : Checked} → r ≡ Sound → r ≡ first (index_checks k) → k ≤ 3
+unfolding index_checks
+index_known k e f = ltb-false 3 k (sound_cons _ _ _ _ (sym e ∙ f)).0
 
 pub record Action (k : ℕ) (tau : Float) (cap : ℕ) (norm : Float) (output wanted long n memory need : ℕ) : Type 0 where
   pub index : k ≤ 3
@@ -128,33 +128,33 @@ pub record Action (k : ℕ) (tau : Float) (cap : ℕ) (norm : Float) (output wan
   pub whole : long ≡ n
   pub planned : Planned tau cap norm memory need
 
-pub action-known : (k : ℕ) (tau : Float) (cap : ℕ) (norm : Float) (output wanted : ℕ) (v : List Float) (n memory need : ℕ) → Sound ≡ first (job-checks k tau cap output wanted v n norm memory need)
+pub action_known : (k : ℕ) (tau : Float) (cap : ℕ) (norm : Float) (output wanted : ℕ) (v : List Float) (n memory need : ℕ) → Sound ≡ first (job_checks k tau cap output wanted v n norm memory need)
     → Action k tau cap norm output wanted (length v) n memory need
-unfolding job-checks length-checks
-action-known k tau cap norm output wanted v n memory need e =
-    let i = sound-append (index-checks k) _ e in
-    let t = sound-append (plan-checks tau cap) _ i.1 in
-    let l = sound-append (length-checks output wanted (length v) n) (finite-checks v ++ (schedule-checks cap norm tau ++ memory-checks memory need)) t.1 in
-    let f = sound-append (finite-checks v) (schedule-checks cap norm tau ++ memory-checks memory need) l.1 in
-    let a = sound-cons _ _ _ _ l.0 in
-    let b = sound-cons _ _ _ _ a.1 in
+unfolding job_checks length_checks
+action_known k tau cap norm output wanted v n memory need e =
+    let i = sound_append (index_checks k) _ e in
+    let t = sound_append (plan_checks tau cap) _ i.1 in
+    let l = sound_append (length_checks output wanted (length v) n) (finite_checks v ++ (schedule_checks cap norm tau ++ memory_checks memory need)) t.1 in
+    let f = sound_append (finite_checks v) (schedule_checks cap norm tau ++ memory_checks memory need) l.1 in
+    let a = sound_cons _ _ _ _ l.0 in
+    let b = sound_cons _ _ _ _ a.1 in
     record {
-      index = index-known k refl i.0;
+      index = index_known k refl i.0;
       out = eqb-true output wanted (not-false _ a.0);
       whole = eqb-true (length v) n (not-false _ b.0);
-      planned = planned-known norm tau cap memory need f.1;
+      planned = planned_known norm tau cap memory need f.1;
     }
 
 -- ---- the first field
-pub length-start : (n : ℕ) (w : List Float) (d : ℕ) (inv : Float) → n ≤ length w → length (combination-start n w d inv) ≡ n + d
-unfolding combination-start vector
-length-start n w zero inv h = length-window (0 * n) n w (rw (zero-mul n) (omega arith)) ∙ omega arith
-length-start n w (suc d) inv h =
-    let v = length-window (0 * n) n w (rw (zero-mul n) (omega arith)) in
+pub length_start : (n : ℕ) (w : List Float) (d : ℕ) (inv : Float) → n ≤ length w → length (combination_start n w d inv) ≡ n + d
+unfolding combination_start vector
+length_start n w zero inv h = length_window (0 * n) n w (rw (zero-mul n) (omega arith)) ∙ omega arith
+length_start n w (suc d) inv h =
+    let v = length_window (0 * n) n w (rw (zero-mul n) (omega arith)) in
     let z = length-replicate d +0 in
     length-append (window (0 * n) n w) _ ∙ rw (v, length-append (replicate d +0) (inv ∷ []), z) (omega arith)
 
-pub length-init : (n : ℕ) (v : List Float) (inv : Float) (k : ℕ) → length v ≡ n → length (init-aug-vector n v inv k) ≡ n + 3
-unfolding init-aug-vector
-length-init n v inv zero e = length-append v (replicate 3 +0) ∙ rw (e, length-replicate 3 +0) refl
-length-init n v inv (suc k) e = length-append (replicate n +0) (set (replicate 3 +0) k inv) ∙ rw (length-replicate n +0, length-set (replicate 3 +0) k inv, length-replicate 3 +0) refl
+pub length_init : (n : ℕ) (v : List Float) (inv : Float) (k : ℕ) → length v ≡ n → length (init_aug_vector n v inv k) ≡ n + 3
+unfolding init_aug_vector
+length_init n v inv zero e = length-append v (replicate 3 +0) ∙ rw (e, length-replicate 3 +0) refl
+length_init n v inv (suc k) e = length-append (replicate n +0) (set (replicate 3 +0) k inv) ∙ rw (length-replicate n +0, length-set (replicate 3 +0) k inv, length-replicate 3 +0) refl

@@ -6,36 +6,36 @@ use Rattle.general_operator.specs.Csr.{Csr, csr}
 use Rattle.generator_action.specs.Mass.{Mass, given, quotients}
 use Rattle.generator_action.specs.Generator.{Generator}
 use Rattle.generator_action.specs.declared.Shape.{Shape}
-use Rattle.pow2.specs.Pow2.{sup, eta-scaling}
-use Rattle.expmv.specs.Select.{select-s-m}
+use Rattle.pow2.specs.Pow2.{sup, eta_scaling}
+use Rattle.expmv.specs.Select.{select_s_m}
 use Rattle.expmv.specs.declared.Selected.{Selected}
 use Rattle.expmv.specs.declared.Selected.TheVariants.{NoRow, Row}
 use Rattle.phi_shift.specs.Plan.{argument}
 use Rattle.phi_action_helpers.specs.declared.Coupling.{Coupling}
-use Rattle.weighted_columns.specs.Inner.{coupling-of}
+use Rattle.weighted_columns.specs.Inner.{coupling_of}
 use Rattle.taylor_schedule.specs.declared.Schedule.{Schedule}
 use Rattle.taylor_schedule.specs.declared.Job.{Job}
-use Rattle.combination.specs.Combination.{eta-of}
-use Rattle.combination.specs.Checks.{schedule-checks, memory-checks, taylor-need, sweep-checks, job-checks}
+use Rattle.combination.specs.Combination.{eta_of}
+use Rattle.combination.specs.Checks.{schedule_checks, memory_checks, taylor_need, sweep_checks, job_checks}
 
 -- ---- 24 and 25
-abbrev pub argument-checks : Float → Bool → List Check
-argument-checks arg none = refuse 24 (not (is_finite arg)) arg ∷ refuse 25 none arg ∷ []
+abbrev pub argument_checks : Float → Bool → List Check
+argument_checks arg none = refuse 24 (not (is_finite arg)) arg ∷ refuse 25 none arg ∷ []
 
-abbrev pub row-sweeps : Selected → ℕ
-row-sweeps NoRow = 0
-row-sweeps (Row s m) = s
+abbrev pub row_sweeps : Selected → ℕ
+row_sweeps NoRow = 0
+row_sweeps (Row s m) = s
 
-abbrev pub row-degree : Selected → ℕ
-row-degree NoRow = 0
-row-degree (Row s m) = m
+abbrev pub row_degree : Selected → ℕ
+row_degree NoRow = 0
+row_degree (Row s m) = m
 
 abbrev pub schedule : ℕ → Float → Float → Schedule
-schedule m-max norm tau =
-    record { checked = first (schedule-checks m-max norm tau); s = row-sweeps (select-s-m m-max (argument tau norm)); m = row-degree (select-s-m m-max (argument tau norm)) }
+schedule m_max norm tau =
+    record { checked = first (schedule_checks m_max norm tau); s = row_sweeps (select_s_m m_max (argument tau norm)); m = row_degree (select_s_m m_max (argument tau norm)) }
 
-abbrev pub host-checks : Shape → Float → ℕ → ℕ → ℕ → List Check
-host-checks g tau cap d memory = schedule-checks cap g.norm tau ++ memory-checks memory (taylor-need g.n d g.stored)
+abbrev pub host_checks : Shape → Float → ℕ → ℕ → ℕ → List Check
+host_checks g tau cap d memory = schedule_checks cap g.norm tau ++ memory_checks memory (taylor_need g.n d g.stored)
 
 -- ---- 21, 22 and 24 to 26 of a combination, 13 to 17, 33 and 24 to 26 of an action: the answer, and what was found, of a generator with the numbers g
 abbrev pub job_of : Shape → Float → ℕ → ℕ → List Check → Float → Coupling → Job
@@ -46,24 +46,24 @@ job_of g tau cap d checks inv b =
       tau = tau;
       cap = cap;
       d = d;
-      need = taylor-need g.n d g.stored;
+      need = taylor_need g.n d g.stored;
       inv = inv;
       b = b;
       s = (schedule cap g.norm tau).s;
       m = (schedule cap g.norm tau).m;
     }
 
-abbrev pub combination-job : Shape → Float → ℕ → ℕ → List Float → ℕ → Job
-combination-job g tau cap d f memory =
-    job_of g tau cap d (sweep-checks g.n tau cap d f g.norm memory (taylor-need g.n d g.stored)) (eta-of g.n f tau d).inv (coupling-of g.n f tau d)
+abbrev pub combination_job : Shape → Float → ℕ → ℕ → List Float → ℕ → Job
+combination_job g tau cap d f memory =
+    job_of g tau cap d (sweep_checks g.n tau cap d f g.norm memory (taylor_need g.n d g.stored)) (eta_of g.n f tau d).inv (coupling_of g.n f tau d)
 
 -- an action has one column, v
-abbrev pub one-column : Float → Coupling
-one-column eta = record { places = 0 ∷ 0 ∷ 0 ∷ []; gains = eta ∷ 1f ∷ 1f ∷ []; count = 1 }
+abbrev pub one_column : Float → Coupling
+one_column eta = record { places = 0 ∷ 0 ∷ 0 ∷ []; gains = eta ∷ 1f ∷ 1f ∷ []; count = 1 }
 
-abbrev pub action-job : Shape → Float → ℕ → ℕ → List Float → ℕ → ℕ → ℕ → Job
-action-job g tau cap k v output wanted memory =
-    job_of g tau cap 3 (job-checks k tau cap output wanted v g.n g.norm memory (taylor-need g.n 3 g.stored)) (eta-scaling (sup v)).inv (one-column (eta-scaling (sup v)).eta)
+abbrev pub action_job : Shape → Float → ℕ → ℕ → List Float → ℕ → ℕ → ℕ → Job
+action_job g tau cap k v output wanted memory =
+    job_of g tau cap 3 (job_checks k tau cap output wanted v g.n g.norm memory (taylor_need g.n 3 g.stored)) (eta_scaling (sup v)).inv (one_column (eta_scaling (sup v)).eta)
 
 -- ---- what a run takes from them
 -- the columns of W lie within the vectors and the chain
@@ -74,9 +74,9 @@ pub record Coupled (b : Coupling) (n d vectors : ℕ) : Type 0 where
   pub columns : (j : ℕ) → j < b.count → get_or b.places j 0 + n ≤ vectors
 
 -- Q, of the numbers g
-abbrev pub matrix-of : Shape → List ℕ → List ℕ → List Float → List Float → Csr
-matrix-of g starts cols vals mass = quotients (csr g.n starts cols vals) (given g.with_mass mass)
+abbrev pub matrix_of : Shape → List ℕ → List ℕ → List Float → List Float → Csr
+matrix_of g starts cols vals mass = quotients (csr g.n starts cols vals) (given g.with_mass mass)
 
 -- a generator of some checks, all passed
-abbrev pub after-checks : List Check → Csr → Mass → Shape → Generator
-after-checks gs a mass g = record { checks = gs; matrix = quotients a mass; stored = g.stored }
+abbrev pub after_checks : List Check → Csr → Mass → Shape → Generator
+after_checks gs a mass g = record { checks = gs; matrix = quotients a mass; stored = g.stored }

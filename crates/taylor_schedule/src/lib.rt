@@ -1,8 +1,8 @@
 // A Taylor job as its checks leave it: the row of the schedule, and the need of memory.
 ghost use Rattle.std.specs.Prelude.{◌≡◌, List, ◌++◌, ◌+◌, ◌*◌, ◌≤◌};
 ghost use Rattle.checks.specs.First.{Check, first};
-ghost use Rattle.combination.specs.Checks.{taylor-need};
-ghost use Rattle.taylor_schedule.specs.Inner.{argument-checks, schedule, host-checks, job_of};
+ghost use Rattle.combination.specs.Checks.{taylor_need};
+ghost use Rattle.taylor_schedule.specs.Inner.{argument_checks, schedule, host_checks, job_of};
 
 use checks::Checked;
 use expmv::Selected;
@@ -11,7 +11,7 @@ use phi_action_helpers::Coupling;
 
 // 24 and 25. 23, a norm out of range, never occurs, and its number is not used again.
 fn check_argument(arg: f64, no_row: bool) -> Checked
-    ensures { result ≡ first (argument-checks arg no_row) }
+    ensures { result ≡ first (argument_checks arg no_row) }
 {
     if !float::is_finite(arg) {
         return Checked::Refused(24, arg);
@@ -67,7 +67,7 @@ pub struct Job {
 // What a job needs of the lent memory.
 fn taylor_need(n: usize, d: usize, stored: usize) -> usize
     requires { (n ≤ 1000000) × (d ≤ 3) × (stored ≤ 16777216) }
-    ensures { result ≡ taylor-need n d stored }
+    ensures { result ≡ taylor_need n d stored }
 {
     3 * n + 2 * d + stored
 }
@@ -84,7 +84,7 @@ pub fn plan_job(
     memory: usize,
 ) -> Job
     requires { (g.n ≤ 1000000) × (d ≤ 3) × (g.stored ≤ 16777216) }
-    ensures { (xs : List Check) → before ≡ first xs → result ≡ job_of g tau cap d (xs ++ host-checks g tau cap d memory) inv b }
+    ensures { (xs : List Check) → before ≡ first xs → result ≡ job_of g tau cap d (xs ++ host_checks g tau cap d memory) inv b }
 {
     let schedule = check_schedule(cap, g.norm, tau);
     let planned = schedule.checked;

@@ -5,8 +5,8 @@ ghost use Rattle.lists.specs.Window.{window, splice};
 ghost use Rattle.lists.specs.Frame.{Kept};
 ghost use Rattle.doubles.specs.F64.{if◌then◌else◌, +0};
 ghost use Rattle.vectors.specs.Vectors.{scale};
-ghost use Rattle.phi_action_helpers.specs.Sweeps.{shifted, horner-step, aug-horner-outer, rescale, sweep, run-sweeps};
-ghost use Rattle.phi_action_helpers.specs.Laid.{operator-at, Ready, Lined, added, horner-at, swept_at};
+ghost use Rattle.phi_action_helpers.specs.Sweeps.{shifted, horner_step, aug_horner_outer, rescale, sweep, run_sweeps};
+ghost use Rattle.phi_action_helpers.specs.Laid.{operator_at, Ready, Lined, added, horner_at, swept_at};
 
 use phi_action_helpers::{SweepArgs, SweepPlan};
 
@@ -21,7 +21,7 @@ fn terms(
 ) -> u64
     requires ready { Ready x.l x.b starts.now cols.now vals.now vectors.now work.old }
     requires lined { Lined x.l }
-    ensures work_after { horner-at x.l result work.new ≡ iter (horner-step (operator-at x.l x.b starts.now cols.now vals.now vectors.now work.old) x.tau x.p) x.p.m (horner-at x.l 0 work.old) }
+    ensures work_after { horner_at x.l result work.new ≡ iter (horner_step (operator_at x.l x.b starts.now cols.now vals.now vectors.now work.old) x.tau x.p) x.p.m (horner_at x.l 0 work.old) }
     ensures kept { Kept 0 x.l.q +0 work.old work.new }
 {
     let m = x.p.m;
@@ -43,7 +43,7 @@ fn aug_horner_outer(
 ) -> u64
     requires ready { Ready x.l x.b starts.now cols.now vals.now vectors.now work.old }
     requires lined { Lined x.l }
-    ensures work_after { horner-at x.l result work.new ≡ aug-horner-outer (operator-at x.l x.b starts.now cols.now vals.now vectors.now work.old) x.tau x.p (window 0 (x.l.n + x.l.d) work.old) }
+    ensures work_after { horner_at x.l result work.new ≡ aug_horner_outer (operator_at x.l x.b starts.now cols.now vals.now vectors.now work.old) x.tau x.p (window 0 (x.l.n + x.l.d) work.old) }
     ensures kept { Kept 0 x.l.q +0 work.old work.new }
 {
     let w = x.l.w;
@@ -76,7 +76,7 @@ fn sweep(
 ) -> u64
     requires ready { Ready x.l x.b starts.now cols.now vals.now vectors.now work.old }
     requires lined { Lined x.l × (f ≡ rescale x.p) × (applied + x.p.m ≤ 18446744073709551615) }
-    ensures work_after { swept_at x.l result work.new ≡ sweep (operator-at x.l x.b starts.now cols.now vals.now vectors.now work.old) x.tau x.p (swept_at x.l applied work.old) }
+    ensures work_after { swept_at x.l result work.new ≡ sweep (operator_at x.l x.b starts.now cols.now vals.now vectors.now work.old) x.tau x.p (swept_at x.l applied work.old) }
     ensures kept { Kept 0 x.l.q +0 work.old work.new }
 {
     let made = aug_horner_outer(starts, cols, vals, vectors, work, x);
@@ -97,7 +97,7 @@ pub fn run_sweeps(
 ) -> u64
     requires ready { Ready x.l x.b starts.now cols.now vals.now vectors.now work.old }
     requires lined { Lined x.l × (x.p.m ≤ 30) }
-    ensures work_after { swept_at x.l result work.new ≡ run-sweeps (operator-at x.l x.b starts.now cols.now vals.now vectors.now work.old) x.tau x.p (window 0 (x.l.n + x.l.d) work.old) }
+    ensures work_after { swept_at x.l result work.new ≡ run_sweeps (operator_at x.l x.b starts.now cols.now vals.now vectors.now work.old) x.tau x.p (window 0 (x.l.n + x.l.d) work.old) }
     ensures kept { Kept 0 x.l.q +0 work.old work.new }
 {
     let s = x.p.s;

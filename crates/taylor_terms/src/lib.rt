@@ -5,9 +5,9 @@ ghost use Rattle.lists.specs.Window.{window, splice};
 ghost use Rattle.lists.specs.Frame.{Kept};
 ghost use Rattle.lists.specs.Bounds.{Apart};
 ghost use Rattle.doubles.specs.F64.{◌⊕◌, ◌⊗◌, +0, at};
-ghost use Rattle.phi_action_helpers.specs.Augmented.{scalars, generator-term};
-ghost use Rattle.phi_action_helpers.specs.Sweeps.{shifted, scales, horner-step};
-ghost use Rattle.phi_action_helpers.specs.Laid.{operator-at, Ready, Lined, termed, added, horner-at};
+ghost use Rattle.phi_action_helpers.specs.Augmented.{scalars, generator_term};
+ghost use Rattle.phi_action_helpers.specs.Sweeps.{shifted, scales, horner_step};
+ghost use Rattle.phi_action_helpers.specs.Laid.{operator_at, Ready, Lined, termed, added, horner_at};
 
 use phi_action_helpers::{Coupling, Layout, Scales, SweepArgs, SweepPlan};
 
@@ -50,7 +50,7 @@ fn term_rows_in(
 )
     requires n_in_bounds { p + n ≤ length vectors.now }
     requires n_le_w { (n ≤ w) × (w + n ≤ av) × (av + n ≤ length work.old) }
-    ensures { work.new ≡ splice 0 (tabulate n (λ i. at work.old i ⊕ (generator-term k (at work.old (av + i)) (at work.old (w + i)) ⊕ s ⊗ at vectors.now (p + i)))) (splice w (tabulate n (λ i. generator-term k (at work.old (av + i)) (at work.old (w + i)) ⊕ s ⊗ at vectors.now (p + i))) work.old) }
+    ensures { work.new ≡ splice 0 (tabulate n (λ i. at work.old i ⊕ (generator_term k (at work.old (av + i)) (at work.old (w + i)) ⊕ s ⊗ at vectors.now (p + i)))) (splice w (tabulate n (λ i. generator_term k (at work.old (av + i)) (at work.old (w + i)) ⊕ s ⊗ at vectors.now (p + i))) work.old) }
 {
     for i in 0..n {
         let t = phi_action_helpers::generator_term(k, work[av + i], work[w + i])
@@ -74,7 +74,7 @@ fn single_term_in(
 )
     requires ready { Ready l b starts.now cols.now vals.now vectors.now work.old }
     requires lined { Lined l × (b.count ≡ 1) }
-    ensures { work.new ≡ added l (termed l (operator-at l b starts.now cols.now vals.now vectors.now work.old) k work.old) }
+    ensures { work.new ≡ added l (termed l (operator_at l b starts.now cols.now vals.now vectors.now work.old) k work.old) }
 {
     let n = l.n;
     let d = l.d;
@@ -106,7 +106,7 @@ fn term_in(
 )
     requires ready { Ready l b starts.now cols.now vals.now vectors.now work.old }
     requires lined { Lined l }
-    ensures { work.new ≡ added l (termed l (operator-at l b starts.now cols.now vals.now vectors.now work.old) k work.old) }
+    ensures { work.new ≡ added l (termed l (operator_at l b starts.now cols.now vals.now vectors.now work.old) k work.old) }
 {
     if b.count == 1 {
         single_term_in(starts, cols, vals, vectors, work, l, b, k);
@@ -129,7 +129,7 @@ pub fn horner_step(
 ) -> u64
     requires ready { Ready x.l x.b starts.now cols.now vals.now vectors.now work.old }
     requires lined { Lined x.l × (k < x.p.m) × (applied ≤ k) }
-    ensures work_after { horner-at x.l result work.new ≡ horner-step (operator-at x.l x.b starts.now cols.now vals.now vectors.now work.old) x.tau x.p k (horner-at x.l applied work.old) }
+    ensures work_after { horner_at x.l result work.new ≡ horner_step (operator_at x.l x.b starts.now cols.now vals.now vectors.now work.old) x.tau x.p k (horner_at x.l applied work.old) }
     ensures kept { Kept 0 x.l.q +0 work.old work.new }
 {
     let l = x.l;

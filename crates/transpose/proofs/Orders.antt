@@ -6,25 +6,25 @@ use Prim.Native.Nat.{ℕ}
 use lib.Ieee.{Float}
 use Rattle.checks.specs.First.{Check}
 use Rattle.general_operator.specs.Csr.{Csr}
-use Rattle.transpose.specs.Transpose.{Lent, before-transposing, transposed-checks, open-Transpose}
+use Rattle.transpose.specs.Transpose.{Lent, before_transposing, transposed_checks, open_transpose}
 
 abbrev numbers : List Check → List ℕ
 numbers cs = map (λ (c : Check). c.number) cs
 
 module _ (a : Csr) (mass : List Float) (l : Lent) where
-  checked : numbers (transposed-checks a none l) ≡ 1 ∷ 2 ∷ 3 ∷ 4 ∷ 5 ∷ 6 ∷ 9 ∷ 11 ∷ 30 ∷ 11 ∷ []
-  unfolding open-Transpose
+  checked : numbers (transposed_checks a none l) ≡ 1 ∷ 2 ∷ 3 ∷ 4 ∷ 5 ∷ 6 ∷ 9 ∷ 11 ∷ 30 ∷ 11 ∷ []
+  unfolding open_transpose
   checked = refl
 
-  checked-mass : numbers (transposed-checks a (some mass) l) ≡ 1 ∷ 2 ∷ 3 ∷ 4 ∷ 5 ∷ 6 ∷ 7 ∷ 8 ∷ 9 ∷ 10 ∷ 30 ∷ 11 ∷ []
-  unfolding open-Transpose
-  checked-mass = refl
+  checked_mass : numbers (transposed_checks a (some mass) l) ≡ 1 ∷ 2 ∷ 3 ∷ 4 ∷ 5 ∷ 6 ∷ 7 ∷ 8 ∷ 9 ∷ 10 ∷ 30 ∷ 11 ∷ []
+  unfolding open_transpose
+  checked_mass = refl
 
   -- where one of these refuses, the buffers are unchanged
-  unchanged : numbers (before-transposing a none l) ≡ 1 ∷ 2 ∷ 3 ∷ 4 ∷ 5 ∷ 6 ∷ 9 ∷ 11 ∷ 30 ∷ []
-  unfolding open-Transpose
+  unchanged : numbers (before_transposing a none l) ≡ 1 ∷ 2 ∷ 3 ∷ 4 ∷ 5 ∷ 6 ∷ 9 ∷ 11 ∷ 30 ∷ []
+  unfolding open_transpose
   unchanged = refl
 
-  unchanged-mass : numbers (before-transposing a (some mass) l) ≡ 1 ∷ 2 ∷ 3 ∷ 4 ∷ 5 ∷ 6 ∷ 7 ∷ 8 ∷ 9 ∷ 10 ∷ 30 ∷ []
-  unfolding open-Transpose
-  unchanged-mass = refl
+  unchanged_mass : numbers (before_transposing a (some mass) l) ≡ 1 ∷ 2 ∷ 3 ∷ 4 ∷ 5 ∷ 6 ∷ 7 ∷ 8 ∷ 9 ∷ 10 ∷ 30 ∷ []
+  unfolding open_transpose
+  unchanged_mass = refl

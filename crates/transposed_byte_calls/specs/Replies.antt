@@ -2,7 +2,7 @@
 -- then output, working memory and lent buffers are unchanged; else the call on the lists that its slices stand for. In the buffers, row starts and columns
 -- have four bytes, values eight. Buffers that are longer than needed, by however much, serve. Definitions only.
 use Rattle.std.specs.Prelude.{Bool, true, false, List, ℕ}
-use Rattle.le_bytes.specs.Bytes.{numbers_of, doubles-of, numbers-over, written_over}
+use Rattle.le_bytes.specs.Bytes.{numbers_of, doubles_of, numbers_over, written_over}
 use Rattle.transpose.specs.Transpose.{Buffers, buffers}
 use Rattle.transposed.specs.Transposed.{Lending}
 use Rattle.answers.specs.Told.{Numbers}
@@ -19,11 +19,11 @@ lent starts columns values = record { starts = starts; columns = columns; values
 
 -- the lists that they stand for
 abbrev pub unpacked : Lent → Buffers
-unpacked l = buffers (numbers_of l.starts) (numbers_of l.columns) (doubles-of l.values)
+unpacked l = buffers (numbers_of l.starts) (numbers_of l.columns) (doubles_of l.values)
 
 -- buffers written over the bytes handed in
 abbrev pub packed : Buffers → Lent → Lent
-packed b l = lent (numbers-over b.starts l.starts) (numbers-over b.columns l.columns) (written_over b.values l.values)
+packed b l = lent (numbers_over b.starts l.starts) (numbers_over b.columns l.columns) (written_over b.values l.values)
 
 -- the numbers told, and the bytes of output, working memory and buffers
 pub record Reply : Type 0 where
@@ -49,12 +49,12 @@ pub record MatrixReply : Type 0 where
   pub told : Numbers
   pub buffers : Lent
 
-abbrev pub matrix-replies : Numbers → Lent → MatrixReply
-matrix-replies t l = record { told = t; buffers = l }
+abbrev pub matrix_replies : Numbers → Lent → MatrixReply
+matrix_replies t l = record { told = t; buffers = l }
 
-abbrev pub matrix-packs : MatrixTold → Lent → MatrixReply
-matrix-packs t l = matrix-replies t.told (packed t.buffers l)
+abbrev pub matrix_packs : MatrixTold → Lent → MatrixReply
+matrix_packs t l = matrix_replies t.told (packed t.buffers l)
 
-unfoldable pub matrix-replied : Bool → MatrixReply → MatrixTold → MatrixReply
-matrix-replied true unchanged t = unchanged
-matrix-replied false unchanged t = matrix-packs t unchanged.buffers
+unfoldable pub matrix_replied : Bool → MatrixReply → MatrixTold → MatrixReply
+matrix_replied true unchanged t = unchanged
+matrix_replied false unchanged t = matrix_packs t unchanged.buffers

@@ -5,11 +5,11 @@ ghost use Rattle.generator_action.specs.Mass.{given};
 ghost use Rattle.combination.specs.Call.{ends};
 ghost use Rattle.transpose.specs.Transpose.{buffers};
 ghost use Rattle.transposed.specs.Transposed.{lends};
-ghost use Rattle.le_bytes.specs.Bytes.{numbers_of, doubles-of};
-ghost use Rattle.answers.specs.Told.{matrix-numbers};
+ghost use Rattle.le_bytes.specs.Bytes.{numbers_of, doubles_of};
+ghost use Rattle.answers.specs.Told.{matrix_numbers};
 ghost use Rattle.byte_calls.specs.Inner.{told};
-ghost use Rattle.transposed_byte_calls.specs.Replies.{lent, unpacked, replies, packs, matrix-replies, matrix-packs};
-ghost use Rattle.transposed_byte_calls.specs.Inner.{called-transposed, checked-transposed};
+ghost use Rattle.transposed_byte_calls.specs.Replies.{lent, unpacked, replies, packs, matrix_replies, matrix_packs};
+ghost use Rattle.transposed_byte_calls.specs.Inner.{called_transposed, checked_transposed};
 
 use byte_calls::{PhiCall, Told};
 use generator_action::MatrixAnswer;
@@ -32,7 +32,7 @@ fn solve(
     out: &mut [f64],
     work: &mut [f64],
 ) -> Told
-    ensures { lends (ends (told call result) out.new work.new) (buffers t_starts.new t_cols.new t_vals.new) ≡ called-transposed call (csr n starts.now cols.now vals.now) (given with_mass mass.now) (buffers t_starts.old t_cols.old t_vals.old) tau k v.now out.old work.old }
+    ensures { lends (ends (told call result) out.new work.new) (buffers t_starts.new t_cols.new t_vals.new) ≡ called_transposed call (csr n starts.now cols.now vals.now) (given with_mass mass.now) (buffers t_starts.old t_cols.old t_vals.old) tau k v.now out.old work.old }
 {
     match call {
         PhiCall::Combination(degree) => byte_calls::of_taylor(
@@ -101,7 +101,7 @@ fn run(
     work_array: &mut [f64],
 ) -> Told
     requires { (4 * length starts_array.old ≤ length t_starts.old) × (4 * length cols_array.old ≤ length t_cols.old) × (8 * length vals_array.old ≤ length t_vals.old) × (8 * length out_array.old ≤ length out.old) × (8 * length work_array.old ≤ length work.old) }
-    ensures { replies (told call result) out.new work.new (lent t_starts.new t_cols.new t_vals.new) ≡ packs (called-transposed call (csr n starts.now cols.now vals.now) (given with_mass mass.now) (buffers starts_array.old cols_array.old vals_array.old) tau k v.now out_array.old work_array.old) out.old work.old (lent t_starts.old t_cols.old t_vals.old) }
+    ensures { replies (told call result) out.new work.new (lent t_starts.new t_cols.new t_vals.new) ≡ packs (called_transposed call (csr n starts.now cols.now vals.now) (given with_mass mass.now) (buffers starts_array.old cols_array.old vals_array.old) tau k v.now out_array.old work_array.old) out.old work.old (lent t_starts.old t_cols.old t_vals.old) }
 {
     let t = solve(
         call,
@@ -147,7 +147,7 @@ fn in_lent_arrays(
     work: &mut [u8],
 ) -> Told
     requires { (length t_starts.old / 4 ≤ 512) × (length t_cols.old / 4 ≤ 512) × (length t_vals.old / 8 ≤ 512) × (length out.old / 8 ≤ 512) × (length work.old / 8 ≤ 4096) }
-    ensures { replies (told call result) out.new work.new (lent t_starts.new t_cols.new t_vals.new) ≡ packs (called-transposed call (csr n starts.now cols.now vals.now) (given with_mass mass.now) (unpacked (lent t_starts.old t_cols.old t_vals.old)) tau k v.now (doubles-of out.old) (doubles-of work.old)) out.old work.old (lent t_starts.old t_cols.old t_vals.old) }
+    ensures { replies (told call result) out.new work.new (lent t_starts.new t_cols.new t_vals.new) ≡ packs (called_transposed call (csr n starts.now cols.now vals.now) (given with_mass mass.now) (unpacked (lent t_starts.old t_cols.old t_vals.old)) tau k v.now (doubles_of out.old) (doubles_of work.old)) out.old work.old (lent t_starts.old t_cols.old t_vals.old) }
 {
     let mut starts_array = byte_arrays::numbers_in(t_starts);
     let mut cols_array = byte_arrays::numbers_in(t_cols);
@@ -203,7 +203,7 @@ pub fn in_arrays(
 ) -> Told
     requires starts_len_bound { (length starts.now / 4 ≤ 512) × (length cols.now / 4 ≤ 513) × (length vals.now / 8 ≤ 512) × (length mass.now / 8 ≤ 512) × (length v.now / 8 ≤ 512) }
     requires t_starts_len_bound { (length t_starts.old / 4 ≤ 512) × (length t_cols.old / 4 ≤ 512) × (length t_vals.old / 8 ≤ 512) × (length out.old / 8 ≤ 512) × (length work.old / 8 ≤ 4096) }
-    ensures { replies (told call result) out.new work.new (lent t_starts.new t_cols.new t_vals.new) ≡ packs (called-transposed call (csr n (numbers_of starts.now) (numbers_of cols.now) (doubles-of vals.now)) (given with_mass (doubles-of mass.now)) (unpacked (lent t_starts.old t_cols.old t_vals.old)) tau k (doubles-of v.now) (doubles-of out.old) (doubles-of work.old)) out.old work.old (lent t_starts.old t_cols.old t_vals.old) }
+    ensures { replies (told call result) out.new work.new (lent t_starts.new t_cols.new t_vals.new) ≡ packs (called_transposed call (csr n (numbers_of starts.now) (numbers_of cols.now) (doubles_of vals.now)) (given with_mass (doubles_of mass.now)) (unpacked (lent t_starts.old t_cols.old t_vals.old)) tau k (doubles_of v.now) (doubles_of out.old) (doubles_of work.old)) out.old work.old (lent t_starts.old t_cols.old t_vals.old) }
 {
     let starts_array = byte_arrays::numbers_in(starts);
     let cols_array = byte_arrays::numbers_in(cols);
@@ -250,7 +250,7 @@ fn run_check(
     vals_array: &mut [f64],
 ) -> MatrixAnswer
     requires { (4 * length starts_array.old ≤ length t_starts.old) × (4 * length cols_array.old ≤ length t_cols.old) × (8 * length vals_array.old ≤ length t_vals.old) }
-    ensures { matrix-replies (matrix-numbers result) (lent t_starts.new t_cols.new t_vals.new) ≡ matrix-packs (checked-transposed (csr n starts.now cols.now vals.now) (given with_mass mass.now) (buffers starts_array.old cols_array.old vals_array.old)) (lent t_starts.old t_cols.old t_vals.old) }
+    ensures { matrix_replies (matrix_numbers result) (lent t_starts.new t_cols.new t_vals.new) ≡ matrix_packs (checked_transposed (csr n starts.now cols.now vals.now) (given with_mass mass.now) (buffers starts_array.old cols_array.old vals_array.old)) (lent t_starts.old t_cols.old t_vals.old) }
 {
     let answer = transposed_checks::check_transposed(
         n,
@@ -282,7 +282,7 @@ pub fn check_in_arrays(
     t_vals: &mut [u8],
 ) -> MatrixAnswer
     requires { (length starts.now / 4 ≤ 512) × (length cols.now / 4 ≤ 513) × (length vals.now / 8 ≤ 512) × (length mass.now / 8 ≤ 512) × (length t_starts.old / 4 ≤ 512) × (length t_cols.old / 4 ≤ 512) × (length t_vals.old / 8 ≤ 512) }
-    ensures { matrix-replies (matrix-numbers result) (lent t_starts.new t_cols.new t_vals.new) ≡ matrix-packs (checked-transposed (csr n (numbers_of starts.now) (numbers_of cols.now) (doubles-of vals.now)) (given with_mass (doubles-of mass.now)) (unpacked (lent t_starts.old t_cols.old t_vals.old))) (lent t_starts.old t_cols.old t_vals.old) }
+    ensures { matrix_replies (matrix_numbers result) (lent t_starts.new t_cols.new t_vals.new) ≡ matrix_packs (checked_transposed (csr n (numbers_of starts.now) (numbers_of cols.now) (doubles_of vals.now)) (given with_mass (doubles_of mass.now)) (unpacked (lent t_starts.old t_cols.old t_vals.old))) (lent t_starts.old t_cols.old t_vals.old) }
 {
     let starts_read = byte_arrays::numbers_in(starts);
     let cols_read = byte_arrays::numbers_in(cols);

@@ -2,10 +2,10 @@
 ghost use Rattle.std.specs.Prelude.{◌≡◌, List, ◌++◌, ℕ, ◌+◌, ◌-◌, ◌<◌, length, Float};
 ghost use Rattle.checks.specs.First.{first};
 ghost use Rattle.general_operator.specs.Csr.{csr};
-ghost use Rattle.general_operator.specs.Checks.{matrix-checks};
+ghost use Rattle.general_operator.specs.Checks.{matrix_checks};
 ghost use Rattle.generator_action.specs.Mass.{given, quotients};
 ghost use Rattle.generator_action.specs.Known.{Answered};
-ghost use Rattle.transpose.specs.Transpose.{lent, start-checks, forward-checks, lent-checks, before-transposing, buffers, lengths, buffers-after, transposed-answer};
+ghost use Rattle.transpose.specs.Transpose.{lent, start_checks, forward_checks, lent_checks, before_transposing, buffers, lengths, buffers_after, transposed_answer};
 
 use checks::Checked;
 use generator_action::MatrixAnswer;
@@ -13,7 +13,7 @@ use generator_action::MatrixAnswer;
 // 9.
 fn check_start(n: usize, starts: &[u32]) -> Checked
     requires { 0 < length starts.now }
-    ensures { (columns : List ℕ) (entries : List Float) → result ≡ first (start-checks (csr n starts.now columns entries)) }
+    ensures { (columns : List ℕ) (entries : List Float) → result ≡ first (start_checks (csr n starts.now columns entries)) }
 {
     if starts[0] != 0 {
         return Checked::Refused(9, float::not_a_number());
@@ -30,7 +30,7 @@ fn check_forward(
     with_mass: bool,
     mass: &[f64],
 ) -> MatrixAnswer
-    ensures { Answered (quotients (csr n starts.now cols.now vals.now) (given with_mass mass.now)) (matrix-checks (csr n starts.now cols.now vals.now) ++ forward-checks (csr n starts.now cols.now vals.now) (given with_mass mass.now)) result }
+    ensures { Answered (quotients (csr n starts.now cols.now vals.now) (given with_mass mass.now)) (matrix_checks (csr n starts.now cols.now vals.now) ++ forward_checks (csr n starts.now cols.now vals.now) (given with_mass mass.now)) result }
 {
     let matrix = general_operator::validate_csr(n, starts, cols, vals);
     let Checked::Sound = matrix else {
@@ -52,7 +52,7 @@ fn check_forward(
 
 // 30. n + 1 is not formed.
 fn check_lent(n: usize, entries: usize, t_starts: usize, t_cols: usize, t_vals: usize) -> Checked
-    ensures { (starts columns : List ℕ) (vals : List Float) → length vals ≡ entries → result ≡ first (lent-checks (csr n starts columns vals) (lent t_starts t_cols t_vals)) }
+    ensures { (starts columns : List ℕ) (vals : List Float) → length vals ≡ entries → result ≡ first (lent_checks (csr n starts columns vals) (lent t_starts t_cols t_vals)) }
 {
     if t_starts <= n {
         return Checked::Refused(30, float::not_a_number());
@@ -78,7 +78,7 @@ fn check_before(
     t_cols: usize,
     t_vals: usize,
 ) -> Checked
-    ensures { result ≡ first (before-transposing (csr n starts.now cols.now vals.now) (given with_mass mass.now) (lent t_starts t_cols t_vals)) }
+    ensures { result ≡ first (before_transposing (csr n starts.now cols.now vals.now) (given with_mass mass.now) (lent t_starts t_cols t_vals)) }
 {
     let forward = check_forward(n, starts, cols, vals, with_mass, mass);
     let MatrixAnswer::Norm(_, _) = forward else {
@@ -103,8 +103,8 @@ pub fn check_transposed(
     t_cols: &mut [u32],
     t_vals: &mut [f64],
 ) -> MatrixAnswer
-    ensures value { result ≡ transposed-answer (csr n starts.now cols.now vals.now) (given with_mass mass.now) (lengths (buffers t_starts.old t_cols.old t_vals.old)) }
-    ensures t_vals_after { buffers t_starts.new t_cols.new t_vals.new ≡ buffers-after (csr n starts.now cols.now vals.now) (given with_mass mass.now) (buffers t_starts.old t_cols.old t_vals.old) }
+    ensures value { result ≡ transposed_answer (csr n starts.now cols.now vals.now) (given with_mass mass.now) (lengths (buffers t_starts.old t_cols.old t_vals.old)) }
+    ensures t_vals_after { buffers t_starts.new t_cols.new t_vals.new ≡ buffers_after (csr n starts.now cols.now vals.now) (given with_mass mass.now) (buffers t_starts.old t_cols.old t_vals.old) }
 {
     let entries = vals.len();
     let before = check_before(

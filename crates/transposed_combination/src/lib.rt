@@ -4,7 +4,7 @@ ghost use Rattle.general_operator.specs.Csr.{csr};
 ghost use Rattle.generator_action.specs.Mass.{given};
 ghost use Rattle.transpose.specs.Transpose.{buffers};
 ghost use Rattle.combination.specs.Call.{ends};
-ghost use Rattle.transposed.specs.Transposed.{lends, phi-combination-transposed};
+ghost use Rattle.transposed.specs.Transposed.{lends, phi_combination_transposed};
 
 use taylor_job::TaylorAnswer;
 use transposed_shape::ShapeAnswer;
@@ -27,7 +27,7 @@ pub fn phi_combination_transposed(
     out: &mut [f64],
     work: &mut [f64],
 ) -> TaylorAnswer
-    ensures { lends (ends result out.new work.new) (buffers t_starts.new t_cols.new t_vals.new) ≡ phi-combination-transposed (csr n starts.now cols.now vals.now) (given with_mass mass.now) (buffers t_starts.old t_cols.old t_vals.old) tau cap count w.now out.old work.old }
+    ensures { lends (ends result out.new work.new) (buffers t_starts.new t_cols.new t_vals.new) ≡ phi_combination_transposed (csr n starts.now cols.now vals.now) (given with_mass mass.now) (buffers t_starts.old t_cols.old t_vals.old) tau cap count w.now out.old work.old }
 {
     let shape = transposed_shape::transposed_shape(
         n, starts, cols, vals, with_mass, mass, t_starts, t_cols, t_vals,

@@ -3,8 +3,8 @@ ghost use Rattle.std.specs.Prelude.{◌≡◌};
 ghost use Rattle.checks.specs.First.{first};
 ghost use Rattle.general_operator.specs.Csr.{csr};
 ghost use Rattle.generator_action.specs.Mass.{given};
-ghost use Rattle.transpose.specs.Transpose.{buffers, lengths, buffers-after, transposed-checks};
-ghost use Rattle.transposed_shape.specs.Inner.{shape-answer};
+ghost use Rattle.transpose.specs.Transpose.{buffers, lengths, buffers_after, transposed_checks};
+ghost use Rattle.transposed_shape.specs.Inner.{shape_answer};
 
 use generator_action::{MatrixAnswer, Shape};
 
@@ -27,8 +27,8 @@ pub fn transposed_shape(
     t_cols: &mut [u32],
     t_vals: &mut [f64],
 ) -> ShapeAnswer
-    ensures value { result ≡ shape-answer (csr n starts.now cols.now vals.now) (given with_mass mass.now) (first (transposed-checks (csr n starts.now cols.now vals.now) (given with_mass mass.now) (lengths (buffers t_starts.old t_cols.old t_vals.old)))) }
-    ensures t_vals_after { buffers t_starts.new t_cols.new t_vals.new ≡ buffers-after (csr n starts.now cols.now vals.now) (given with_mass mass.now) (buffers t_starts.old t_cols.old t_vals.old) }
+    ensures value { result ≡ shape_answer (csr n starts.now cols.now vals.now) (given with_mass mass.now) (first (transposed_checks (csr n starts.now cols.now vals.now) (given with_mass mass.now) (lengths (buffers t_starts.old t_cols.old t_vals.old)))) }
+    ensures t_vals_after { buffers t_starts.new t_cols.new t_vals.new ≡ buffers_after (csr n starts.now cols.now vals.now) (given with_mass mass.now) (buffers t_starts.old t_cols.old t_vals.old) }
 {
     let matrix = transposed_checks::check_transposed(
         n, starts, cols, vals, with_mass, mass, t_starts, t_cols, t_vals,

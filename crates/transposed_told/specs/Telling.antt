@@ -14,5 +14,5 @@ pub record MatrixTold : Type 0 where
   pub told : Numbers
   pub buffers : Buffers
 
-abbrev pub matrix-told : Numbers → Buffers → MatrixTold
-matrix-told t b = record { told = t; buffers = b }
+abbrev pub matrix_told : Numbers → Buffers → MatrixTold
+matrix_told t b = record { told = t; buffers = b }

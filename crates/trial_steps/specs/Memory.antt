@@ -5,24 +5,24 @@ use Rattle.lists.specs.Window.{window}
 use Rattle.gram_schmidt.specs.declared.Krylov.{Krylov}
 use Rattle.gram_schmidt.specs.declared.BasisAnswer.{BasisAnswer}
 use Rattle.gram_schmidt.specs.declared.BasisAnswer.TheVariants.{Breakdown, Full}
-use Rattle.trial_steps.specs.Trials.{MAX-REJECT, Trying, Tried, accepted, stuck}
+use Rattle.trial_steps.specs.Trials.{MAX_REJECT, Trying, Tried, accepted, stuck}
 use Rattle.trial_steps.specs.declared.Trial.{Trial}
 use Rattle.trial_steps.specs.declared.Outcome.{Outcome}
 use Rattle.trial_steps.specs.declared.Outcome.TheVariants.{Next, Accepted, NoPlan}
 
 -- an outcome, of which f holds the coefficients
-unfoldable pub outcome-at : List Float → Outcome → Turn Trying Tried
-outcome-at f (Next rejections t) = on (record { rejections = rejections; t = t })
-outcome-at f (Accepted s) = out (accepted s.rejections s.t (window 0 s.count f) s.err)
-outcome-at f (NoPlan arg) = out (stuck arg)
+unfoldable pub outcome_at : List Float → Outcome → Turn Trying Tried
+outcome_at f (Next rejections t) = on (record { rejections = rejections; t = t })
+outcome_at f (Accepted s) = out (accepted s.rejections s.t (window 0 s.count f) s.err)
+outcome_at f (NoPlan arg) = out (stuck arg)
 
-abbrev pub trial-at : Trial → Turn Trying Tried
-trial-at o = outcome-at o.f o.outcome
+abbrev pub trial_at : Trial → Turn Trying Tried
+trial_at o = outcome_at o.f o.outcome
 
--- a length to be tried has at most i rejections before it, an accepted one at most MAX-REJECT, and one coefficient for each column
+-- a length to be tried has at most i rejections before it, an accepted one at most MAX_REJECT, and one coefficient for each column
 abbrev pub Within : ℕ → ℕ → Outcome → Type 0
 Within i columns (Next rejections t) = rejections ≤ i
-Within i columns (Accepted s) = (s.rejections ≤ MAX-REJECT) × (s.count ≡ columns)
+Within i columns (Accepted s) = (s.rejections ≤ MAX_REJECT) × (s.count ≡ columns)
 Within i columns (NoPlan arg) = Unit {0}
 
 pub record Modest (i columns : ℕ) (o : Trial) : Type 0 where
@@ -30,6 +30,6 @@ pub record Modest (i columns : ℕ) (o : Trial) : Type 0 where
   pub within : Within i columns o.outcome
 
 -- how many columns a basis has
-abbrev pub columns-in : Krylov → BasisAnswer → ℕ
-columns-in k (Breakdown applied mb hn) = mb
-columns-in k (Full applied avnorm) = k.m + 1
+abbrev pub columns_in : Krylov → BasisAnswer → ℕ
+columns_in k (Breakdown applied mb hn) = mb
+columns_in k (Full applied avnorm) = k.m + 1

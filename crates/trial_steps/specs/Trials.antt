@@ -1,16 +1,16 @@
 -- Trial lengths on one basis (phi_krylov_arnoldi.rs, `local_error`, `trial_steps`; Sidje 1998). Definitions only.
 use Rattle.std.specs.Prelude.{Bool, true, false, List, ℕ, suc, ◌+◌, ◌-◌, ltb, Float}
 use Rattle.lists.specs.Walk.{Turn, on, out, walk}
-use Rattle.lists.specs.Window.{window, open-Window}
-use Rattle.doubles.specs.F64.{if◌then◌else◌, ◌⊖◌, ◌⊗◌, ◌⊘◌, ◌⋖◌, bits, at, abs, minNum}
-use Rattle.retry.specs.Retry.{accepts, retry, open-Retry}
-use Rattle.hess_exp.specs.HessExp.{Small, unplanned, column, hess-exp-e1, open-HessExp}
-use Rattle.gram_schmidt.specs.Basis.{Setting, dim, Basis, breakdown, full, open-Basis}
+use Rattle.lists.specs.Window.{window, open_window}
+use Rattle.doubles.specs.F64.{if◌then◌else◌, ◌⊖◌, ◌⊗◌, ◌⊘◌, ◌⋖◌, bits, at, abs, min_num}
+use Rattle.retry.specs.Retry.{accepts, retry, open_retry}
+use Rattle.hess_exp.specs.HessExp.{Small, unplanned, column, hess_exp_e1, open_hess_exp}
+use Rattle.gram_schmidt.specs.Basis.{Setting, dim, Basis, breakdown, full, open_basis}
 use Rattle.trial_steps.specs.declared.Estimate.{Estimate}
 
 -- `MAX_REJECT`: how many lengths may be rejected on one basis
-abbrev pub MAX-REJECT : ℕ
-MAX-REJECT = 10
+abbrev pub MAX_REJECT : ℕ
+MAX_REJECT = 10
 
 abbrev pub 10f : Float
 10f = bits 0x4024_0000_0000_0000
@@ -19,8 +19,8 @@ abbrev pub estimate : Float → ℕ → Estimate
 estimate err order = record { err = err; order = order }
 
 -- `local_error`, of the column f of the small exponential
-unfoldable pub local-error : ℕ → Float → Float → List Float → Estimate
-local-error m beta avnorm f =
+unfoldable pub local_error : ℕ → Float → Float → List Float → Estimate
+local_error m beta avnorm f =
     let phi1 = abs (beta ⊗ at f m) in
     let phi2 = abs (beta ⊗ at f (m + 1) ⊗ avnorm) in
     if 10f ⊗ phi2 ⋖ phi1 then estimate phi2 m
@@ -44,23 +44,23 @@ verdict p s f e false = on (record { rejections = suc s.rejections; t = retry e.
 unfoldable pub judge : Setting → Float → Float → Trying → Small → Turn Trying Tried
 judge p beta avnorm s (unplanned arg) = out (stuck arg)
 judge p beta avnorm s (column f) =
-    let e = local-error p.m beta avnorm f in
+    let e = local_error p.m beta avnorm f in
     verdict p s f e (accepts p.tol s.t e.err)
 
-unfoldable pub try-step : Setting → Float → List Float → Float → ℕ → Trying → Turn Trying Tried
-try-step p beta h avnorm _ s = judge p beta avnorm s (hess-exp-e1 h (dim p) (dim p) s.t)
+unfoldable pub try_step : Setting → Float → List Float → Float → ℕ → Trying → Turn Trying Tried
+try_step p beta h avnorm _ s = judge p beta avnorm s (hess_exp_e1 h (dim p) (dim p) s.t)
 
 -- on a breakdown the projection is exact: the whole remaining time is accepted
-unfoldable pub exact-step : Float → Float → Float → Small → Turn Trying Tried
-exact-step beta hn remaining (unplanned arg) = out (stuck arg)
-exact-step beta hn remaining (column f) = out (accepted 0 remaining f (beta ⊗ hn ⊗ remaining))
+unfoldable pub exact_step : Float → Float → Float → Small → Turn Trying Tried
+exact_step beta hn remaining (unplanned arg) = out (stuck arg)
+exact_step beta hn remaining (column f) = out (accepted 0 remaining f (beta ⊗ hn ⊗ remaining))
 
 -- at most eleven lengths, the first the shorter of the proposed and the remaining
 unfoldable pub trials : Setting → Float → Float → Float → Basis → Turn Trying Tried
-trials p beta next remaining (breakdown b) = exact-step beta b.hn remaining (hess-exp-e1 b.columns.h (dim p) b.mb remaining)
-trials p beta next remaining (full b avnorm) = walk (try-step p beta b.h avnorm) (MAX-REJECT + 1) 0 (on (record { rejections = 0; t = minNum next remaining }))
+trials p beta next remaining (breakdown b) = exact_step beta b.hn remaining (hess_exp_e1 b.columns.h (dim p) b.mb remaining)
+trials p beta next remaining (full b avnorm) = walk (try_step p beta b.h avnorm) (MAX_REJECT + 1) 0 (on (record { rejections = 0; t = min_num next remaining }))
 
--- to compute: a line `unfolding open-Trials` opens every definition of this file and of those below it
-unfoldable pub open-Trials : Unit {0}
-unfolding local-error verdict judge try-step exact-step trials open-Window open-Retry open-HessExp open-Basis
-open-Trials = tt
+-- to compute: a line `unfolding open_trials` opens every definition of this file and of those below it
+unfoldable pub open_trials : Unit {0}
+unfolding local_error verdict judge try_step exact_step trials open_window open_retry open_hess_exp open_basis
+open_trials = tt

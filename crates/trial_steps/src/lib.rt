@@ -2,14 +2,14 @@
 ghost use Rattle.std.specs.Prelude.{◌≡◌, List, ℕ, ◌+◌, ◌*◌, ◌≤◌, ◌<◌, length, Float};
 ghost use Rattle.lists.specs.Walk.{on, walk};
 ghost use Rattle.lists.specs.Window.{window};
-ghost use Rattle.hess_exp.specs.HessExp.{hess-exp-e1};
+ghost use Rattle.hess_exp.specs.HessExp.{hess_exp_e1};
 ghost use Rattle.hess_rows.specs.Parts.{Leading};
 ghost use Rattle.general_operator.specs.Csr.{Csr};
 ghost use Rattle.phi_action_helpers.specs.declared.Coupling.{Coupling};
 ghost use Rattle.phi_action_helpers.specs.declared.Layout.{Layout};
-ghost use Rattle.gram_schmidt.specs.Memory.{setting-at, basis-at, Counted};
-ghost use Rattle.trial_steps.specs.Trials.{MAX-REJECT, local-error, try-step, exact-step, trials};
-ghost use Rattle.trial_steps.specs.Memory.{trial-at, Modest, columns-in};
+ghost use Rattle.gram_schmidt.specs.Memory.{setting_at, basis_at, Counted};
+ghost use Rattle.trial_steps.specs.Trials.{MAX_REJECT, local_error, try_step, exact_step, trials};
+ghost use Rattle.trial_steps.specs.Memory.{trial_at, Modest, columns_in};
 
 use gram_schmidt::{BasisAnswer, Krylov};
 
@@ -50,7 +50,7 @@ pub struct Trial {
 // From the column f of the small exponential.
 fn local_error(m: usize, beta: f64, avnorm: f64, f: &[f64]) -> Estimate
     requires { m + 1 < length f.now }
-    ensures { result ≡ local-error m beta avnorm f.now }
+    ensures { result ≡ local_error m beta avnorm f.now }
 {
     let phi1 = float::abs(beta * f[m]);
     let phi2 = float::abs(beta * f[m + 1] * avnorm);
@@ -80,9 +80,9 @@ fn local_error(m: usize, beta: f64, avnorm: f64, f: &[f64]) -> Estimate
 
 // One length tried: accepted, or rejected and shortened.
 fn try_step(h: &[f64], k: Krylov, beta: f64, avnorm: f64, rejections: usize, t: f64) -> Trial
-    requires m_bound { (k.m ≤ 128) × (rejections ≤ MAX-REJECT) }
+    requires m_bound { (k.m ≤ 128) × (rejections ≤ MAX_REJECT) }
     requires h_len { length h.now ≡ (k.m + 2) * (k.m + 2) }
-    ensures result_value { (l : Layout) (b : Coupling) (q : Csr) (vectors : List Float) (i : ℕ) → trial-at result ≡ try-step (setting-at l b k q vectors) beta h.now avnorm i (record { rejections = rejections; t = t }) }
+    ensures result_value { (l : Layout) (b : Coupling) (q : Csr) (vectors : List Float) (i : ℕ) → trial_at result ≡ try_step (setting_at l b k q vectors) beta h.now avnorm i (record { rejections = rejections; t = t }) }
     ensures modest { Modest (rejections + 1) (k.m + 1) result }
 {
     let m = k.m;
@@ -119,8 +119,8 @@ fn try_step(h: &[f64], k: Krylov, beta: f64, avnorm: f64, rejections: usize, t: 
 fn try_lengths(h: &[f64], k: Krylov, beta: f64, avnorm: f64, t: f64) -> Trial
     requires m_bound { k.m ≤ 128 }
     requires h_len { length h.now ≡ (k.m + 2) * (k.m + 2) }
-    ensures result_value { (l : Layout) (b : Coupling) (q : Csr) (vectors : List Float) → trial-at result ≡ walk (try-step (setting-at l b k q vectors) beta h.now avnorm) (MAX-REJECT + 1) 0 (on (record { rejections = 0; t = t })) }
-    ensures modest { Modest (MAX-REJECT + 1) (k.m + 1) result }
+    ensures result_value { (l : Layout) (b : Coupling) (q : Csr) (vectors : List Float) → trial_at result ≡ walk (try_step (setting_at l b k q vectors) beta h.now avnorm) (MAX_REJECT + 1) 0 (on (record { rejections = 0; t = t })) }
+    ensures modest { Modest (MAX_REJECT + 1) (k.m + 1) result }
 {
     let mut o = Trial {
         outcome: Outcome::Next(0, t),
@@ -140,8 +140,8 @@ fn try_lengths(h: &[f64], k: Krylov, beta: f64, avnorm: f64, t: f64) -> Trial
 fn exact_step(h: &[f64], dim: usize, mb: usize, beta: f64, hn: f64, remaining: f64) -> Trial
     requires le_mb { (1 ≤ mb) × (mb ≤ 130) }
     requires leading { Leading h.now dim mb }
-    ensures result_value { trial-at result ≡ exact-step beta hn remaining (hess-exp-e1 h.now dim mb remaining) }
-    ensures modest { Modest (MAX-REJECT + 1) mb result }
+    ensures result_value { trial_at result ≡ exact_step beta hn remaining (hess_exp_e1 h.now dim mb remaining) }
+    ensures modest { Modest (MAX_REJECT + 1) mb result }
 {
     let small = hess_exp::hess_exp_e1(h, dim, mb, remaining);
     let f = small.column;
@@ -174,8 +174,8 @@ pub fn trial_steps(
 ) -> Trial
     requires m_bound { (k.m ≤ 128) × Counted k.m basis }
     requires h_len { length h.now ≡ (k.m + 2) * (k.m + 2) }
-    ensures result_value { (l : Layout) (b : Coupling) (q : Csr) (vectors work : List Float) → window k.h ((k.m + 2) * (k.m + 2)) work ≡ h.now → trial-at result ≡ trials (setting-at l b k q vectors) beta next remaining (basis-at l k basis work) }
-    ensures modest { Modest (MAX-REJECT + 1) (columns-in k basis) result }
+    ensures result_value { (l : Layout) (b : Coupling) (q : Csr) (vectors work : List Float) → window k.h ((k.m + 2) * (k.m + 2)) work ≡ h.now → trial_at result ≡ trials (setting_at l b k q vectors) beta next remaining (basis_at l k basis work) }
+    ensures modest { Modest (MAX_REJECT + 1) (columns_in k basis) result }
 {
     match basis {
         BasisAnswer::Breakdown(applied, mb, hn) => {

@@ -2,13 +2,13 @@
 ghost use Rattle.std.specs.Prelude.{◌≡◌, List, ◌++◌, ◌+◌, ◌*◌, ◌≤◌, length};
 ghost use Rattle.lists.specs.Find.{find};
 ghost use Rattle.checks.specs.First.{Check, first};
-ghost use Rattle.combination.specs.Checks.{length-checks, not-finite-at, finite-checks, vector-checks-by};
+ghost use Rattle.combination.specs.Checks.{length_checks, not_finite_at, finite_checks, vector_checks_by};
 
 use checks::Checked;
 
 // 15 and 16.
 pub fn check_lengths(output: usize, wanted: usize, vectors: usize, expected: usize) -> Checked
-    ensures { result ≡ first (length-checks output wanted vectors expected) }
+    ensures { result ≡ first (length_checks output wanted vectors expected) }
 {
     if output != wanted {
         return Checked::Refused(15, float::count(output));
@@ -20,7 +20,7 @@ pub fn check_lengths(output: usize, wanted: usize, vectors: usize, expected: usi
 }
 
 fn first_not_finite(w: &[f64]) -> usize
-    ensures { result ≡ find (not-finite-at w.now) (length w.now) }
+    ensures { result ≡ find (not_finite_at w.now) (length w.now) }
 {
     for i in 0..w.len() {
         if !float::is_finite(w[i]) {
@@ -32,7 +32,7 @@ fn first_not_finite(w: &[f64]) -> usize
 
 // 17.
 pub fn check_finite(w: &[f64]) -> Checked
-    ensures { result ≡ first (finite-checks w.now) }
+    ensures { result ≡ first (finite_checks w.now) }
 {
     let i = first_not_finite(w);
     if i < w.len() {
@@ -51,7 +51,7 @@ pub fn validate_combination(
     others: Checked,
 ) -> Checked
     requires { n ≤ 1000000 }
-    ensures { (ts os : List Check) → time ≡ first ts → others ≡ first os → result ≡ first (vector-checks-by ts (length-checks output n (length w.now) (count * n) ++ os) count w.now) }
+    ensures { (ts os : List Check) → time ≡ first ts → others ≡ first os → result ≡ first (vector_checks_by ts (length_checks output n (length w.now) (count * n) ++ os) count w.now) }
 {
     let vectors = combination::check_count(count);
     let Checked::Sound = vectors else {

@@ -8,16 +8,16 @@ use lib.Ieee.{Float, nan}
 use lib.Dec.{ltb}
 use borrow.Author.Tests.{lt-ltb, ltb-true}
 use Rattle.lists.specs.Find.{find, exists}
-use Rattle.lists.proofs.Find.{find-ext}
-use Rattle.lists.proofs.Loop.{get_d_tabulate, tabulate-ext}
+use Rattle.lists.proofs.Find.{find_ext}
+use Rattle.lists.proofs.Loop.{get_d_tabulate, tabulate_ext}
 use Rattle.doubles.specs.F64.{if◌then◌else◌, ◌⊗◌, 1f, at}
 use Rattle.checks.specs.First.{first}
 use Rattle.checks.specs.declared.Checked.{Checked}
-use Rattle.pow2.specs.Pow2.{eta-scaling}
+use Rattle.pow2.specs.Pow2.{eta_scaling}
 use Rattle.pow2.specs.declared.Scaling.{Scaling}
-use Rattle.combination.specs.Combination.{gain, magnitude, eta-of, column-places, scaled-gains}
-use Rattle.combination.specs.Checks.{bad-gain, magnitude-checks}
-use Rattle.weighted_columns.specs.Inner.{powers-of, not-finite-by, power-checks, reversed-by, weights-by, weights}
+use Rattle.combination.specs.Combination.{gain, magnitude, eta_of, column_places, scaled_gains}
+use Rattle.combination.specs.Checks.{bad_gain, magnitude_checks}
+use Rattle.weighted_columns.specs.Inner.{powers_of, not_finite_by, power_checks, reversed_by, weights_by, weights}
 use Rattle.weighted_columns.specs.declared.Powers.{Powers}
 use Rattle.weighted_columns.specs.declared.Weights.{Weights}
 
@@ -28,33 +28,33 @@ found_some p n {i} e l = rw (← e) (lt-ltb i n l)
 
 -- ---- 21 and 22
 module _ (n : ℕ) (f : List Float) (tau : Float) (d : ℕ) (few : d ≤ 3) where
-  power_at : (j : ℕ) → j < d → at (powers-of n f tau d).gains j ≡ gain n f tau j
+  power_at : (j : ℕ) → j < d → at (powers_of n f tau d).gains j ≡ gain n f tau j
   power_at j l = get_d_tabulate 3 _ j nan (omega arith) ∙ rw (lt-ltb j d l) refl
 
-  pub magnitude-told : (eta : Float) → first (power-checks (magnitude n f tau d) (powers-of n f tau d).gains d eta) ≡ first (magnitude-checks n f tau d eta)
-  unfolding magnitude-checks exists bad-gain
-  magnitude-told eta =
-      rw (find-ext (not-finite-by (powers-of n f tau d).gains eta) (bad-gain n f tau eta) d (λ j l. rw (power_at j l) refl)) refl
+  pub magnitude_told : (eta : Float) → first (power_checks (magnitude n f tau d) (powers_of n f tau d).gains d eta) ≡ first (magnitude_checks n f tau d eta)
+  unfolding magnitude_checks exists bad_gain
+  magnitude_told eta =
+      rw (find_ext (not_finite_by (powers_of n f tau d).gains eta) (bad_gain n f tau eta) d (λ j l. rw (power_at j l) refl)) refl
 
-  pub gains-told : (eta : Float) → reversed-by (powers-of n f tau d).gains d eta ≡ scaled-gains n f tau d eta
-  unfolding scaled-gains
-  gains-told eta = tabulate-ext 3 _ _ (λ j l. go j (ltb j d) refl)
+  pub gains_told : (eta : Float) → reversed_by (powers_of n f tau d).gains d eta ≡ scaled_gains n f tau d eta
+  unfolding scaled_gains
+  gains_told eta = tabulate_ext 3 _ _ (λ j l. go j (ltb j d) refl)
     where
-      go : (j : ℕ) (t : Bool) → ltb j d ≡ t → (if t then at (powers-of n f tau d).gains (d - j - 1) ⊗ eta else 1f) ≡ (if t then gain n f tau (d - j - 1) ⊗ eta else 1f)
+      go : (j : ℕ) (t : Bool) → ltb j d ≡ t → (if t then at (powers_of n f tau d).gains (d - j - 1) ⊗ eta else 1f) ≡ (if t then gain n f tau (d - j - 1) ⊗ eta else 1f)
       go j true e = ap (λ (x : Float). x ⊗ eta) (power_at (d - j - 1) (omega (arith, ltb-true j d e)))
       go j false e = refl
 
-  pub weighed-is : {p : Powers} (eta : Scaling) {r : Checked} {places : List ℕ} {gains : List Float} → p ≡ powers-of n f tau d → places ≡ column-places n d
-      → gains ≡ reversed-by p.gains d eta.eta
-      → r ≡ first (power-checks p.sum p.gains d eta.eta)
-      → record { checked = r; inv = eta.inv; b = record { places = places; gains = gains; count = d } } ≡ weights-by n f tau d eta
-  weighed-is {p} eta {r} {places} {gains} e h k g =
-      let gains-are : gains ≡ scaled-gains n f tau d eta.eta = (rw e at k) ∙ gains-told eta.eta in
-      let checked : r ≡ first (magnitude-checks n f tau d eta.eta) = (rw e at g) ∙ magnitude-told eta.eta in
-      λ i. record { checked = checked i; inv = eta.inv; b = record { places = h i; gains = gains-are i; count = d } }
+  pub weighed_is : {p : Powers} (eta : Scaling) {r : Checked} {places : List ℕ} {gains : List Float} → p ≡ powers_of n f tau d → places ≡ column_places n d
+      → gains ≡ reversed_by p.gains d eta.eta
+      → r ≡ first (power_checks p.sum p.gains d eta.eta)
+      → record { checked = r; inv = eta.inv; b = record { places = places; gains = gains; count = d } } ≡ weights_by n f tau d eta
+  weighed_is {p} eta {r} {places} {gains} e h k g =
+      let gains_are : gains ≡ scaled_gains n f tau d eta.eta = (rw e at k) ∙ gains_told eta.eta in
+      let checked : r ≡ first (magnitude_checks n f tau d eta.eta) = (rw e at g) ∙ magnitude_told eta.eta in
+      λ i. record { checked = checked i; inv = eta.inv; b = record { places = h i; gains = gains_are i; count = d } }
 
 -- by the job's own eta
-pub own-weights : (n : ℕ) (f : List Float) (tau : Float) (d : ℕ) {p : Powers} {eta : Scaling} {r : Weights} → p ≡ powers-of n f tau d → eta ≡ eta-scaling p.sum → r ≡ weights-by n f tau d eta
+pub own_weights : (n : ℕ) (f : List Float) (tau : Float) (d : ℕ) {p : Powers} {eta : Scaling} {r : Weights} → p ≡ powers_of n f tau d → eta ≡ eta_scaling p.sum → r ≡ weights_by n f tau d eta
     → r ≡ weights n f tau d
-unfolding eta-of
-own-weights n f tau d e h w = w ∙ ap (weights-by n f tau d) (h ∙ ap (λ (x : Powers). eta-scaling x.sum) e)
+unfolding eta_of
+own_weights n f tau d e h w = w ∙ ap (weights_by n f tau d) (h ∙ ap (λ (x : Powers). eta_scaling x.sum) e)

@@ -3,8 +3,8 @@ ghost use Rattle.std.specs.Prelude.{◌≡◌, List, ◌+◌, ◌*◌, ◌≤◌
 ghost use Rattle.lists.specs.Find.{find};
 ghost use Rattle.checks.specs.First.{first};
 ghost use Rattle.pow2.specs.Pow2.{sup};
-ghost use Rattle.combination.specs.Combination.{vector, column-places};
-ghost use Rattle.weighted_columns.specs.Inner.{share-of, powers-of, not-finite-by, power-checks, reversed-by, weights-by, weights};
+ghost use Rattle.combination.specs.Combination.{vector, column_places};
+ghost use Rattle.weighted_columns.specs.Inner.{share_of, powers_of, not_finite_by, power_checks, reversed_by, weights_by, weights};
 
 use checks::Checked;
 use phi_action_helpers::Coupling;
@@ -30,7 +30,7 @@ struct Share {
 // An all-zero vector has gain 0 and no share, so that tau^(j+1) never overflows for it.
 fn share_of(n: usize, further: &[f64], tau: f64, j: usize, s: f64) -> Share
     requires { (j * n + n ≤ length further.now) × (j ≤ 2) }
-    ensures { result ≡ share-of n further.now tau j s }
+    ensures { result ≡ share_of n further.now tau j s }
 {
     let w_sup = sup_of(n, further, j);
     if w_sup == 0.0 {
@@ -53,7 +53,7 @@ pub struct Powers {
 // Of w_1 to w_d.
 pub fn powers_of(n: usize, further: &[f64], tau: f64, d: usize) -> Powers
     requires { (d * n ≤ length further.now) × (d ≤ 3) }
-    ensures { result ≡ powers-of n further.now tau d }
+    ensures { result ≡ powers_of n further.now tau d }
 {
     let mut gains = [0.0; 3];
     let mut sum = 0.0;
@@ -71,7 +71,7 @@ pub fn powers_of(n: usize, further: &[f64], tau: f64, d: usize) -> Powers
 // The first j whose tau^(j+1) eta is not finite, d if there is none.
 fn first_bad_gain(gains: [f64; 3], d: usize, eta: f64) -> usize
     requires { d ≤ 3 }
-    ensures { result ≡ find (not-finite-by gains eta) d }
+    ensures { result ≡ find (not_finite_by gains eta) d }
 {
     for j in 0..d {
         if !float::is_finite(gains[j] * eta) {
@@ -84,7 +84,7 @@ fn first_bad_gain(gains: [f64; 3], d: usize, eta: f64) -> usize
 // 21 and 22.
 fn check_magnitude(sum: f64, gains: [f64; 3], d: usize, eta: f64) -> Checked
     requires { d ≤ 3 }
-    ensures { result ≡ first (power-checks sum gains d eta) }
+    ensures { result ≡ first (power_checks sum gains d eta) }
 {
     if !float::is_finite(sum) {
         return Checked::Refused(21, sum);
@@ -98,7 +98,7 @@ fn check_magnitude(sum: f64, gains: [f64; 3], d: usize, eta: f64) -> Checked
 // cols[d - k] is w_k, at k - 1 of the further vectors.
 fn column_places(n: usize, d: usize) -> [usize; 3]
     requires { (n ≤ 1000000) × (d ≤ 3) }
-    ensures { result ≡ column-places n d }
+    ensures { result ≡ column_places n d }
 {
     let mut places = [0usize; 3];
     for j in 0..d {
@@ -110,7 +110,7 @@ fn column_places(n: usize, d: usize) -> [usize; 3]
 // gains[d - k] is w_k's gain times eta.
 fn scaled_gains(powers: [f64; 3], d: usize, eta: f64) -> [f64; 3]
     requires { d ≤ 3 }
-    ensures { result ≡ reversed-by powers d eta }
+    ensures { result ≡ reversed_by powers d eta }
 {
     let mut gains = [1.0; 3];
     for j in 0..d {
@@ -130,7 +130,7 @@ pub struct Weights {
 // 21, and 22 with an eta.
 pub fn weigh_by(n: usize, d: usize, p: Powers, eta: Scaling) -> Weights
     requires { (n ≤ 1000000) × (d ≤ 3) }
-    ensures { (f : List Float) (tau : Float) → p ≡ powers-of n f tau d → result ≡ weights-by n f tau d eta }
+    ensures { (f : List Float) (tau : Float) → p ≡ powers_of n f tau d → result ≡ weights_by n f tau d eta }
 {
     let powers = p.gains;
     let b = Coupling {

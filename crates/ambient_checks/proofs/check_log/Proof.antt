@@ -1,7 +1,7 @@
 -- `ambient_checks::check_log` meets its contract. Assumes nothing.
 use borrow.Author.Rules.{rules}
 use Rattle.checks.proofs.First.{chain}
-use Rattle.ambient_checks.specs.Log.{log-checks}
+use Rattle.ambient_checks.specs.Log.{log_checks}
 use Rattle.ambient_checks.proofs.check_log.Statement.{statement}
 use Rattle.ambient_checks.proofs.check_log.Tie as tie
 
@@ -15,7 +15,7 @@ not-a-number-requires c κs = search rules
 
 -- src/lib.rt:94:9
 returns : tie.Need-returns
-unfolding log-checks
+unfolding log_checks
 returns c = search chain
 
 -- src/lib.rt:96:8
@@ -28,7 +28,7 @@ not-a-number-requires-2 c κs = search rules
 
 -- src/lib.rt:97:9
 returns-2 : tie.Need-returns-2
-unfolding log-checks
+unfolding log_checks
 returns-2 c = search chain depth 9
 
 -- src/lib.rt:99:8
@@ -41,12 +41,12 @@ not-a-number-requires-3 c κs = search rules
 
 -- src/lib.rt:100:9
 returns-3 : tie.Need-returns-3
-unfolding log-checks
+unfolding log_checks
 returns-3 c = search chain depth 9
 
 -- src/lib.rt:80:1
 returns-4 : tie.Need-returns-4
-unfolding log-checks
+unfolding log_checks
 returns-4 c = search chain depth 9
 
 pub check-log-spec : {M : Type 1} → statement M

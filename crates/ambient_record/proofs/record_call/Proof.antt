@@ -6,10 +6,10 @@ use mathlib.Core.List.{List}
 use Prim.Native.Nat.{ℕ}
 use lib.ListN.{length}
 use lib.Ieee.{Float}
-use Rattle.checks.proofs.First.{passed-up}
-use Rattle.vectors.proofs.Laws.{length-scale}
+use Rattle.checks.proofs.First.{passed_up}
+use Rattle.vectors.proofs.Laws.{length_scale}
 use Rattle.ambient_checks.specs.Inner.{field_of}
-use Rattle.ambient_record.proofs.OneRecord.{spliced_long, record-refused, record-not-admitted, record-fits, record-runs, record_is}
+use Rattle.ambient_record.proofs.OneRecord.{spliced_long, record_refused, record_not_admitted, record_fits, record_runs, record_is}
 use Rattle.ambient_record.proofs.record_call.Statement.{statement}
 use Rattle.ambient_record.proofs.record_call.Tie as tie
 
@@ -29,8 +29,8 @@ returns c gs sound =
     let e = c.before.before.before.before in
     let s = e.before.before.before.before.before.before.before.before.before.before in
     let a = s.args in
-    let refusal = passed-up c.before.before.enum-told2.given.1 c.before.number.ensures c.reported.ensures in
-    record-refused a.mass.now s.requires.0 a.duration a.level (v s) a.load.now a.out.now a.work.now (long s) s.requires.1.1 s.requires.1.2 gs sound e.check-record.ensures refusal
+    let refusal = passed_up c.before.before.enum-told2.given.1 c.before.number.ensures c.reported.ensures in
+    record_refused a.mass.now s.requires.0 a.duration a.level (v s) a.load.now a.out.now a.work.now (long s) s.requires.1.1 s.requires.1.2 gs sound e.check-record.ensures refusal
 
 returns-2 : tie.Need-returns-2
 returns-2 c gs sound =
@@ -38,15 +38,15 @@ returns-2 c gs sound =
     let e = j.before.before.before in
     let s = e.before.before.before.before.before.before.before.before.before.before in
     let a = s.args in
-    let refusal = passed-up c.before.before.enum-told4.given.1 c.before.number2.ensures c.reported2.ensures in
-    record-not-admitted a.mass.now s.requires.0 a.duration a.level (v s) a.load.now a.out.now a.work.now (long s) s.requires.1.1 s.requires.1.2 gs sound e.check-record.ensures j.before.enum_told.given.1 j.admit-record.ensures refusal
+    let refusal = passed_up c.before.before.enum-told4.given.1 c.before.number2.ensures c.reported2.ensures in
+    record_not_admitted a.mass.now s.requires.0 a.duration a.level (v s) a.load.now a.out.now a.work.now (long s) s.requires.1.1 s.requires.1.2 gs sound e.check-record.ensures j.before.enum_told.given.1 j.admit-record.ensures refusal
 
 start-record-requires : tie.Need-start-record-requires
 start-record-requires c κs =
     let j = c.before.before.before.before in
     let s = j.before.before.before.before.before.before.before.before.before.before.before.before.before in
     let a = s.args in
-    (long s, record-fits a.mass.now s.requires.0 a.duration a.level (v s) a.load.now a.out.now a.work.now (long s) s.requires.1.1 s.requires.1.2 j.admit-record.ensures c.before.before.enum-told3.given.1)
+    (long s, record_fits a.mass.now s.requires.0 a.duration a.level (v s) a.load.now a.out.now a.work.now (long s) s.requires.1.1 s.requires.1.2 j.admit-record.ensures c.before.before.enum-told3.given.1)
 
 scale-into-requires : tie.Need-scale-into-requires
 scale-into-requires c κs =
@@ -60,8 +60,8 @@ run-record-requires c κs =
     let j = t.before.before.before.before.before in
     let s = j.before.before.before.before.before.before.before.before.before.before.before.before.before in
     let a = s.args in
-    record-runs a.mass.now s.requires.0 a.duration a.level (v s) a.load.now a.out.now a.work.now (long s) s.requires.1.1 s.requires.1.2 j.admit-record.ensures t.before.before.before.enum-told3.given.1 (spliced_long _ _ _ t.start-record.ensures)
-    (ap length i.scale-into.ensures ∙ length-scale a.level a.load.now ∙ s.requires.1.1)
+    record_runs a.mass.now s.requires.0 a.duration a.level (v s) a.load.now a.out.now a.work.now (long s) s.requires.1.1 s.requires.1.2 j.admit-record.ensures t.before.before.before.enum-told3.given.1 (spliced_long _ _ _ t.start-record.ensures)
+    (ap length i.scale-into.ensures ∙ length_scale a.level a.load.now ∙ s.requires.1.1)
 
 returns-3 : tie.Need-returns-3
 returns-3 c gs sound =

@@ -1,25 +1,25 @@
 -- `ambient_turns::settle` meets its contract. Assumes nothing.
 use borrow.Author.Rules.{rules}
-use Rattle.doubles.proofs.Magnitude.{nan-told}
-use Rattle.ambient_turns.proofs.Turns.{refused-turn, nan-turn, shown-turn}
+use Rattle.doubles.proofs.Magnitude.{nan_told}
+use Rattle.ambient_turns.proofs.Turns.{refused_turn, nan_turn, shown_turn}
 use Rattle.ambient_turns.proofs.settle.Statement.{statement}
 use Rattle.ambient_turns.proofs.settle.Tie as tie
 
 returns : tie.Need-returns
 returns c =
     let a = c.before.before.before.before.args in
-    nan-turn a.node a.i a.out.now a.temperatures.now c.before.before.enum_told.given.1 (nan-told _ _ c.if1.true)
+    nan_turn a.node a.i a.out.now a.temperatures.now c.before.before.enum_told.given.1 (nan_told _ _ c.if1.true)
 
 returns-2 : tie.Need-returns-2
 returns-2 c =
     let a = c.before.before.before.args in
-    refused-turn a.node a.i a.out.now a.temperatures.now c.before.answer.given.1
+    refused_turn a.node a.i a.out.now a.temperatures.now c.before.answer.given.1
 
 returns-3 : tie.Need-returns-3
 returns-3 c =
     let s = c.before.before.before.before in
     let a = s.args in
-    shown-turn a.node a.i a.out.now a.temperatures.now c.before.before.enum_told.given.1 (nan-told _ _ c.if1.false) s.requires.2
+    shown_turn a.node a.i a.out.now a.temperatures.now c.before.before.enum_told.given.1 (nan_told _ _ c.if1.false) s.requires.2
 
 pub settle-spec : {M : Type 1} → statement M
 settle-spec =

@@ -1,17 +1,17 @@
 -- `answers::join_numbers` meets its contract. Assumes nothing.
 use borrow.Author.Rules.{rules}
 use mathlib.Core.Path.{ap, sym}
-use Rattle.answers.specs.Told.{join-numbers}
+use Rattle.answers.specs.Told.{join_numbers}
 use Rattle.answers.proofs.join_numbers.Statement.{statement}
 use Rattle.answers.proofs.join_numbers.Tie as tie
 
 returns : tie.Need-returns
-unfolding join-numbers
-returns c = sym (ap join-numbers c.before.answer.given.1)
+unfolding join_numbers
+returns c = sym (ap join_numbers c.before.answer.given.1)
 
 returns-2 : tie.Need-returns-2
-unfolding join-numbers
-returns-2 c = sym (ap join-numbers c.before.answer2.given.1)
+unfolding join_numbers
+returns-2 c = sym (ap join_numbers c.before.answer2.given.1)
 
 pub join-numbers-spec : {M : Type 1} → statement M
 join-numbers-spec =

@@ -1,17 +1,17 @@
 -- `answers::taylor_numbers` meets its contract. Assumes nothing.
 use borrow.Author.Rules.{rules}
 use mathlib.Core.Path.{ap, sym}
-use Rattle.answers.specs.Told.{taylor-numbers}
+use Rattle.answers.specs.Told.{taylor_numbers}
 use Rattle.answers.proofs.taylor_numbers.Statement.{statement}
 use Rattle.answers.proofs.taylor_numbers.Tie as tie
 
 returns : tie.Need-returns
-unfolding taylor-numbers
-returns c = sym (ap taylor-numbers c.before.answer.given.1)
+unfolding taylor_numbers
+returns c = sym (ap taylor_numbers c.before.answer.given.1)
 
 returns-2 : tie.Need-returns-2
-unfolding taylor-numbers
-returns-2 c = sym (ap taylor-numbers c.before.answer2.given.1)
+unfolding taylor_numbers
+returns-2 c = sym (ap taylor_numbers c.before.answer2.given.1)
 
 pub taylor-numbers-spec : {M : Type 1} → statement M
 taylor-numbers-spec =

@@ -4,7 +4,7 @@ use native.Mathlib.Omega.{arith}
 use Prim.Native.Nat.{◌+◌, ◌*◌}
 use Rattle.doubles.specs.F64.{1f}
 use lib.ListN.{length-set}
-use Rattle.gram_schmidt.proofs.Turns.{room-kept, cornered, ended}
+use Rattle.gram_schmidt.proofs.Turns.{room_kept, cornered, ended}
 use Rattle.arnoldi.proofs.end.Statement.{statement}
 use Rattle.arnoldi.proofs.end.Tie as tie
 
@@ -12,7 +12,7 @@ apply-in-requires : tie.Need-apply-in-requires
 apply-in-requires c κs =
     let s = c.before.before.before.before.before.before.before.before in
     let a = s.args in
-    (room-kept _ _ _ (cornered a.l a.b a.k _ _ _ a.vectors.now _ s.requires).kept s.requires, omega arith)
+    (room_kept _ _ _ (cornered a.l a.b a.k _ _ _ a.vectors.now _ s.requires).kept s.requires, omega arith)
 
 part-norm2-end : tie.Need-slice-bounds-norm2-end
 part-norm2-end c =

@@ -3,8 +3,8 @@ use borrow.Author.Rules.{rules}
 use native.Mathlib.Omega.{arith}
 use mathlib.Core.Path.{subst}
 use Rattle.gram_schmidt.specs.Memory.{Within}
-use Rattle.gram_schmidt.proofs.Answers.{closed_on, closed-broken}
-use Rattle.gram_schmidt.proofs.Turns.{spared-all}
+use Rattle.gram_schmidt.proofs.Answers.{closed_on, closed_broken}
+use Rattle.gram_schmidt.proofs.Turns.{spared_all}
 use Rattle.arnoldi.proofs.finish.Statement.{statement}
 use Rattle.arnoldi.proofs.finish.Tie as tie
 
@@ -25,7 +25,7 @@ returns-2 : tie.Need-returns-2
 returns-2 c =
     let s = c.before.before.before.before.before.before.before.before in
     let f = subst (Within s.args.k.m) c.before.o2.given.1 s.requires.1 in
-    (closed-broken _ _ _ _ _ _ _ _ c.before.o2.given.1, (omega arith, spared-all _))
+    (closed_broken _ _ _ _ _ _ _ _ c.before.o2.given.1, (omega arith, spared_all _))
 
 pub finish_spec : {M : Type 1} → statement M
 finish_spec =

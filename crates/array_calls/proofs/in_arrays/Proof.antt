@@ -5,37 +5,37 @@ use lib.ListN.{length}
 use Rattle.general_operator.specs.Csr.{csr}
 use Rattle.generator_action.specs.Mass.{given}
 use Rattle.generator_action.specs.Generator.{forward}
-use Rattle.le_bytes.proofs.Counts.{count-numbers, count-doubles, within-bytes}
+use Rattle.le_bytes.proofs.Counts.{count_numbers, count_doubles, within_bytes}
 use Rattle.array_calls.specs.Replies.{packed}
 use Rattle.byte_calls.specs.Inner.{called}
 use Rattle.array_calls.proofs.in_arrays.Statement.{statement}
 use Rattle.array_calls.proofs.in_arrays.Tie as tie
 
 slice-aggregate-run : tie.Need-slice-aggregate-run
-slice-aggregate-run c = sym (ap length c.before.before.before.before.before.before.before.before.before.numbers-in.ensures ∙ count-numbers c.before.before.before.before.before.before.before.before.before.before.before.before.before.before.before.before.before.args.starts.now)
+slice-aggregate-run c = sym (ap length c.before.before.before.before.before.before.before.before.before.numbers-in.ensures ∙ count_numbers c.before.before.before.before.before.before.before.before.before.before.before.before.before.before.before.before.before.args.starts.now)
 
 slice-aggregate-run-2 : tie.Need-slice-aggregate-run-2
-slice-aggregate-run-2 c = sym (ap length c.before.before.before.before.before.before.before.before.before.numbers-in2.ensures ∙ count-numbers c.before.before.before.before.before.before.before.before.before.before.before.before.before.before.before.before.before.before.args.cols.now)
+slice-aggregate-run-2 c = sym (ap length c.before.before.before.before.before.before.before.before.before.numbers-in2.ensures ∙ count_numbers c.before.before.before.before.before.before.before.before.before.before.before.before.before.before.before.before.before.before.args.cols.now)
 
 slice-aggregate-run-3 : tie.Need-slice-aggregate-run-3
-slice-aggregate-run-3 c = sym (ap length c.before.before.before.before.before.before.before.before.before.doubles-in.ensures ∙ count-doubles c.before.before.before.before.before.before.before.before.before.before.before.before.before.before.before.before.before.before.before.args.vals.now)
+slice-aggregate-run-3 c = sym (ap length c.before.before.before.before.before.before.before.before.before.doubles-in.ensures ∙ count_doubles c.before.before.before.before.before.before.before.before.before.before.before.before.before.before.before.before.before.before.before.args.vals.now)
 
 slice-aggregate-run-4 : tie.Need-slice-aggregate-run-4
-slice-aggregate-run-4 c = sym (ap length c.before.before.before.before.before.before.before.before.before.doubles-in2.ensures ∙ count-doubles c.before.before.before.before.before.before.before.before.before.before.before.before.before.before.before.before.before.before.before.before.args.mass.now)
+slice-aggregate-run-4 c = sym (ap length c.before.before.before.before.before.before.before.before.before.doubles-in2.ensures ∙ count_doubles c.before.before.before.before.before.before.before.before.before.before.before.before.before.before.before.before.before.before.before.before.args.mass.now)
 
 slice-aggregate-run-5 : tie.Need-slice-aggregate-run-5
-slice-aggregate-run-5 c = sym (ap length c.before.before.before.before.before.before.before.before.before.doubles-in3.ensures ∙ count-doubles c.before.before.before.before.before.before.before.before.before.before.before.before.before.before.before.before.before.before.before.before.before.args.v.now)
+slice-aggregate-run-5 c = sym (ap length c.before.before.before.before.before.before.before.before.before.doubles-in3.ensures ∙ count_doubles c.before.before.before.before.before.before.before.before.before.before.before.before.before.before.before.before.before.before.before.before.before.args.v.now)
 
 slice-aggregate-run-6 : tie.Need-slice-aggregate-run-6
-slice-aggregate-run-6 c = sym (ap length c.before.before.before.before.before.before.before.before.before.before.doubles-in4.ensures ∙ count-doubles c.before.before.before.before.before.before.before.before.before.before.before.before.before.before.before.before.before.before.before.before.before.before.before.before.args.out.now)
+slice-aggregate-run-6 c = sym (ap length c.before.before.before.before.before.before.before.before.before.before.doubles-in4.ensures ∙ count_doubles c.before.before.before.before.before.before.before.before.before.before.before.before.before.before.before.before.before.before.before.before.before.before.before.before.args.out.now)
 
 slice-aggregate-run-7 : tie.Need-slice-aggregate-run-7
-slice-aggregate-run-7 c = sym (ap length c.before.before.before.before.before.before.before.before.before.memory-in.ensures ∙ count-doubles c.before.before.before.before.before.before.before.before.before.before.before.before.before.before.before.before.before.before.before.before.before.before.before.before.before.args.work.now)
+slice-aggregate-run-7 c = sym (ap length c.before.before.before.before.before.before.before.before.before.memory-in.ensures ∙ count_doubles c.before.before.before.before.before.before.before.before.before.before.before.before.before.before.before.before.before.before.before.before.before.before.before.before.before.args.work.now)
 
 run-requires : tie.Need-run-requires
 run-requires c κs =
     let a = c.before.before.before.before.before.before.before.before.before.before.before.before.before.before.before.before.before.before.before.before.before.before.before.before.before.args in
-    (within-bytes (ap length c.before.before.before.before.before.before.before.before.before.before.before.doubles-in4.ensures ∙ count-doubles a.out.now), within-bytes (ap length c.before.before.before.before.before.before.before.before.before.memory-in.ensures ∙ count-doubles a.work.now))
+    (within_bytes (ap length c.before.before.before.before.before.before.before.before.before.before.before.doubles-in4.ensures ∙ count_doubles a.out.now), within_bytes (ap length c.before.before.before.before.before.before.before.before.before.memory-in.ensures ∙ count_doubles a.work.now))
 
 returns : tie.Need-returns
 returns c =

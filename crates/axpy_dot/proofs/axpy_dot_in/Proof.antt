@@ -4,10 +4,10 @@ use native.Mathlib.Omega.{arith}
 use mathlib.Core.Path.{◌≡◌, ap, ◌∙◌}
 use lib.ListN.{length, take, drop}
 use Prim.Native.Nat.{◌+◌, ◌-◌, ◌*◌, ◌/◌, ◌%◌, ◌≤◌}
-use Rattle.lists.proofs.Bounds.{within-apart}
-use Rattle.lists.proofs.Window.{part-window, length-window}
+use Rattle.lists.proofs.Bounds.{within_apart}
+use Rattle.lists.proofs.Window.{part_window, length_window}
 use Rattle.lists.proofs.Loop.{Filled}
-use Rattle.dot.proofs.Blocks.{sum-at, begun, block, lanes_on, ended, inner}
+use Rattle.dot.proofs.Blocks.{sum_at, begun, block, lanes_on, ended, inner}
 use Rattle.axpy_dot.proofs.axpy_dot_in.Statement.{statement}
 use Rattle.axpy_dot.proofs.axpy_dot_in.Tie as tie
 
@@ -21,11 +21,11 @@ axpy-in-requires c κs =
     let start = c.before.before.before.before.before.before in
     let a = start.args in
     let long = (begun a.work.now a.y-at a.x-at a.v-at a.len a.a (4 * (a.len / 4)) (omega arith) (omega arith) c.before.before.before.axpy-dot-blocks.ensures.0).long in
-    (omega arith, (omega arith, within-apart a.y-at a.x-at a.len (4 * (a.len / 4)) (a.len % 4) start.requires.1.0 (omega arith)))
+    (omega arith, (omega arith, within_apart a.y-at a.x-at a.len (4 * (a.len / 4)) (a.len % 4) start.requires.1.0 (omega arith)))
 
 -- all places are written
 filled : (c : tie.After-axpy-in) → (let a = c.before.before.before.before.before.before.before.args in
-    Filled a.y-at (4 * (a.len / 4) + a.len % 4) (sum-at a.work.now a.y-at a.x-at a.v-at a.len a.a) a.work.now c.axpy-in.new.0)
+    Filled a.y-at (4 * (a.len / 4) + a.len % 4) (sum_at a.work.now a.y-at a.x-at a.v-at a.len a.a) a.work.now c.axpy-in.new.0)
 filled c =
     let start = c.before.before.before.before.before.before.before in
     let a = start.args in
@@ -42,7 +42,7 @@ joined-requires c κs =
     let w = wrote.axpy-in.new.0 in
     let all = filled wrote in
     let long = all.long in
-    let ly : length (take (a.y-at + a.len - a.y-at) (drop a.y-at w)) ≡ a.len = ap length (part-window a.y-at a.len w) ∙ length-window a.y-at a.len w (omega arith) in
+    let ly : length (take (a.y-at + a.len - a.y-at) (drop a.y-at w)) ≡ a.len = ap length (part_window a.y-at a.len w) ∙ length_window a.y-at a.len w (omega arith) in
     (omega arith, rw ly (lanes_on a.work.now a.y-at a.x-at a.v-at a.len a.a (4 * (a.len / 4) + a.len % 4) (a.len / 4) all (omega arith) (omega arith) (omega arith) pre.0.0 pre.0.1 pre.1.1 wrote.before.before.before.before.axpy-dot-blocks.ensures.1))
 
 returns : tie.Need-returns

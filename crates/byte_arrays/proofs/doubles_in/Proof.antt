@@ -3,7 +3,7 @@ use borrow.Author.Rules.{rules}
 use mathlib.Core.Path.{sym, ◌∙◌, ap}
 use lib.ListN.{length}
 use lib.Seq.{length-take-le, take_at}
-use Rattle.le_bytes.proofs.Counts.{count-doubles}
+use Rattle.le_bytes.proofs.Counts.{count_doubles}
 use Rattle.byte_arrays.proofs.doubles_in.Statement.{statement}
 use Rattle.byte_arrays.proofs.doubles_in.Tie as tie
 
@@ -14,7 +14,7 @@ unpack-doubles-requires : tie.Need-unpack-doubles-requires
 unpack-doubles-requires c κs = length-take-le _ _ c.before.before.requires
 
 returns : tie.Need-returns
-returns c = take_at _ _ _ (ap length c.before.unpack-doubles.ensures ∙ count-doubles c.before.before.before.before.args.src.now) ∙ c.before.unpack-doubles.ensures
+returns c = take_at _ _ _ (ap length c.before.unpack-doubles.ensures ∙ count_doubles c.before.before.before.before.args.src.now) ∙ c.before.unpack-doubles.ensures
 
 pub doubles-in-spec : {M : Type 1} → statement M
 doubles-in-spec =

@@ -1,16 +1,16 @@
 -- `combination::check_degree` meets its contract. Assumes nothing.
 use borrow.Author.Rules.{rules}
 use Rattle.checks.proofs.First.{chain}
-use Rattle.combination.specs.Checks.{degree-checks}
+use Rattle.combination.specs.Checks.{degree_checks}
 use Rattle.combination.proofs.check_degree.Statement.{statement}
 use Rattle.combination.proofs.check_degree.Tie as tie
 
 returns : tie.Need-returns
-unfolding degree-checks
+unfolding degree_checks
 returns c = search chain
 
 returns-2 : tie.Need-returns-2
-unfolding degree-checks
+unfolding degree_checks
 returns-2 c = search chain
 
 pub check-degree-spec : {M : Type 1} → statement M

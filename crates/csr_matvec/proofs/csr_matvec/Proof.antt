@@ -4,13 +4,13 @@ use mathlib.Core.Path.{◌≡◌, refl, ◌∙◌}
 use Prim.Native.Nat.{◌+◌, ◌-◌, ◌≤◌}
 use lib.ListN.{get_or}
 use Rattle.lists.proofs.Loop.{Filled, started, turned₀, finished₀}
-use Rattle.general_operator.specs.Csr.{row-product, apply-generator}
-use Rattle.general_operator.proofs.Rows.{start-le}
+use Rattle.general_operator.specs.Csr.{row_product, apply_generator}
+use Rattle.general_operator.proofs.Rows.{start_le}
 use Rattle.csr_matvec.proofs.csr_matvec.Statement.{statement}
 use Rattle.csr_matvec.proofs.csr_matvec.Tie as tie
 
 abbrev invariant-loop : tie.invariant-loop
-invariant-loop starts cols vals src dst₀ n from₀ i₀ dst from i = (i ≤ n) × Filled 0 i (λ k. row-product cols vals src (get_or starts k 0) (get_or starts (k + 1) 0)) dst₀ dst × (from ≡ get_or starts i 0)
+invariant-loop starts cols vals src dst₀ n from₀ i₀ dst from i = (i ≤ n) × Filled 0 i (λ k. row_product cols vals src (get_or starts k 0) (get_or starts (k + 1) 0)) dst₀ dst × (from ≡ get_or starts i 0)
 
 abbrev decreases-loop : tie.decreases-loop
 decreases-loop starts cols vals src dst₀ n from₀ i₀ dst from i = n - i
@@ -28,14 +28,14 @@ row-product-requires : tie.Need-row-product-requires invariant-loop decreases-lo
 row-product-requires c κs =
     let s = c.before.before in
     let v = s.before.before.before.before.before.before.before.requires in
-    let top : _ = start-le v.0 (s.loop.i + 1) (omega arith) in
+    let top : _ = start_le v.0 (s.loop.i + 1) (omega arith) in
     ((rw s.loop.invariant.2 (v.0.rising s.loop.i (omega arith)), (omega (arith, v.0.paired), top)), (λ k h. rw v.1 (v.0.below k h)))
 
 loop-again : tie.Need-loop-preserved invariant-loop decreases-loop
-loop-again c = let inv = c.before.before.before.loop.invariant in (omega arith, turned₀ inv.1 (c.row-product.ensures ∙ rw inv.2), refl)
+loop-again c = let inv = c.before.before.before.loop.invariant in (omega arith, turned₀ inv.1 (c.row_product.ensures ∙ rw inv.2), refl)
 
 returns : tie.Need-returns invariant-loop decreases-loop
-unfolding apply-generator
+unfolding apply_generator
 returns c = finished₀ c.before.loop.invariant.1 (omega arith) (omega arith)
 
 pub csr-matvec-spec : {M : Type 1} → statement M

@@ -5,16 +5,16 @@ use mathlib.Core.Path.{◌≡◌, refl, ap, ◌∙◌}
 use Prim.Native.Nat.{◌+◌, ◌-◌, ◌≤◌}
 use lib.ListN.{length, get_or}
 use Rattle.lists.specs.Window.{window}
-use Rattle.lists.proofs.Window.{part-window, length-window}
-use Rattle.lists.proofs.Loop.{Filled, started, turned, finished, window-apart}
-use Rattle.general_operator.specs.Csr.{row-product}
-use Rattle.general_operator.proofs.Rows.{start-le}
-use Rattle.csr_matvec.specs.Values.{factored, generator-by}
+use Rattle.lists.proofs.Window.{part_window, length_window}
+use Rattle.lists.proofs.Loop.{Filled, started, turned, finished, window_apart}
+use Rattle.general_operator.specs.Csr.{row_product}
+use Rattle.general_operator.proofs.Rows.{start_le}
+use Rattle.csr_matvec.specs.Values.{factored, generator_by}
 use Rattle.csr_matvec.proofs.matvec_in.Statement.{statement}
 use Rattle.csr_matvec.proofs.matvec_in.Tie as tie
 
 abbrev invariant-loop : tie.invariant-loop
-invariant-loop starts cols vals work₀ src-at dst-at n scaled tau src-end from₀ i₀ work from i = (i ≤ n) × Filled dst-at i (λ k. factored scaled tau (row-product cols vals (window src-at n work₀) (get_or starts k 0) (get_or starts (k + 1) 0))) work₀ work × (from ≡ get_or starts i 0)
+invariant-loop starts cols vals work₀ src-at dst-at n scaled tau src-end from₀ i₀ work from i = (i ≤ n) × Filled dst-at i (λ k. factored scaled tau (row_product cols vals (window src-at n work₀) (get_or starts k 0) (get_or starts (k + 1) 0))) work₀ work × (from ≡ get_or starts i 0)
 
 abbrev decreases-loop : tie.decreases-loop
 decreases-loop starts cols vals work₀ src-at dst-at n scaled tau src-end from₀ i₀ work from i = n - i
@@ -34,20 +34,20 @@ row-product-requires c κs =
     let start = s.before.before.before.before.before.before in
     let i = s.loop.i in
     let v = start.requires.0 in
-    let top : _ = start-le v (i + 1) (omega arith) in
+    let top : _ = start_le v (i + 1) (omega arith) in
     let fits : start.args.src-at + start.args.n ≤ length s.loop.work = omega arith in
-    ((rw s.loop.invariant.2 (v.rising i (omega arith)), (omega (arith, v.paired), top)), (λ k h. rw (part-window, length-window) (v.below k h)))
+    ((rw s.loop.invariant.2 (v.rising i (omega arith)), (omega (arith, v.paired), top)), (λ k h. rw (part_window, length_window) (v.below k h)))
 
 loop-again : tie.Need-loop-preserved invariant-loop decreases-loop
 loop-again c =
     let s = c.before.before.before.before.before.before in
     let start = s.before.before.before.before.before.before in
     let inv = s.loop.invariant in
-    let same = window-apart inv.1 start.args.src-at start.args.n start.requires.1.1.1 inv.0 in
-    (omega arith, turned inv.1 (c.factored.ensures ∙ ap (factored _ _) (c.before.row-product.ensures ∙ rw (inv.2, part-window, same))), refl)
+    let same = window_apart inv.1 start.args.src-at start.args.n start.requires.1.1.1 inv.0 in
+    (omega arith, turned inv.1 (c.factored.ensures ∙ ap (factored _ _) (c.before.row_product.ensures ∙ rw (inv.2, part_window, same))), refl)
 
 returns : tie.Need-returns invariant-loop decreases-loop
-unfolding generator-by
+unfolding generator_by
 returns c = finished c.before.loop.invariant.1 _ (omega arith) (omega arith)
 
 pub matvec-in-spec : {M : Type 1} → statement M

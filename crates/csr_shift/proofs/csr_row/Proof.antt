@@ -5,18 +5,18 @@ use mathlib.Core.Logic.{⊎_elim}
 use mathlib.Core.Path.{◌≡◌, sym, ◌∙◌}
 use lib.ListN.{length, get_or}
 use Rattle.lists.specs.Loop.{iter}
-use Rattle.lists.proofs.Loop.{iter-none, iter_turn}
+use Rattle.lists.proofs.Loop.{iter_none, iter_turn}
 use Rattle.doubles.specs.F64.{+0}
 use Rattle.general_operator.specs.Csr.{csr}
-use Rattle.general_operator.proofs.Rows.{start-le}
-use Rattle.csr_shift.specs.Shift.{row, csr-entry, csr-row}
-use Rattle.csr_shift.proofs.Entry.{on-diagonal, off-diagonal}
+use Rattle.general_operator.proofs.Rows.{start_le}
+use Rattle.csr_shift.specs.Shift.{row, csr_entry, csr_row}
+use Rattle.csr_shift.proofs.Entry.{on_diagonal, off_diagonal}
 use Rattle.csr_shift.proofs.csr_row.Statement.{statement}
 use Rattle.csr_shift.proofs.csr_row.Tie as tie
 
 abbrev invariant-loop : tie.invariant-loop
 invariant-loop n starts cols vals i from count d₀ r₀ k₀ d r k =
-    (k ≤ count) × (from + count ≤ length vals) × (row d r ≡ iter (λ j s. csr-entry (csr n starts cols vals) i (from + j) s) k (row +0 +0))
+    (k ≤ count) × (from + count ≤ length vals) × (row d r ≡ iter (λ j s. csr_entry (csr n starts cols vals) i (from + j) s) k (row +0 +0))
 
 abbrev decreases-loop : tie.decreases-loop
 decreases-loop n starts cols vals i from count d₀ r₀ k₀ d r k = count - k
@@ -35,7 +35,7 @@ loop-holds : tie.Need-loop-init invariant-loop decreases-loop
 loop-holds c =
     let s = c.before.before.before.before.before in
     let i = s.args.i in
-    (omega arith, omega (arith, s.requires.0.rising i (omega arith), start-le s.requires.0 (i + 1) (omega arith)), sym (iter-none _ _))
+    (omega arith, omega (arith, s.requires.0.rising i (omega arith), start_le s.requires.0 (i + 1) (omega arith)), sym (iter_none _ _))
 
 cast-c : tie.Need-overflow-cast-c invariant-loop decreases-loop
 cast-c c =
@@ -50,13 +50,13 @@ loop-again c =
       omega arith,
       iter_turn _ _ _ (row l.d l.r) _ l.invariant.2
           (⊎_elim
-          (λ w. on-diagonal _ _ _ _ w.0.taken w.1 w.2)
-          (λ w. off-diagonal _ _ _ _ w.0.left w.2 (w.3 ∙ rw w.1.ensures))
+          (λ w. on_diagonal _ _ _ _ w.0.taken w.1 w.2)
+          (λ w. off_diagonal _ _ _ _ w.0.left w.2 (w.3 ∙ rw w.1.ensures))
           c.if1.branch),
     )
 
 returns : tie.Need-returns invariant-loop decreases-loop
-unfolding csr-row
+unfolding csr_row
 returns c =
     let a = c.before.before.before.before.before.before.before.args in
     let e : c.before.loop.k ≡ get_or a.starts.now (a.i + 1) 0 - get_or a.starts.now a.i 0 = omega arith in

@@ -4,22 +4,22 @@ use borrow.Author.Rules.{rules}
 use Prim.Native.Nat.{◌-◌, ◌≤◌}
 use mathlib.Core.Path.{◌≡◌, sym, ◌∙◌}
 use lib.Ieee.{nan_bits}
-use Rattle.lists.proofs.Loop.{iter-none, iter_turn}
+use Rattle.lists.proofs.Loop.{iter_none, iter_turn}
 use Rattle.general_operator.specs.Csr.{csr}
-use Rattle.csr_shift.specs.Shift.{generator-row, high, low, midpoint}
+use Rattle.csr_shift.specs.Shift.{generator_row, high, low, midpoint}
 use Rattle.csr_shift.proofs.midpoint.Statement.{statement}
 use Rattle.csr_shift.proofs.midpoint.Tie as tie
 
 abbrev invariant-loop : tie.invariant-loop
 invariant-loop n starts cols vals high₀ low₀ i₀ hi lo i =
-    (i ≤ n) × (hi ≡ high (generator-row (csr n starts cols vals)) i) × (lo ≡ low (generator-row (csr n starts cols vals)) i)
+    (i ≤ n) × (hi ≡ high (generator_row (csr n starts cols vals)) i) × (lo ≡ low (generator_row (csr n starts cols vals)) i)
 
 abbrev decreases-loop : tie.decreases-loop
 decreases-loop n starts cols vals high₀ low₀ i₀ hi lo i = n - i
 
 loop-holds : tie.Need-loop-init invariant-loop decreases-loop
 unfolding high low
-loop-holds c = (omega arith, sym (iter-none _ _), sym (iter-none _ _))
+loop-holds c = (omega arith, sym (iter_none _ _), sym (iter_none _ _))
 
 loop-again : tie.Need-loop-preserved invariant-loop decreases-loop
 unfolding high low
@@ -28,8 +28,8 @@ loop-again c =
     let g = a.before.before in
     let l = g.before.before.loop in (
       omega arith,
-      iter_turn _ _ _ _ _ l.invariant.1 (a.max.ensures ∙ rw g.generator-row.ensures),
-      iter_turn _ _ _ _ _ l.invariant.2 (c.min.ensures ∙ rw g.generator-row.ensures),
+      iter_turn _ _ _ _ _ l.invariant.1 (a.max.ensures ∙ rw g.generator_row.ensures),
+      iter_turn _ _ _ _ _ l.invariant.2 (c.min.ensures ∙ rw g.generator_row.ensures),
     )
 
 returns : tie.Need-returns invariant-loop decreases-loop

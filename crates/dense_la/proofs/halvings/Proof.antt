@@ -2,7 +2,7 @@
 use Prim.Native.Nat.{◌-◌, ◌<◌}
 use native.Mathlib.Omega.{arith}
 use borrow.Author.Tests.{ltb-true, ltb-false}
-use Rattle.dense_la.proofs.Halved.{Halved, halved-start, halved-turn, halved-stop, halved-end, halved-whole}
+use Rattle.dense_la.proofs.Halved.{Halved, halved_start, halved_turn, halved_stop, halved_end, halved_whole}
 use Rattle.dense_la.proofs.halvings.Statement.{statement}
 use Rattle.dense_la.proofs.halvings.Tie as tie
 
@@ -16,13 +16,13 @@ more : (c : tie.Then1 invariant-loop decreases-loop) → c.before.before.loop.sq
 more c = ltb-true _ _ c.if1.true
 
 loop-again : tie.Need-loop-preserved invariant-loop decreases-loop
-loop-again c = halved-turn c.before.before.loop.invariant (more c) c.before.loop-test.true
+loop-again c = halved_turn c.before.before.loop.invariant (more c) c.before.loop-test.true
 
 returns : tie.Need-returns invariant-loop decreases-loop
-returns c = let inv = c.before.before.loop.invariant in halved-whole inv (halved-end inv (ltb-false _ _ c.if1.false))
+returns c = let inv = c.before.before.loop.invariant in halved_whole inv (halved_end inv (ltb-false _ _ c.if1.false))
 
 returns-2 : tie.Need-returns-2 invariant-loop decreases-loop
-returns-2 c = let inv = c.before.loop.invariant in halved-whole inv (halved-stop inv c.loop-test.false)
+returns-2 c = let inv = c.before.loop.invariant in halved_whole inv (halved_stop inv c.loop-test.false)
 
 pub halvings-spec : {M : Type 1} → statement M
 halvings-spec =
@@ -30,7 +30,7 @@ halvings-spec =
     (tie.spec
     invariant-loop
     decreases-loop
-    (λ c. halved-start c.args.norm)
+    (λ c. halved_start c.args.norm)
     (λ c. omega (arith, more c))
     (λ c. omega (arith, more c))
     loop-again

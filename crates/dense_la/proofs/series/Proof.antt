@@ -3,8 +3,8 @@ use mathlib.Core.Path.{◌≡◌, sym, ap}
 use Prim.Native.Nat.{◌-◌, ◌≤◌}
 use native.Mathlib.Omega.{arith}
 use borrow.Author.Rules.{rules}
-use Rattle.lists.proofs.Loop.{iter-none, iter_turn}
-use Rattle.dense_la.specs.DenseExp.{Series, series, series-step}
+use Rattle.lists.proofs.Loop.{iter_none, iter_turn}
+use Rattle.dense_la.specs.DenseExp.{Series, series, series_step}
 use Rattle.dense_la.proofs.series.Statement.{statement}
 use Rattle.dense_la.proofs.series.Tie as tie
 
@@ -16,13 +16,13 @@ decreases-loop a result₀ term₀ k₀ result term k = 18 - k
 
 loop-holds : tie.Need-loop-init invariant-loop decreases-loop
 unfolding series
-loop-holds c = (omega arith, sym (iter-none (series-step c.args.a) _))
+loop-holds c = (omega arith, sym (iter_none (series_step c.args.a) _))
 
 loop-again : tie.Need-loop-preserved invariant-loop decreases-loop
-unfolding series series-step
+unfolding series series_step
 loop-again c =
     let s = c.before.before.before in
-    (omega arith, iter_turn (series-step s.before.args.a) s.loop.k _ _ _ s.loop.invariant.1 (rw c.before.matmul.ensures))
+    (omega arith, iter_turn (series_step s.before.args.a) s.loop.k _ _ _ s.loop.invariant.1 (rw c.before.matmul.ensures))
 
 returns : tie.Need-returns invariant-loop decreases-loop
 returns c =

@@ -3,7 +3,7 @@ use mathlib.Core.Path.{◌≡◌, sym}
 use Prim.Native.Nat.{◌-◌, ◌≤◌}
 use native.Mathlib.Omega.{arith}
 use borrow.Author.Rules.{rules}
-use Rattle.lists.proofs.Loop.{iter-none, iter_turn}
+use Rattle.lists.proofs.Loop.{iter_none, iter_turn}
 use Rattle.dense_la.specs.DenseExp.{squared}
 use Rattle.dense_la.proofs.squared.Statement.{statement}
 use Rattle.dense_la.proofs.squared.Tie as tie
@@ -16,7 +16,7 @@ decreases-loop n y result₀ counter₀ result counter = n - counter
 
 loop-holds : tie.Need-loop-init invariant-loop decreases-loop
 unfolding squared
-loop-holds c = (omega arith, sym (iter-none _ _))
+loop-holds c = (omega arith, sym (iter_none _ _))
 
 loop-again : tie.Need-loop-preserved invariant-loop decreases-loop
 unfolding squared

@@ -8,7 +8,7 @@ use native.Mathlib.Nat.{add_assoc}
 use lib.Ieee.{Float}
 use Rattle.doubles.specs.F64.{◌⊕◌, ◌⊗◌, at}
 use Rattle.doubles.specs.Sum.{sum}
-use Rattle.doubles.proofs.Sum.{sum-turn}
+use Rattle.doubles.proofs.Sum.{sum_turn}
 use Rattle.dot.specs.Dot.{lane, lanes}
 use Rattle.dot.proofs.add_blocks.Statement.{statement}
 use Rattle.dot.proofs.add_blocks.Tie as tie
@@ -16,7 +16,7 @@ use Rattle.dot.proofs.add_blocks.Tie as tie
 -- one product more
 next : (l : ℕ) (x y : List Float) (from j : ℕ) (s : Float) {v : Float} → s ≡ lane l x y (from + j) → v ≡ at x (4 * (from + j) + l) ⊗ at y (4 * (from + j) + l) → s ⊕ v ≡ lane l x y (from + (j + 1))
 unfolding lane
-next l x y from j s {v} e d = sum-turn (from + j) (λ i. at x (4 * i + l) ⊗ at y (4 * i + l)) s v e d ∙ ap (λ m. sum m (λ i. at x (4 * i + l) ⊗ at y (4 * i + l))) (add_assoc from j 1)
+next l x y from j s {v} e d = sum_turn (from + j) (λ i. at x (4 * i + l) ⊗ at y (4 * i + l)) s v e d ∙ ap (λ m. sum m (λ i. at x (4 * i + l) ⊗ at y (4 * i + l))) (add_assoc from j 1)
 
 abbrev invariant-loop : tie.invariant-loop
 invariant-loop x y from count acc0₀ acc1₀ acc2₀ acc3₀ j₀ acc0 acc1 acc2 acc3 j = (j ≤ count) × (acc0 ≡ lane 0 x y (from + j)) × (acc1 ≡ lane 1 x y (from + j)) × (acc2 ≡ lane 2 x y (from + j)) × (acc3 ≡ lane 3 x y (from + j))

@@ -3,12 +3,12 @@ use borrow.Author.Rules.{rules}
 use native.Mathlib.Omega.{arith}
 use mathlib.Core.Path.{◌∙◌}
 use native.Mathlib.Nat.{zero-add}
-use Rattle.dot.proofs.Blocks.{lanes-none}
+use Rattle.dot.proofs.Blocks.{lanes_none}
 use Rattle.dot.proofs.dot.Statement.{statement}
 use Rattle.dot.proofs.dot.Tie as tie
 
 add-blocks-requires : tie.Need-add-blocks-requires
-add-blocks-requires = λ c κs. ((omega arith, omega arith), c.no-lanes.ensures ∙ lanes-none _ _)
+add-blocks-requires = λ c κs. ((omega arith, omega arith), c.no-lanes.ensures ∙ lanes_none _ _)
 
 joined-requires : tie.Need-joined-requires
 joined-requires = λ c κs. (c.before.before.before.before.requires, rw zero-add at c.add-blocks.ensures)

@@ -2,7 +2,7 @@
 use native.Mathlib.Omega.{arith}
 use mathlib.Core.Path.{◌≡◌, sym}
 use Prim.Native.Nat.{◌-◌, ◌≤◌}
-use Rattle.doubles.proofs.Sum.{sum-none, sum-turn}
+use Rattle.doubles.proofs.Sum.{sum_none, sum_turn}
 use Rattle.dot.specs.Dot.{tail}
 use Rattle.dot.proofs.tail.Statement.{statement}
 use Rattle.dot.proofs.tail.Tie as tie
@@ -15,11 +15,11 @@ decreases-loop x y b n s₀ j₀ s j = n - j
 
 loop-holds : tie.Need-loop-init invariant-loop decreases-loop
 unfolding tail
-loop-holds c = (omega arith, sym (sum-none _))
+loop-holds c = (omega arith, sym (sum_none _))
 
 loop-again : tie.Need-loop-preserved invariant-loop decreases-loop
 unfolding tail
-loop-again c = (omega arith, sum-turn _ _ _ _ c.before.before.loop.invariant.1 c.term.ensures)
+loop-again c = (omega arith, sum_turn _ _ _ _ c.before.before.loop.invariant.1 c.term.ensures)
 
 returns : tie.Need-returns invariant-loop decreases-loop
 returns c =

@@ -31,23 +31,23 @@ cast_fits : (x q : Float) → q ≡ ceil x → (q ⩽ top) ≡ true → (q ⋖ 1
 cast_fits x q e most some = rw e (counted x (rw (← e, ← top-is) most) (rw (← e) some)).fits
 
 -- each way out, by the tests
-module _ (m-max : ℕ) (arg : Float) (i : ℕ) (best : Selected) (m : ℕ) (e : m ≡ degree i) where
-  above : m-max < m → best ≡ consider m-max arg i best
+module _ (m_max : ℕ) (arg : Float) (i : ℕ) (best : Selected) (m : ℕ) (e : m ≡ degree i) where
+  above : m_max < m → best ≡ consider m_max arg i best
   unfolding consider admissible
-  above h = rw (← e, lt-leb m m-max h)
+  above h = rw (← e, lt-leb m m_max h)
 
-  module _ (q : Float) (f : q ≡ quotient arg i) (h : m ≤ m-max) where
-    too_many : (q ⩽ top) ≡ false → best ≡ consider m-max arg i best
+  module _ (q : Float) (f : q ≡ quotient arg i) (h : m ≤ m_max) where
+    too_many : (q ⩽ top) ≡ false → best ≡ consider m_max arg i best
     unfolding consider admissible
-    too_many most = rw (← e, le-leb m m-max h, ← f, ← top-is, most)
+    too_many most = rw (← e, le-leb m m_max h, ← f, ← top-is, most)
 
-    single : (q ⩽ top) ≡ true → (q ⋖ 1f) ≡ true → cheaper 1 m best ≡ consider m-max arg i best
+    single : (q ⩽ top) ≡ true → (q ⋖ 1f) ≡ true → cheaper 1 m best ≡ consider m_max arg i best
     unfolding consider admissible sweeps
-    single most some = rw (← e, le-leb m m-max h, ← f, ← top-is, most, some)
+    single most some = rw (← e, le-leb m m_max h, ← f, ← top-is, most, some)
 
-    several : (q ⩽ top) ≡ true → (q ⋖ 1f) ≡ false → cheaper (to_unsigned 32 q) m best ≡ consider m-max arg i best
+    several : (q ⩽ top) ≡ true → (q ⋖ 1f) ≡ false → cheaper (to_unsigned 32 q) m best ≡ consider m_max arg i best
     unfolding consider admissible sweeps
-    several most some = rw (← e, le-leb m m-max h, ← f, ← top-is, most, some)
+    several most some = rw (← e, le-leb m m_max h, ← f, ← top-is, most, some)
 
 float-to-int-cheaper : tie.Need-float-to-int-cheaper
 float-to-int-cheaper c =

@@ -2,13 +2,13 @@
 use borrow.Author.Rules.{rules}
 use mathlib.Core.Path.{refl}
 use Rattle.expmv.specs.Select.{degrees, degree}
-use Rattle.expmv.proofs.Rows.{degree-bounds}
+use Rattle.expmv.proofs.Rows.{degree_bounds}
 use Rattle.expmv.proofs.degree.Statement.{statement}
 use Rattle.expmv.proofs.degree.Tie as tie
 
 returns : tie.Need-returns
 unfolding degrees degree
-returns c = let b = degree-bounds c.args.i c.requires in (refl, b.0, b.1)
+returns c = let b = degree_bounds c.args.i c.requires in (refl, b.0, b.1)
 
 pub degree-spec : {M : Type 1} → statement M
 degree-spec = tie.close (tie.spec (λ c. search rules) (λ c. search rules) returns)

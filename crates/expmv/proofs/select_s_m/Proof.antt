@@ -5,7 +5,7 @@ use Prim.Native.Nat.{◌-◌, ◌≤◌}
 use mathlib.Core.Path.{◌≡◌, sym, ◌∙◌}
 use borrow.Author.Tests.{not-true, not-false}
 use Rattle.lists.specs.Loop.{iter}
-use Rattle.lists.proofs.Loop.{iter-none, iter_turn}
+use Rattle.lists.proofs.Loop.{iter_none, iter_turn}
 use Rattle.expmv.specs.declared.Selected.TheVariants.{NoRow}
 use Rattle.expmv.specs.Select.{consider}
 use Rattle.expmv.proofs.Least.{endless, negative, searched}
@@ -13,10 +13,10 @@ use Rattle.expmv.proofs.select_s_m.Statement.{statement}
 use Rattle.expmv.proofs.select_s_m.Tie as tie
 
 abbrev invariant-loop : tie.invariant-loop
-invariant-loop m-max arg best₀ i₀ best i = (i ≤ 22) × (best ≡ iter (consider m-max arg) i NoRow)
+invariant-loop m_max arg best₀ i₀ best i = (i ≤ 22) × (best ≡ iter (consider m_max arg) i NoRow)
 
 abbrev decreases-loop : tie.decreases-loop
-decreases-loop m-max arg best₀ i₀ best i = 22 - i
+decreases-loop m_max arg best₀ i₀ best i = 22 - i
 
 returns : tie.Need-returns invariant-loop decreases-loop
 returns c = endless _ _ (sym c.before.is_finite.ensures ∙ not-true _ c.if1.true)
@@ -42,7 +42,7 @@ select-s-m-spec =
     (λ c κs. search rules)
     returns
     returns-2
-    (λ c. (omega arith, sym (iter-none _ _)))
+    (λ c. (omega arith, sym (iter_none _ _)))
     (λ c κs. omega arith)
     (λ c. omega arith)
     (λ c. omega arith)

@@ -5,7 +5,7 @@ use Rattle.exports_ambient.proofs.hazhendu_ambient.Statement.{statement}
 use Rattle.exports_ambient.proofs.hazhendu_ambient.Tie as tie
 
 returns : tie.Need-returns
-returns c = all_told c.ambient-told.ensures c.before.before.before.before.before.before.before.before.before.before.before.before.before.ambient.ensures
+returns c = all_told c.ambient_told.ensures c.before.before.before.before.before.before.before.before.before.before.before.before.before.ambient.ensures
 
 pub hazhendu-ambient-spec : {M : Type 1} → statement M
 hazhendu-ambient-spec =

@@ -3,10 +3,10 @@ use borrow.Author.Rules.{rules}
 use native.Mathlib.Omega.{arith}
 use mathlib.Core.Path.{sym}
 use lib.Seq.{length-take-le}
-use Rattle.le_bytes.specs.Bytes.{doubles-of}
-use Rattle.le_bytes.proofs.Counts.{count-doubles}
-use Rattle.byte_arrays.proofs.Parts.{within-numbers, within-columns, within-doubles}
-use Rattle.exports_paused_bytes.proofs.Cuts.{job-cut}
+use Rattle.le_bytes.specs.Bytes.{doubles_of}
+use Rattle.le_bytes.proofs.Counts.{count_doubles}
+use Rattle.byte_arrays.proofs.Parts.{within_numbers, within_columns, within_doubles}
+use Rattle.exports_paused_bytes.proofs.Cuts.{job_cut}
 use Rattle.exports_paused_bytes.proofs.answer.Statement.{statement}
 use Rattle.exports_paused_bytes.proofs.answer.Tie as tie
 
@@ -37,16 +37,16 @@ slice-aggregate-in-arrays-8 c = sym (length-take-le _ _ c.before.before.before.b
 in-arrays-requires : tie.Need-in-arrays-requires
 in-arrays-requires c κs =
     let a = c.before.before.before.before.before.before.before.before.before.before.before.before.before.before.before.before.before.before.before.before.before.before.before.before.before.before.before.before.args in (
-      (within-numbers a.starts.now c.before.before.before.before.before.before.before.before.before.before.before.before.before.before.before.before.part.ensures.0 c.before.before.before.before.before.before.before.before.before.before.before.before.before.before.before.before.part.ensures.1, within-columns a.cols.now c.before.before.before.before.before.before.before.before.before.before.before.before.before.before.before.part2.ensures.0 c.before.before.before.before.before.before.before.before.before.before.before.before.before.before.before.part2.ensures.1, c.before.before.before.before.before.before.before.before.before.before.before.before.before.before.before.before.before.before.before.before.before.before.before.before.before.before.before.before.requires.1, within-doubles a.mass.now (omega (arith, c.before.before.before.before.before.before.before.before.before.before.before.before.before.before.part3.ensures.0, c.before.before.before.before.before.before.before.before.before.before.before.before.before.before.before.before.before.used.ensures.1)) c.before.before.before.before.before.before.before.before.before.before.before.before.before.before.part3.ensures.1, within-doubles a.w.now c.before.before.before.before.before.before.before.before.before.before.before.before.before.part4.ensures.0 c.before.before.before.before.before.before.before.before.before.before.before.before.before.part4.ensures.1),
-      (within-doubles a.out.now c.before.before.before.before.before.before.before.before.before.before.before.before.part5.ensures.0 c.before.before.before.before.before.before.before.before.before.before.before.before.part5.ensures.1, c.before.before.before.before.before.before.before.before.before.before.before.before.before.before.before.before.before.before.before.before.before.before.before.before.before.before.before.before.requires.2, within-doubles a.field.now c.before.before.before.before.before.before.before.before.before.before.before.part6.ensures.0 c.before.before.before.before.before.before.before.before.before.before.before.part6.ensures.1, within-doubles a.numbers.now c.before.before.before.before.before.before.before.before.before.before.part7.ensures.0 c.before.before.before.before.before.before.before.before.before.before.part7.ensures.1, within-doubles a.counts.now c.before.before.before.before.before.before.before.before.before.part8.ensures.0 c.before.before.before.before.before.before.before.before.before.part8.ensures.1),
+      (within_numbers a.starts.now c.before.before.before.before.before.before.before.before.before.before.before.before.before.before.before.before.part.ensures.0 c.before.before.before.before.before.before.before.before.before.before.before.before.before.before.before.before.part.ensures.1, within_columns a.cols.now c.before.before.before.before.before.before.before.before.before.before.before.before.before.before.before.part2.ensures.0 c.before.before.before.before.before.before.before.before.before.before.before.before.before.before.before.part2.ensures.1, c.before.before.before.before.before.before.before.before.before.before.before.before.before.before.before.before.before.before.before.before.before.before.before.before.before.before.before.before.requires.1, within_doubles a.mass.now (omega (arith, c.before.before.before.before.before.before.before.before.before.before.before.before.before.before.part3.ensures.0, c.before.before.before.before.before.before.before.before.before.before.before.before.before.before.before.before.before.used.ensures.1)) c.before.before.before.before.before.before.before.before.before.before.before.before.before.before.part3.ensures.1, within_doubles a.w.now c.before.before.before.before.before.before.before.before.before.before.before.before.before.part4.ensures.0 c.before.before.before.before.before.before.before.before.before.before.before.before.before.part4.ensures.1),
+      (within_doubles a.out.now c.before.before.before.before.before.before.before.before.before.before.before.before.part5.ensures.0 c.before.before.before.before.before.before.before.before.before.before.before.before.part5.ensures.1, c.before.before.before.before.before.before.before.before.before.before.before.before.before.before.before.before.before.before.before.before.before.before.before.before.before.before.before.before.requires.2, within_doubles a.field.now c.before.before.before.before.before.before.before.before.before.before.before.part6.ensures.0 c.before.before.before.before.before.before.before.before.before.before.before.part6.ensures.1, within_doubles a.numbers.now c.before.before.before.before.before.before.before.before.before.before.part7.ensures.0 c.before.before.before.before.before.before.before.before.before.before.part7.ensures.1, within_doubles a.counts.now c.before.before.before.before.before.before.before.before.before.part8.ensures.0 c.before.before.before.before.before.before.before.before.before.part8.ensures.1),
     )
 
 returns : tie.Need-returns
 returns c =
     let a = c.before.before.before.before.before.before.before.before.before.before.before.before.before.before.before.before.before.before.before.before.before.before.before.before.before.before.before.before.before.before.before.before.before.before.before.before.before.before.before.before.args in
-    job-cut a.call a.n (doubles-of a.vals.now) c.before.before.before.before.before.before.before.before.before.before.before.before.before.before.before.before.before.before.before.before.before.before.before.before.before.before.before.before.before.before.before.before.before.before.before.before.before.before.before.before.requires.0 (omega (arith, count-doubles a.vals.now, c.before.before.before.before.before.before.before.before.before.before.before.before.before.before.before.before.before.before.before.before.before.before.before.before.before.before.before.before.before.before.before.before.before.before.before.before.before.before.before.before.requires.1)) a.with-mass a.tau a.count a.starts.now a.cols.now a.mass.now a.w.now a.out.now a.work.now a.field.now a.numbers.now a.counts.now
+    job_cut a.call a.n (doubles_of a.vals.now) c.before.before.before.before.before.before.before.before.before.before.before.before.before.before.before.before.before.before.before.before.before.before.before.before.before.before.before.before.before.before.before.before.before.before.before.before.before.before.before.before.requires.0 (omega (arith, count_doubles a.vals.now, c.before.before.before.before.before.before.before.before.before.before.before.before.before.before.before.before.before.before.before.before.before.before.before.before.before.before.before.before.before.before.before.before.before.before.before.before.before.before.before.before.requires.1)) a.with-mass a.tau a.count a.starts.now a.cols.now a.mass.now a.w.now a.out.now a.work.now a.field.now a.numbers.now a.counts.now
     c.before.before.before.before.before.before.before.before.before.before.before.before.before.before.before.before.before.before.before.before.before.before.before.before.before.before.before.before.before.used.result c.before.before.before.before.before.before.before.before.before.before.before.before.before.before.before.before.before.before.before.before.before.before.before.before.before.before.before.before.part.result c.before.before.before.before.before.before.before.before.before.before.before.before.before.before.before.before.before.before.before.before.before.before.before.before.before.before.before.part2.result c.before.before.before.before.before.before.before.before.before.before.before.before.before.before.before.before.before.before.before.before.before.before.before.before.before.before.part3.result c.before.before.before.before.before.before.before.before.before.before.before.before.before.before.before.before.before.before.before.before.before.before.before.before.before.part4.result c.before.before.before.before.before.before.before.before.before.before.before.before.before.before.before.before.before.before.before.before.before.before.before.before.part5.result c.before.before.before.before.before.before.before.before.before.before.before.before.before.before.before.before.before.before.before.before.before.before.before.part6.result c.before.before.before.before.before.before.before.before.before.before.before.before.before.before.before.before.before.before.before.before.before.before.part7.result c.before.before.before.before.before.before.before.before.before.before.before.before.before.before.before.before.before.before.before.before.before.part8.result
-    (λ i. omega (arith, c.before.before.before.before.before.before.before.before.before.before.before.before.before.before.before.before.before.before.before.before.before.before.before.before.before.before.before.before.before.before.before.before.before.before.slice-known.given i)) (λ i. omega (arith, c.before.before.before.before.before.before.before.before.before.before.before.before.before.before.before.before.before.before.before.before.before.before.before.before.before.before.before.before.before.before.before.before.slice-known3.given i)) (λ i. omega (arith, c.before.before.before.before.before.before.before.before.before.before.before.before.before.before.before.before.before.before.before.before.before.before.before.before.before.before.before.before.before.before.before.slice-known4.given i)) (λ i. omega (arith, c.before.before.before.before.before.before.before.before.before.before.before.before.before.before.before.before.before.before.before.before.before.before.before.before.before.before.before.before.before.before.slice-known5.given i))
+    (λ i. omega (arith, c.before.before.before.before.before.before.before.before.before.before.before.before.before.before.before.before.before.before.before.before.before.before.before.before.before.before.before.before.before.before.before.before.before.before.slice_known.given i)) (λ i. omega (arith, c.before.before.before.before.before.before.before.before.before.before.before.before.before.before.before.before.before.before.before.before.before.before.before.before.before.before.before.before.before.before.before.before.slice-known3.given i)) (λ i. omega (arith, c.before.before.before.before.before.before.before.before.before.before.before.before.before.before.before.before.before.before.before.before.before.before.before.before.before.before.before.before.before.before.before.slice-known4.given i)) (λ i. omega (arith, c.before.before.before.before.before.before.before.before.before.before.before.before.before.before.before.before.before.before.before.before.before.before.before.before.before.before.before.before.before.before.slice-known5.given i))
     c.before.before.before.before.before.before.before.before.before.before.before.before.before.before.before.before.before.before.before.before.before.before.before.before.before.before.before.before.before.used.ensures.0 c.before.before.before.before.before.before.before.before.before.before.before.before.before.before.before.before.before.before.before.before.before.before.before.before.before.before.before.before.part.ensures.2 c.before.before.before.before.before.before.before.before.before.before.before.before.before.before.before.before.before.before.before.before.before.before.before.before.before.before.before.part2.ensures.2 c.before.before.before.before.before.before.before.before.before.before.before.before.before.before.before.before.before.before.before.before.before.before.before.before.before.before.part3.ensures.2 c.before.before.before.before.before.before.before.before.before.before.before.before.before.before.before.before.before.before.before.before.before.before.before.before.before.part4.ensures.2 c.before.before.before.before.before.before.before.before.before.before.before.before.before.before.before.before.before.before.before.before.before.before.before.before.part5.ensures.2 c.before.before.before.before.before.before.before.before.before.before.before.before.before.before.before.before.before.before.before.before.before.before.before.part6.ensures.2 c.before.before.before.before.before.before.before.before.before.before.before.before.before.before.before.before.before.before.before.before.before.before.part7.ensures.2 c.before.before.before.before.before.before.before.before.before.before.before.before.before.before.before.before.before.before.before.before.before.part8.ensures.2
     c.before.before.before.before.before.before.before.before.before.before.before.in-arrays.ensures c.reported.ensures
 

@@ -4,7 +4,7 @@ use native.Mathlib.Omega.{arith}
 use mathlib.Core.Path.{refl}
 use Prim.Native.Nat.{◌-◌, ◌*◌, ◌≤◌}
 use Rattle.lists.specs.Window.{window}
-use Rattle.lists.proofs.Loop.{Filled, started, turned₀, finished-all}
+use Rattle.lists.proofs.Loop.{Filled, started, turned₀, finished_all}
 use Rattle.exports_paused.specs.Told.{held}
 use Rattle.exports_rotation.proofs.held_places.Statement.{statement}
 use Rattle.exports_rotation.proofs.held_places.Tie as tie
@@ -19,7 +19,7 @@ loop-again : tie.Need-loop-preserved invariant-loop decreases-loop
 loop-again c = (omega arith, turned₀ c.before.before.loop.invariant.1 c.held_at.ensures)
 
 returns : tie.Need-returns invariant-loop decreases-loop
-returns c = finished-all c.before.loop.invariant.1 16 c.before.loop.invariant.0 (omega arith) refl
+returns c = finished_all c.before.loop.invariant.1 16 c.before.loop.invariant.0 (omega arith) refl
 
 pub held-places-spec : {M : Type 1} → statement M
 held-places-spec =

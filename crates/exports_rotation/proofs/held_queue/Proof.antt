@@ -5,7 +5,7 @@ use mathlib.Core.Path.{refl, sym, ◌∙◌}
 use Prim.Native.Nat.{◌+◌, ◌-◌, ◌≤◌}
 use lib.Dec.{lit<}
 use lib.ListN.{get_or}
-use Rattle.lists.proofs.Loop.{Filled, started, turned₀, finished-all, window-tabulate}
+use Rattle.lists.proofs.Loop.{Filled, started, turned₀, finished_all, window_tabulate}
 use Rattle.exports_rotation.proofs.held_queue.Statement.{statement}
 use Rattle.exports_rotation.proofs.held_queue.Tie as tie
 
@@ -23,8 +23,8 @@ loop-again c = (omega arith, turned₀ c.before.before.loop.invariant.1 refl)
 
 returns : tie.Need-returns invariant-loop decreases-loop
 returns c =
-    finished-all c.before.loop.invariant.1 16 c.before.loop.invariant.0 (omega arith) refl
-    ∙ sym (window-tabulate 128 16 c.before.before.args.counts.now 0 (omega (arith, c.before.before.requires)))
+    finished_all c.before.loop.invariant.1 16 c.before.loop.invariant.0 (omega arith) refl
+    ∙ sym (window_tabulate 128 16 c.before.before.args.counts.now 0 (omega (arith, c.before.before.requires)))
 
 pub held-queue-spec : {M : Type 1} → statement M
 held-queue-spec =

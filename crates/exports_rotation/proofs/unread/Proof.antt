@@ -5,7 +5,7 @@ use Rattle.exports_rotation.proofs.unread.Statement.{statement}
 use Rattle.exports_rotation.proofs.unread.Tie as tie
 
 returns : tie.Need-returns
-returns c = rw c.not-a-number.ensures refl
+returns c = rw c.not_a_number.ensures refl
 
 pub unread-spec : {M : Type 1} → statement M
 unread-spec =

@@ -5,7 +5,7 @@ use mathlib.Core.Path.{◌≡◌, refl, ap, ◌∙◌}
 use Prim.Native.Nat.{ℕ, ◌-◌, ◌≤◌}
 use Rattle.lists.specs.Loop.{stack}
 use Rattle.lists.specs.Window.{splice}
-use Rattle.lists.proofs.Stack.{Stacked, stack-start, stack-whole}
+use Rattle.lists.proofs.Stack.{Stacked, stack_start, stack_whole}
 use Rattle.rotation.specs.Unit.{run_at}
 use Rattle.exports_paused.specs.Told.{numbers_of, counts_of}
 use Rattle.exports_rotation.proofs.Units.{row_more}
@@ -34,7 +34,7 @@ returns : tie.Need-returns invariant-loop decreases-loop
 returns c =
     let inv = c.before.loop.invariant in
     let all : c.before.loop.p ≡ 16 = omega (arith, inv.0) in
-    (stack-whole inv.1 16 all c.before.before.before.before.requires.0, inv.2.is ∙ ap (λ (k : ℕ). splice 0 (stack k (λ p. counts_of (run_at c.before.before.before.before.args.t1 p))) c.before.before.before.before.args.counts.now) all)
+    (stack_whole inv.1 16 all c.before.before.before.before.requires.0, inv.2.is ∙ ap (λ (k : ℕ). splice 0 (stack k (λ p. counts_of (run_at c.before.before.before.before.args.t1 p))) c.before.before.before.before.args.counts.now) all)
 
 pub write-places-spec : {M : Type 1} → statement M
 write-places-spec =
@@ -42,7 +42,7 @@ write-places-spec =
     (tie.spec
     invariant-loop
     decreases-loop
-    (λ c. (omega arith, stack-start 0 10 _ _, stack-start 0 8 _ _))
+    (λ c. (omega arith, stack_start 0 10 _ _, stack_start 0 8 _ _))
     (λ c. search rules)
     (λ c. search rules)
     write-at-requires

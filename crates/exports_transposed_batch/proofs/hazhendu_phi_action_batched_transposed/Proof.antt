@@ -1,12 +1,12 @@
 -- `exports_transposed_batch::hazhendu_phi_action_batched_transposed` meets its contract. Assumes nothing.
 use borrow.Author.Rules.{rules}
-use Rattle.answers.specs.Told.{taylor-numbers}
+use Rattle.answers.specs.Told.{taylor_numbers}
 use Rattle.transposed_told.proofs.Telling.{told_of}
 use Rattle.exports_transposed_batch.proofs.hazhendu_phi_action_batched_transposed.Statement.{statement}
 use Rattle.exports_transposed_batch.proofs.hazhendu_phi_action_batched_transposed.Tie as tie
 
 returns : tie.Need-returns
-returns c = told_of taylor-numbers _ c.taylor-numbers.ensures c.before.before.before.before.before.before.before.before.before.before.before.before.before.before.before.phi-action-batched-transposed.ensures
+returns c = told_of taylor_numbers _ c.taylor_numbers.ensures c.before.before.before.before.before.before.before.before.before.before.before.before.before.before.before.phi_action_batched_transposed.ensures
 
 pub hazhendu-phi-action-batched-transposed-spec : {M : Type 1} → statement M
 hazhendu-phi-action-batched-transposed-spec =

@@ -3,11 +3,11 @@ use borrow.Author.Rules.{rules}
 use native.Mathlib.Omega.{arith}
 use mathlib.Core.Path.{sym, ◌∙◌, ap}
 use lib.Seq.{length-take-le}
-use Rattle.le_bytes.specs.Bytes.{doubles-of}
-use Rattle.le_bytes.proofs.Counts.{count-doubles}
-use Rattle.byte_arrays.proofs.Parts.{within-numbers, within-columns, within-doubles}
-use Rattle.transposed_byte_calls.specs.Replies.{matrix-replies}
-use Rattle.exports_transposed_bytes.proofs.Cuts.{check-cut, telling-row}
+use Rattle.le_bytes.specs.Bytes.{doubles_of}
+use Rattle.le_bytes.proofs.Counts.{count_doubles}
+use Rattle.byte_arrays.proofs.Parts.{within_numbers, within_columns, within_doubles}
+use Rattle.transposed_byte_calls.specs.Replies.{matrix_replies}
+use Rattle.exports_transposed_bytes.proofs.Cuts.{check_cut, telling_row}
 use Rattle.exports_transposed_bytes.proofs.check_answer.Statement.{statement}
 use Rattle.exports_transposed_bytes.proofs.check_answer.Tie as tie
 
@@ -32,15 +32,15 @@ slice-aggregate-check-in-arrays-6 c = sym (length-take-le _ _ c.before.before.be
 check-in-arrays-requires : tie.Need-check-in-arrays-requires
 check-in-arrays-requires c κs =
     let a = c.before.before.before.before.before.before.before.before.before.before.before.before.before.before.before.before.before.before.before.before.args in
-    (within-numbers a.starts.now c.before.before.before.before.before.before.before.before.before.before.before.part.ensures.0 c.before.before.before.before.before.before.before.before.before.before.before.part.ensures.1, within-columns a.cols.now c.before.before.before.before.before.before.before.before.before.before.part2.ensures.0 c.before.before.before.before.before.before.before.before.before.before.part2.ensures.1, c.before.before.before.before.before.before.before.before.before.before.before.before.before.before.before.before.before.before.before.before.requires.1, within-doubles a.mass.now (omega (arith, c.before.before.before.before.before.before.before.before.before.part3.ensures.0, c.before.before.before.before.before.before.before.before.before.before.before.before.used.ensures.1)) c.before.before.before.before.before.before.before.before.before.part3.ensures.1, within-numbers a.t-starts.now c.before.before.before.before.before.before.before.before.part4.ensures.0 c.before.before.before.before.before.before.before.before.part4.ensures.1, within-numbers a.t-cols.now c.before.before.before.before.before.before.before.part5.ensures.0 c.before.before.before.before.before.before.before.part5.ensures.1, within-doubles a.t-vals.now c.before.before.before.before.before.before.part6.ensures.0 c.before.before.before.before.before.before.part6.ensures.1)
+    (within_numbers a.starts.now c.before.before.before.before.before.before.before.before.before.before.before.part.ensures.0 c.before.before.before.before.before.before.before.before.before.before.before.part.ensures.1, within_columns a.cols.now c.before.before.before.before.before.before.before.before.before.before.part2.ensures.0 c.before.before.before.before.before.before.before.before.before.before.part2.ensures.1, c.before.before.before.before.before.before.before.before.before.before.before.before.before.before.before.before.before.before.before.before.requires.1, within_doubles a.mass.now (omega (arith, c.before.before.before.before.before.before.before.before.before.part3.ensures.0, c.before.before.before.before.before.before.before.before.before.before.before.before.used.ensures.1)) c.before.before.before.before.before.before.before.before.before.part3.ensures.1, within_numbers a.t-starts.now c.before.before.before.before.before.before.before.before.part4.ensures.0 c.before.before.before.before.before.before.before.before.part4.ensures.1, within_numbers a.t-cols.now c.before.before.before.before.before.before.before.part5.ensures.0 c.before.before.before.before.before.before.before.part5.ensures.1, within_doubles a.t-vals.now c.before.before.before.before.before.before.part6.ensures.0 c.before.before.before.before.before.before.part6.ensures.1)
 
 returns : tie.Need-returns
 returns c =
     let a = c.before.before.before.before.before.before.before.before.before.before.before.before.before.before.before.before.before.before.before.before.before.before.before.before.before.before.before.before.before.before.before.args in
-    check-cut a.t-starts.now a.t-cols.now a.t-vals.now c.before.before.before.before.before.before.before.before.before.before.before.before.before.before.before.before.before.before.before.part4.result c.before.before.before.before.before.before.before.before.before.before.before.before.before.before.before.before.before.before.part5.result c.before.before.before.before.before.before.before.before.before.before.before.before.before.before.before.before.before.part6.result (λ i. omega (arith, c.before.before.before.before.before.before.before.before.before.before.before.before.before.before.before.before.before.before.before.before.before.before.before.before.before.before.slice-known.given i)) (λ i. omega (arith, c.before.before.before.before.before.before.before.before.before.before.before.before.before.before.before.before.before.before.before.before.before.before.before.before.before.slice-known2.given i)) (λ i. omega (arith, c.before.before.before.before.before.before.before.before.before.before.before.before.before.before.before.before.before.before.before.before.before.before.before.before.slice-known3.given i)) c.before.before.before.before.before.before.before.before.before.before.before.before.before.before.before.before.before.before.before.part4.ensures.0 c.before.before.before.before.before.before.before.before.before.before.before.before.before.before.before.before.before.before.part5.ensures.0 c.before.before.before.before.before.before.before.before.before.before.before.before.before.before.before.before.before.part6.ensures.0
-    a.n (doubles-of a.vals.now) c.before.before.before.before.before.before.before.before.before.before.before.before.before.before.before.before.before.before.before.before.before.before.before.before.before.before.before.before.before.before.before.requires.0 (omega (arith, count-doubles a.vals.now, c.before.before.before.before.before.before.before.before.before.before.before.before.before.before.before.before.before.before.before.before.before.before.before.before.before.before.before.before.before.before.before.requires.1)) a.with-mass a.starts.now a.cols.now a.mass.now c.before.before.before.before.before.before.before.before.before.before.before.before.before.before.before.before.before.before.before.before.before.before.before.used.result c.before.before.before.before.before.before.before.before.before.before.before.before.before.before.before.before.before.before.before.before.before.before.part.result c.before.before.before.before.before.before.before.before.before.before.before.before.before.before.before.before.before.before.before.before.before.part2.result c.before.before.before.before.before.before.before.before.before.before.before.before.before.before.before.before.before.before.before.before.part3.result
+    check_cut a.t-starts.now a.t-cols.now a.t-vals.now c.before.before.before.before.before.before.before.before.before.before.before.before.before.before.before.before.before.before.before.part4.result c.before.before.before.before.before.before.before.before.before.before.before.before.before.before.before.before.before.before.part5.result c.before.before.before.before.before.before.before.before.before.before.before.before.before.before.before.before.before.part6.result (λ i. omega (arith, c.before.before.before.before.before.before.before.before.before.before.before.before.before.before.before.before.before.before.before.before.before.before.before.before.before.before.slice_known.given i)) (λ i. omega (arith, c.before.before.before.before.before.before.before.before.before.before.before.before.before.before.before.before.before.before.before.before.before.before.before.before.before.slice-known2.given i)) (λ i. omega (arith, c.before.before.before.before.before.before.before.before.before.before.before.before.before.before.before.before.before.before.before.before.before.before.before.before.slice-known3.given i)) c.before.before.before.before.before.before.before.before.before.before.before.before.before.before.before.before.before.before.before.part4.ensures.0 c.before.before.before.before.before.before.before.before.before.before.before.before.before.before.before.before.before.before.part5.ensures.0 c.before.before.before.before.before.before.before.before.before.before.before.before.before.before.before.before.before.part6.ensures.0
+    a.n (doubles_of a.vals.now) c.before.before.before.before.before.before.before.before.before.before.before.before.before.before.before.before.before.before.before.before.before.before.before.before.before.before.before.before.before.before.before.requires.0 (omega (arith, count_doubles a.vals.now, c.before.before.before.before.before.before.before.before.before.before.before.before.before.before.before.before.before.before.before.before.before.before.before.before.before.before.before.before.before.before.before.requires.1)) a.with-mass a.starts.now a.cols.now a.mass.now c.before.before.before.before.before.before.before.before.before.before.before.before.before.before.before.before.before.before.before.before.before.before.before.used.result c.before.before.before.before.before.before.before.before.before.before.before.before.before.before.before.before.before.before.before.before.before.before.part.result c.before.before.before.before.before.before.before.before.before.before.before.before.before.before.before.before.before.before.before.before.before.part2.result c.before.before.before.before.before.before.before.before.before.before.before.before.before.before.before.before.before.before.before.before.part3.result
     c.before.before.before.before.before.before.before.before.before.before.before.before.before.before.before.before.before.before.before.before.before.before.before.used.ensures.0 c.before.before.before.before.before.before.before.before.before.before.before.before.before.before.before.before.before.before.before.before.before.before.part.ensures.2 c.before.before.before.before.before.before.before.before.before.before.before.before.before.before.before.before.before.before.before.before.before.part2.ensures.2 c.before.before.before.before.before.before.before.before.before.before.before.before.before.before.before.before.before.before.before.before.part3.ensures.2 c.before.before.before.before.before.before.before.before.before.before.before.before.before.before.before.before.before.before.before.part4.ensures.2 c.before.before.before.before.before.before.before.before.before.before.before.before.before.before.before.before.before.before.part5.ensures.2 c.before.before.before.before.before.before.before.before.before.before.before.before.before.before.before.before.before.part6.ensures.2
-    (telling-row c.before.matrix-numbers.ensures c.before.before.before.before.before.before.before.before.before.before.check-in-arrays.ensures) c.reported.ensures
+    (telling_row c.before.matrix_numbers.ensures c.before.before.before.before.before.before.before.before.before.before.check-in-arrays.ensures) c.reported.ensures
 
 pub check-answer-spec : {M : Type 1} → statement M
 check-answer-spec =

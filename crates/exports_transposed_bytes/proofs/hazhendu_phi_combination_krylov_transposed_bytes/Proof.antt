@@ -1,22 +1,22 @@
 -- `exports_transposed_bytes::hazhendu_phi_combination_krylov_transposed_bytes` meets its contract. Assumes nothing.
 use borrow.Author.Rules.{rules}
 use mathlib.Core.Path.{sym, ◌∙◌}
-use Rattle.transposed.specs.Transposed.{phi-combination-krylov-transposed}
+use Rattle.transposed.specs.Transposed.{phi_combination_krylov_transposed}
 use Rattle.byte_calls.specs.Inner.{told, called}
-use Rattle.transposed_byte_calls.specs.Inner.{called-transposed}
-use Rattle.transposed_byte_calls.proofs.Reply.{refused-large, not-large, telling}
+use Rattle.transposed_byte_calls.specs.Inner.{called_transposed}
+use Rattle.transposed_byte_calls.proofs.Reply.{refused_large, not_large, telling}
 use Rattle.exports_transposed_bytes.proofs.hazhendu_phi_combination_krylov_transposed_bytes.Statement.{statement}
 use Rattle.exports_transposed_bytes.proofs.hazhendu_phi_combination_krylov_transposed_bytes.Tie as tie
 
 returns : tie.Need-returns
-returns c = refused-large _ _ (sym c.before.large.ensures.0 ∙ c.if1.true)
+returns c = refused_large _ _ (sym c.before.large.ensures.0 ∙ c.if1.true)
 
 answer-requires : tie.Need-answer-requires
 answer-requires c κs = c.before.before.before.before.before.before.large.ensures.1 c.before.before.before.before.before.if1.false
 
 returns-2 : tie.Need-returns-2
-unfolding told called called-transposed phi-combination-krylov-transposed
-returns-2 c = not-large _ _ (sym c.before.before.before.before.before.before.before.before.before.before.before.before.before.before.before.before.before.before.before.before.before.before.before.before.large.ensures.0 ∙ c.before.before.before.before.before.before.before.before.before.before.before.before.before.before.before.before.before.before.before.before.before.before.before.if1.false) (telling c.krylov-numbers.ensures c.before.before.before.before.before.before.before.before.before.before.before.before.before.before.before.before.before.answer.ensures)
+unfolding told called called_transposed phi_combination_krylov_transposed
+returns-2 c = not_large _ _ (sym c.before.before.before.before.before.before.before.before.before.before.before.before.before.before.before.before.before.before.before.before.before.before.before.before.large.ensures.0 ∙ c.before.before.before.before.before.before.before.before.before.before.before.before.before.before.before.before.before.before.before.before.before.before.before.if1.false) (telling c.krylov_numbers.ensures c.before.before.before.before.before.before.before.before.before.before.before.before.before.before.before.before.before.answer.ensures)
 
 pub hazhendu-phi-combination-krylov-transposed-bytes-spec : {M : Type 1} → statement M
 hazhendu-phi-combination-krylov-transposed-bytes-spec =

@@ -3,25 +3,25 @@ use borrow.Author.Rules.{rules}
 use native.Mathlib.Omega.{arith}
 use mathlib.Core.Path.{refl, sym, ap, ◌∙◌}
 use Prim.Native.Nat.{◌+◌}
-use Rattle.lists.proofs.Frame.{kept-all}
-use Rattle.lists.proofs.Window.{part-window}
-use Rattle.pow2.specs.Pow2.{pow2-scale}
-use Rattle.krylov_advance.specs.Run.{expv, expv-by, idle}
-use Rattle.krylov_advance.specs.Memory.{end-at}
+use Rattle.lists.proofs.Frame.{kept_all}
+use Rattle.lists.proofs.Window.{part_window}
+use Rattle.pow2.specs.Pow2.{pow2_scale}
+use Rattle.krylov_advance.specs.Run.{expv, expv_by, idle}
+use Rattle.krylov_advance.specs.Memory.{end_at}
 use Rattle.expv.proofs.expv.Statement.{statement}
 use Rattle.expv.proofs.expv.Tie as tie
 
 add-end : tie.Need-overflow-add-end
-add-end c = omega (arith, c.before.before.before.before.before.before.requires.0.then-av, c.before.before.before.before.before.before.requires.0.laid.av-in)
+add-end c = omega (arith, c.before.before.before.before.before.before.requires.0.then_av, c.before.before.before.before.before.before.requires.0.laid.av_in)
 
 add-end-2 : tie.Need-overflow-add-end-2
-add-end-2 c = omega (arith, c.before.before.before.before.before.before.requires.0.then-av, c.before.before.before.before.before.before.requires.0.laid.av-in)
+add-end-2 c = omega (arith, c.before.before.before.before.before.before.requires.0.then_av, c.before.before.before.before.before.before.requires.0.laid.av_in)
 
 part-pow2-scale-start : tie.Need-slice-bounds-pow2-scale-start
 part-pow2-scale-start c = omega arith
 
 part-pow2-scale-end : tie.Need-slice-bounds-pow2-scale-end
-part-pow2-scale-end c = omega (arith, c.before.before.before.before.before.before.before.requires.0.then-av, c.before.before.before.before.before.before.before.requires.0.laid.av-in)
+part-pow2-scale-end c = omega (arith, c.before.before.before.before.before.before.before.requires.0.then_av, c.before.before.before.before.before.before.before.requires.0.laid.av_in)
 
 scaled-run-requires : tie.Need-scaled-run-requires
 scaled-run-requires c κs = c.before.before.before.before.before.before.before.before.before.before.before.before.before.requires
@@ -30,11 +30,11 @@ same_length : tie.Need-same-length
 same_length c = refl
 
 returns : tie.Need-returns
-unfolding expv expv-by idle end-at
+unfolding expv expv_by idle end_at
 returns c =
     let a = c.before.before.before.before.before.before.before.before.before.before.before.args in
-    let p = sym (c.before.before.pow2-scale.ensures ∙ ap pow2-scale (part-window a.k.y (a.l.n + a.l.d) a.work.now)) ∙ c.enum_told.given.1 in
-    (rw p refl, kept-all _ _ _ _)
+    let p = sym (c.before.before.pow2_scale.ensures ∙ ap pow2_scale (part_window a.k.y (a.l.n + a.l.d) a.work.now)) ∙ c.enum_told.given.1 in
+    (rw p refl, kept_all _ _ _ _)
 
 same-length-2 : tie.Need-same-length-2
 same-length-2 c = c.before.before.scaled-run.ensures.1.long
@@ -44,7 +44,7 @@ unfolding expv
 returns-2 c =
     let r = c.before.before.scaled-run.ensures in
     let a = c.before.before.before.before.before.before.before.before.before.before.before.before.before.before.before.before.args in
-    let p = sym (c.before.before.before.before.before.before.before.pow2-scale.ensures ∙ ap pow2-scale (part-window a.k.y (a.l.n + a.l.d) a.work.now)) ∙ c.before.before.before.before.before.scale.given.1 in
+    let p = sym (c.before.before.before.before.before.before.before.pow2_scale.ensures ∙ ap pow2_scale (part_window a.k.y (a.l.n + a.l.d) a.work.now)) ∙ c.before.before.before.before.before.scale.given.1 in
     (rw p r.0, r.1)
 
 pub expv-spec : {M : Type 1} → statement M

@@ -3,15 +3,15 @@ use mathlib.Core.Path.{◌≡◌, sym, ap, ◌∙◌}
 use Prim.Native.Nat.{◌+◌, ◌-◌, ◌≤◌}
 use native.Mathlib.Omega.{arith}
 use Rattle.lists.specs.Loop.{iter}
-use Rattle.lists.proofs.Loop.{iter-none, iter_turn}
-use Rattle.doubles.specs.F64.{at, maxNum, minNum}
-use Rattle.extremes.specs.Extremes.{unsigned-zero, extreme, largest, smallest}
+use Rattle.lists.proofs.Loop.{iter_none, iter_turn}
+use Rattle.doubles.specs.F64.{at, max_num, min_num}
+use Rattle.extremes.specs.Extremes.{unsigned_zero, extreme, largest, smallest}
 use Rattle.extremes.proofs.extremes_at.Statement.{statement}
 use Rattle.extremes.proofs.extremes_at.Tie as tie
 
 abbrev invariant-loop : tie.invariant-loop
 invariant-loop width x i from count high₀ low₀ k₀ high low k =
-    (k ≤ count) × (high ≡ iter (λ j s. maxNum s (at x (from + (j + 1)))) k (at x from)) × (low ≡ iter (λ j s. minNum s (at x (from + (j + 1)))) k (at x from))
+    (k ≤ count) × (high ≡ iter (λ j s. max_num s (at x (from + (j + 1)))) k (at x from)) × (low ≡ iter (λ j s. min_num s (at x (from + (j + 1)))) k (at x from))
 
 abbrev decreases-loop : tie.decreases-loop
 decreases-loop width x i from count high₀ low₀ k₀ high low k = count - k
@@ -26,9 +26,9 @@ unfolding largest smallest extreme
 returns c =
     let l = c.before.before.before.loop in
     let w = c.before.before.before.before.before.before in
-    let e : l.k ≡ w.before.before.args.i - w.window-start.result = omega arith in
-    rw (← w.window-start.ensures.0)
-    (c.before.unsigned-zero.ensures ∙ ap unsigned-zero (rw e at l.invariant.1), c.unsigned-zero2.ensures ∙ ap unsigned-zero (rw e at l.invariant.2))
+    let e : l.k ≡ w.before.before.args.i - w.window_start.result = omega arith in
+    rw (← w.window_start.ensures.0)
+    (c.before.unsigned_zero.ensures ∙ ap unsigned_zero (rw e at l.invariant.1), c.unsigned-zero2.ensures ∙ ap unsigned_zero (rw e at l.invariant.2))
 
 pub extremes-at-spec : {M : Type 1} → statement M
 extremes-at-spec =
@@ -42,7 +42,7 @@ extremes-at-spec =
     (λ c. omega arith)
     (λ c. omega arith)
     (λ c. omega arith)
-    (λ c. (omega arith, sym (iter-none _ _), sym (iter-none _ _)))
+    (λ c. (omega arith, sym (iter_none _ _), sym (iter_none _ _)))
     (λ c. omega arith)
     (λ c. omega arith)
     (λ c. omega arith)

@@ -3,7 +3,7 @@ use Rattle.std.proofs.Common.{ℕ, ◌-◌, ◌/◌, ◌%◌, ◌<◌, sym, ap, 
 use native.Mathlib.Nat.{mod-le}
 use Rattle.doubles.specs.Value.{val}
 use Rattle.lists.proofs.Descent.{shift_is}
-use Rattle.float.proofs.Cut.{cut_low, cut_high, cut-middle, shift-under}
+use Rattle.float.proofs.Cut.{cut_low, cut_high, cut_middle, shift_under}
 use Rattle.float.proofs.whole_bits.Statement.{statement}
 use Rattle.float.proofs.whole_bits.Tie as tie
 
@@ -22,7 +22,7 @@ shl-result c = search rules
 rem-result : tie.Need-nonzero-rem-result
 rem-result c =
     let y = c.before.before.args.a / 4503599627370496 in
-    subst (λ (z : ℕ). 0 < z) (sym (shift_is (1075 - y) (shift-under y c.before.if1.false))) (pow_pos (1075 - y))
+    subst (λ (z : ℕ). 0 < z) (sym (shift_is (1075 - y) (shift_under y c.before.if1.false))) (pow_pos (1075 - y))
 
 sub-result-2 : tie.Need-overflow-sub-result-2
 sub-result-2 c = mod-le c.before.before.args.a _
@@ -32,7 +32,7 @@ returns-3 c =
     let a = c.before.before.args.a in
     let y = a / 4503599627370496 in (
       sub-le a _,
-      ap (λ (z : ℕ). val (a - a % z)) (shift_is (1075 - y) (shift-under y c.before.if1.false)) ∙ cut-middle a c.before.if1.false c.if2.false,
+      ap (λ (z : ℕ). val (a - a % z)) (shift_is (1075 - y) (shift_under y c.before.if1.false)) ∙ cut_middle a c.before.if1.false c.if2.false,
     )
 
 pub whole-bits-spec : {M : Type 1} → statement M

@@ -1,6 +1,6 @@
 -- `general_operator::check_rows` meets its contract. Assumes nothing.
 use Rattle.checks.proofs.First.{chain}
-use Rattle.general_operator.specs.Checks.{row-checks}
+use Rattle.general_operator.specs.Checks.{row_checks}
 use borrow.Author.Rules.{rules}
 use Rattle.general_operator.proofs.check_rows.Statement.{statement}
 use Rattle.general_operator.proofs.check_rows.Tie as tie
@@ -12,11 +12,11 @@ count-requires : tie.Need-count-requires
 count-requires c κs = search rules
 
 returns : tie.Need-returns
-unfolding row-checks
+unfolding row_checks
 returns c = search chain
 
 returns-2 : tie.Need-returns-2
-unfolding row-checks
+unfolding row_checks
 returns-2 c = search chain
 
 pub check-rows-spec : {M : Type 1} → statement M

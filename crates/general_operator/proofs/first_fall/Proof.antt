@@ -2,7 +2,7 @@
 use native.Mathlib.Omega.{arith}
 use Prim.Native.Nat.{◌-◌, ◌≤◌}
 use borrow.Author.Tests.{lt-ltb, le-ltb}
-use Rattle.lists.proofs.Find.{Passed, passed_start, passed-next, found_at, found_none}
+use Rattle.lists.proofs.Find.{Passed, passed_start, passed_next, found_at, found_none}
 use Rattle.general_operator.specs.Checks.{falls}
 use Rattle.general_operator.proofs.first_fall.Statement.{statement}
 use Rattle.general_operator.proofs.first_fall.Tie as tie
@@ -19,7 +19,7 @@ returns c = found_at c.before.before.before.before.loop.invariant.1 _ (omega ari
 
 loop-again : tie.Need-loop-preserved invariant-loop decreases-loop
 unfolding falls
-loop-again c = (omega arith, passed-next c.before.before.before.before.loop.invariant.1 (le-ltb _ _ c.if1.false))
+loop-again c = (omega arith, passed_next c.before.before.before.before.loop.invariant.1 (le-ltb _ _ c.if1.false))
 
 pub first-fall-spec : {M : Type 1} → statement M
 first-fall-spec =

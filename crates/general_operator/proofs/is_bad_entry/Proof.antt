@@ -2,7 +2,7 @@
 use borrow.Author.Rules.{rules}
 use native.Mathlib.Omega.{arith}
 use borrow.Author.Tests.{le-leb, lt-leb}
-use Rattle.general_operator.specs.Checks.{bad-entry, bad-column}
+use Rattle.general_operator.specs.Checks.{bad_entry, bad_column}
 use Rattle.general_operator.proofs.is_bad_entry.Statement.{statement}
 use Rattle.general_operator.proofs.is_bad_entry.Tie as tie
 
@@ -10,11 +10,11 @@ cast-c : tie.Need-overflow-cast-c
 cast-c c = omega (arith, c.shared-slice-known3.given c.before.before.before.args.k)
 
 returns : tie.Need-returns
-unfolding bad-entry bad-column
+unfolding bad_entry bad_column
 returns c = rw (le-leb _ _ c.if1.true)
 
 returns-2 : tie.Need-returns-2
-unfolding bad-entry bad-column
+unfolding bad_entry bad_column
 returns-2 c = rw (lt-leb _ _ c.before.before.if1.false, c.is_finite.ensures)
 
 pub is-bad-entry-spec : {M : Type 1} → statement M

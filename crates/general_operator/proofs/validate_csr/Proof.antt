@@ -1,7 +1,7 @@
 -- `general_operator::validate_csr` meets its contract. Assumes nothing.
-use Rattle.checks.proofs.First.{refused-up, sound-on}
-use Rattle.general_operator.specs.Checks.{matrix-checks}
-use Rattle.general_operator.proofs.Sound.{shape-rows, shape-paired}
+use Rattle.checks.proofs.First.{refused_up, sound_on}
+use Rattle.general_operator.specs.Checks.{matrix_checks}
+use Rattle.general_operator.proofs.Sound.{shape_rows, shape_paired}
 use borrow.Author.Rules.{rules}
 use Rattle.general_operator.proofs.validate_csr.Statement.{statement}
 use Rattle.general_operator.proofs.validate_csr.Tie as tie
@@ -16,11 +16,11 @@ enum-told-2 : tie.Need-enum-told-2
 enum-told-2 c = search rules
 
 returns : tie.Need-returns
-unfolding matrix-checks
-returns c = search refused-up
+unfolding matrix_checks
+returns c = search refused_up
 
 check-rows-requires : tie.Need-check-rows-requires
-check-rows-requires c κs = search shape-rows
+check-rows-requires c κs = search shape_rows
 
 enum-told-3 : tie.Need-enum-told-3
 enum-told-3 c = search rules
@@ -29,15 +29,15 @@ enum-told-4 : tie.Need-enum-told-4
 enum-told-4 c = search rules
 
 returns-2 : tie.Need-returns-2
-unfolding matrix-checks
-returns-2 c = search (sound-on, refused-up)
+unfolding matrix_checks
+returns-2 c = search (sound_on, refused_up)
 
 check-entries-requires : tie.Need-check-entries-requires
-check-entries-requires c κs = search shape-paired
+check-entries-requires c κs = search shape_paired
 
 returns-3 : tie.Need-returns-3
-unfolding matrix-checks
-returns-3 c = search sound-on
+unfolding matrix_checks
+returns-3 c = search sound_on
 
 pub validate-csr-spec : {M : Type 1} → statement M
 validate-csr-spec =

@@ -1,10 +1,10 @@
 -- `generator_checks::entry_norm` meets its contract. Assumes nothing.
 use native.Mathlib.Omega.{arith}
 use Prim.Native.Nat.{◌+◌, ◌-◌, ◌≤◌}
-use Rattle.general_operator.specs.Csr.{csr, row-sum}
+use Rattle.general_operator.specs.Csr.{csr, row_sum}
 use Rattle.general_operator.proofs.Rows.{row_within}
-use Rattle.generator_action.proofs.Leading.{Leading, leading-start, leading-turn, leading_end}
-use Rattle.generator_action.proofs.Ways.{answered-refusal, answered-norm, refused-norm, sound-norm, entries-nonneg}
+use Rattle.generator_action.proofs.Leading.{Leading, leading_start, leading_turn, leading_end}
+use Rattle.generator_action.proofs.Ways.{answered_refusal, answered_norm, refused_norm, sound_norm, entries_nonneg}
 use Rattle.generator_checks.proofs.entry_norm.Statement.{statement}
 use Rattle.generator_checks.proofs.entry_norm.Tie as tie
 
@@ -27,23 +27,23 @@ size-sum-requires c κs =
     omega (arith, row_within v l.loop.row (omega arith))
 
 loop-again : tie.Need-loop-preserved invariant-loop decreases-loop
-unfolding row-sum
+unfolding row_sum
 loop-again c =
     let l = c.before.before.before.before.before in
     let p = l.before.before.before.before.requires in
-    (omega arith, leading-turn l.loop.invariant.1 (entries-nonneg p.0 p.1 l.loop.row (omega arith)) _ _ _ c.before.size-sum.ensures c.larger.ensures)
+    (omega arith, leading_turn l.loop.invariant.1 (entries_nonneg p.0 p.1 l.loop.row (omega arith)) _ _ _ c.before.size_sum.ensures c.larger.ensures)
 
 returns : tie.Need-returns invariant-loop decreases-loop
 returns c =
     let l = c.before.before.before in
     let e = leading_end l.loop.invariant.1 (omega arith) l.before.before.before.before.requires.0.some in
-    answered-refusal (refused-norm _ e.0 c.before.is_finite.ensures c.if1.true)
+    answered_refusal (refused_norm _ e.0 c.before.is_finite.ensures c.if1.true)
 
 returns-2 : tie.Need-returns-2 invariant-loop decreases-loop
 returns-2 c =
     let l = c.before.before.before in
     let e = leading_end l.loop.invariant.1 (omega arith) l.before.before.before.before.requires.0.some in
-    answered-norm (sound-norm _ e.0 c.before.is_finite.ensures c.if1.false) e
+    answered_norm (sound_norm _ e.0 c.before.is_finite.ensures c.if1.false) e
 
 pub entry-norm-spec : {M : Type 1} → statement M
 entry-norm-spec =
@@ -51,7 +51,7 @@ entry-norm-spec =
     (tie.spec
     invariant-loop
     decreases-loop
-    (λ c. (omega arith, leading-start _))
+    (λ c. (omega arith, leading_start _))
     (λ c. omega arith)
     (λ c. omega arith)
     cast-from

@@ -2,14 +2,14 @@
 use native.Mathlib.Omega.{arith}
 use mathlib.Core.Path.{sym, ◌∙◌}
 use Prim.Native.Nat.{◌-◌, ◌≤◌}
-use Rattle.lists.proofs.Find.{Passed, passed_start, passed-next, found_at, found_none}
+use Rattle.lists.proofs.Find.{Passed, passed_start, passed_next, found_at, found_none}
 use Rattle.doubles.specs.F64.{at}
-use Rattle.generator_action.specs.Mass.{bad-mass}
+use Rattle.generator_action.specs.Mass.{bad_mass}
 use Rattle.generator_checks.proofs.first_bad_mass.Statement.{statement}
 use Rattle.generator_checks.proofs.first_bad_mass.Tie as tie
 
 abbrev invariant-loop : tie.invariant-loop
-invariant-loop mass i₀ i-end i = (i ≤ i-end) × Passed (λ k. bad-mass (at mass k)) i
+invariant-loop mass i₀ i-end i = (i ≤ i-end) × Passed (λ k. bad_mass (at mass k)) i
 
 abbrev decreases-loop : tie.decreases-loop
 decreases-loop mass i₀ i-end i = i-end - i
@@ -18,7 +18,7 @@ returns : tie.Need-returns invariant-loop decreases-loop
 returns c = found_at c.before.before.before.before.loop.invariant.1 _ (omega arith) (sym c.before.is-bad-mass.ensures ∙ c.if1.true)
 
 loop-again : tie.Need-loop-preserved invariant-loop decreases-loop
-loop-again c = (omega arith, passed-next c.before.before.before.before.loop.invariant.1 (sym c.before.is-bad-mass.ensures ∙ c.if1.false))
+loop-again c = (omega arith, passed_next c.before.before.before.before.loop.invariant.1 (sym c.before.is-bad-mass.ensures ∙ c.if1.false))
 
 pub first-bad-mass-spec : {M : Type 1} → statement M
 first-bad-mass-spec =

@@ -3,14 +3,14 @@ use native.Mathlib.Omega.{arith}
 use mathlib.Core.Path.{sym, ap, ◌∙◌}
 use mathlib.Core.Bool.{not}
 use Prim.Native.Nat.{◌+◌, ◌-◌, ◌≤◌}
-use Rattle.lists.proofs.Find.{Passed, passed_start, passed-next}
+use Rattle.lists.proofs.Find.{Passed, passed_start, passed_next}
 use Rattle.doubles.specs.F64.{is_finite}
 use Rattle.general_operator.specs.Csr.{csr}
 use Rattle.general_operator.proofs.Rows.{row_within}
 use Rattle.generator_action.specs.Mass.{normalise, bad_sum}
-use Rattle.generator_action.proofs.Quotients.{row-sum-normalise}
-use Rattle.generator_action.proofs.Leading.{Leading, leading-start, leading-turn, leading_end}
-use Rattle.generator_action.proofs.Ways.{answered-refusal, answered-norm, refused-sum, sound-sums, quotients-nonneg}
+use Rattle.generator_action.proofs.Quotients.{row_sum_normalise}
+use Rattle.generator_action.proofs.Leading.{Leading, leading_start, leading_turn, leading_end}
+use Rattle.generator_action.proofs.Ways.{answered_refusal, answered_norm, refused_sum, sound_sums, quotients_nonneg}
 use Rattle.generator_checks.proofs.quotient_norm.Statement.{statement}
 use Rattle.generator_checks.proofs.quotient_norm.Tie as tie
 
@@ -39,8 +39,8 @@ returns c =
     let s = c.before.before in
     let l = s.before.before.before.before.before in
     let a = l.before.before.before.before.before in
-    let e = s.quotient-sum.ensures ∙ sym (row-sum-normalise a.requires.0 a.args.mass.now l.loop.i (omega arith)) in
-    answered-refusal (refused-sum _ l.loop.invariant.1 _ (omega arith) e (sym (ap not c.before.is_finite.ensures) ∙ c.if1.true))
+    let e = s.quotient-sum.ensures ∙ sym (row_sum_normalise a.requires.0 a.args.mass.now l.loop.i (omega arith)) in
+    answered_refusal (refused_sum _ l.loop.invariant.1 _ (omega arith) e (sym (ap not c.before.is_finite.ensures) ∙ c.if1.true))
 
 loop-again : tie.Need-loop-preserved invariant-loop decreases-loop
 unfolding bad_sum
@@ -50,14 +50,14 @@ loop-again c =
     let a = l.before.before.before.before.before in
     let p = a.requires in
     let i = l.loop.i in
-    let e = s.quotient-sum.ensures ∙ sym (row-sum-normalise p.0 a.args.mass.now i (omega arith)) in
-    (omega arith, passed-next l.loop.invariant.1 (ap (λ x. not (is_finite x)) (sym e) ∙ sym (ap not c.before.before.is_finite.ensures) ∙ c.before.if1.false), leading-turn l.loop.invariant.2 (quotients-nonneg p.0 p.1.0 _ p.1.1 i (omega arith)) _ _ _ e c.larger.ensures)
+    let e = s.quotient-sum.ensures ∙ sym (row_sum_normalise p.0 a.args.mass.now i (omega arith)) in
+    (omega arith, passed_next l.loop.invariant.1 (ap (λ x. not (is_finite x)) (sym e) ∙ sym (ap not c.before.before.is_finite.ensures) ∙ c.before.if1.false), leading_turn l.loop.invariant.2 (quotients_nonneg p.0 p.1.0 _ p.1.1 i (omega arith)) _ _ _ e c.larger.ensures)
 
 returns-2 : tie.Need-returns-2 invariant-loop decreases-loop
 unfolding normalise
 returns-2 c =
     let l = c.before in
-    answered-norm (sound-sums _ l.loop.invariant.1 (omega arith)) (leading_end l.loop.invariant.2 (omega arith) l.before.before.before.before.before.requires.0.some)
+    answered_norm (sound_sums _ l.loop.invariant.1 (omega arith)) (leading_end l.loop.invariant.2 (omega arith) l.before.before.before.before.before.requires.0.some)
 
 pub quotient-norm-spec : {M : Type 1} → statement M
 quotient-norm-spec =
@@ -65,7 +65,7 @@ quotient-norm-spec =
     (tie.spec
     invariant-loop
     decreases-loop
-    (λ c. (omega arith, passed_start _, leading-start _))
+    (λ c. (omega arith, passed_start _, leading_start _))
     (λ c. omega arith)
     (λ c. omega arith)
     cast-from

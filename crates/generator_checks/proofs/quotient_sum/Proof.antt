@@ -4,7 +4,7 @@ use mathlib.Core.Path.{◌≡◌, sym}
 use Prim.Native.Nat.{◌+◌, ◌-◌, ◌≤◌}
 use Rattle.doubles.specs.F64.{◌⊘◌, at, abs}
 use Rattle.doubles.specs.Sum.{sum}
-use Rattle.doubles.proofs.Sum.{sum-none, sum-turn}
+use Rattle.doubles.proofs.Sum.{sum_none, sum_turn}
 use Rattle.generator_checks.proofs.quotient_sum.Statement.{statement}
 use Rattle.generator_checks.proofs.quotient_sum.Tie as tie
 
@@ -15,7 +15,7 @@ abbrev decreases-loop : tie.decreases-loop
 decreases-loop vals from to m s₀ count k₀ s k = count - k
 
 loop-again : tie.Need-loop-preserved invariant-loop decreases-loop
-loop-again c = (omega arith, sum-turn _ _ _ _ c.before.before.before.loop.invariant.1 c.abs.ensures)
+loop-again c = (omega arith, sum_turn _ _ _ _ c.before.before.before.loop.invariant.1 c.abs.ensures)
 
 returns : tie.Need-returns invariant-loop decreases-loop
 returns c =
@@ -30,7 +30,7 @@ quotient-sum-spec =
     invariant-loop
     decreases-loop
     (λ c. omega arith)
-    (λ c. (omega arith, sym (sum-none _)))
+    (λ c. (omega arith, sym (sum_none _)))
     (λ c. omega arith)
     (λ c. omega arith)
     (λ c. omega arith)

@@ -4,8 +4,8 @@ use mathlib.Core.Path.{◌≡◌, sym}
 use Prim.Native.Nat.{◌+◌, ◌-◌, ◌≤◌}
 use Rattle.doubles.specs.F64.{at, abs}
 use Rattle.doubles.specs.Sum.{sum}
-use Rattle.doubles.proofs.Sum.{sum-none, sum-turn}
-use Rattle.general_operator.specs.Csr.{size-sum}
+use Rattle.doubles.proofs.Sum.{sum_none, sum_turn}
+use Rattle.general_operator.specs.Csr.{size_sum}
 use Rattle.generator_checks.proofs.size_sum.Statement.{statement}
 use Rattle.generator_checks.proofs.size_sum.Tie as tie
 
@@ -16,10 +16,10 @@ abbrev decreases-loop : tie.decreases-loop
 decreases-loop vals from to s₀ count k₀ s k = count - k
 
 loop-again : tie.Need-loop-preserved invariant-loop decreases-loop
-loop-again c = (omega arith, sum-turn _ _ _ _ c.before.before.before.loop.invariant.1 c.abs.ensures)
+loop-again c = (omega arith, sum_turn _ _ _ _ c.before.before.before.loop.invariant.1 c.abs.ensures)
 
 returns : tie.Need-returns invariant-loop decreases-loop
-unfolding size-sum
+unfolding size_sum
 returns c =
     let a = c.before.before.before.args in
     let e : c.before.loop.k ≡ a.to - a.from = omega arith in
@@ -32,7 +32,7 @@ size-sum-spec =
     invariant-loop
     decreases-loop
     (λ c. omega arith)
-    (λ c. (omega arith, sym (sum-none _)))
+    (λ c. (omega arith, sym (sum_none _)))
     (λ c. omega arith)
     (λ c. omega arith)
     (λ c. omega arith)

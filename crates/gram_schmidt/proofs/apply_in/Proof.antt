@@ -3,7 +3,7 @@ use borrow.Author.Rules.{rules}
 use native.Mathlib.Omega.{arith}
 use Prim.Native.Nat.{◌+◌, ◌*◌, ◌≤◌}
 use mathlib.Core.Path.{refl}
-use Rattle.lists.proofs.Bounds.{column-within}
+use Rattle.lists.proofs.Bounds.{column_within}
 use Rattle.gram_schmidt.specs.Basis.{apply}
 use Rattle.gram_schmidt.specs.Memory.{column}
 use Rattle.gram_schmidt.proofs.apply_in.Statement.{statement}
@@ -13,7 +13,7 @@ use Rattle.gram_schmidt.proofs.apply_in.Tie as tie
 col : (c : tie.After-aug-product-arg) → (let a = c.before.before.before.before.before.before.before.args in a.j * (a.l.n + a.l.d) + (a.l.n + a.l.d) ≤ a.l.w)
 col c =
     let s = c.before.before.before.before.before.before.before in
-    omega (arith, column-within s.args.j (s.args.k.m + 1) (s.args.l.n + s.args.l.d) (omega arith))
+    omega (arith, column_within s.args.j (s.args.k.m + 1) (s.args.l.n + s.args.l.d) (omega arith))
 
 mul-aug-product : tie.Need-overflow-mul-aug-product
 mul-aug-product c = omega (arith, col c)

@@ -7,17 +7,17 @@ use Prim.Native.Nat.{ℕ, ◌+◌, ◌-◌, ◌*◌, ◌≤◌, ◌<◌}
 use lib.ListN.{length, set, take, drop, length-set}
 use lib.Ieee.{Float}
 use Rattle.lists.specs.Window.{window}
-use Rattle.lists.proofs.Bounds.{column-within, cell-within}
-use Rattle.lists.proofs.Window.{part-window}
+use Rattle.lists.proofs.Bounds.{column_within, cell_within}
+use Rattle.lists.proofs.Window.{part_window}
 use Rattle.dot.specs.Dot.{dot}
 use Rattle.gram_schmidt.specs.Basis.{orthogonal}
 use Rattle.gram_schmidt.specs.Memory.{column, behind, rest_at}
-use Rattle.gram_schmidt.proofs.GramSchmidt.{began, turn, next-size}
+use Rattle.gram_schmidt.proofs.GramSchmidt.{began, turn, next_size}
 use Rattle.gram_schmidt.proofs.orthogonal.Statement.{statement}
 use Rattle.gram_schmidt.proofs.orthogonal.Tie as tie
 
 first_part : (n : ℕ) (w : List Float) → take (n - 0) (drop 0 w) ≡ window 0 n w
-first_part n w = rw zero-add at (part-window 0 n w)
+first_part n w = rw zero-add at (part_window 0 n w)
 
 abbrev invariant-loop : tie.invariant-loop
 invariant-loop work₀ z-at h-at dim len j z-end c₀ i₀ work c i = (i ≤ j) × (length work ≡ length work₀) × (work ≡ behind z-at h-at (orthogonal (column len work₀) dim j i (rest_at len z-at h-at dim work₀)) work₀) × (c ≡ dot (window z-at len work) (window (i * len) len work))
@@ -28,20 +28,20 @@ decreases-loop work₀ z-at h-at dim len j z-end c₀ i₀ work c i = j - i
 -- in a turn the column and the one behind it lie before z, and the place within h
 col : (c : tie.In-loop invariant-loop decreases-loop) → (let a = c.before.before.before.before.before.before.before.args in c.before.loop.i * a.len + a.len + a.len ≤ a.z-at)
 col c = let a = c.before.before.before.before.before.before.before.args in
-    omega (arith, column-within c.before.loop.i a.j a.len c.loop-test.true)
+    omega (arith, column_within c.before.loop.i a.j a.len c.loop-test.true)
 
 cell : (c : tie.In-loop invariant-loop decreases-loop) → (let a = c.before.before.before.before.before.before.before.args in a.j * a.dim + c.before.loop.i < a.dim * a.dim)
 cell c = let a = c.before.before.before.before.before.before.before.args in
-    cell-within a.j a.dim a.dim c.before.loop.i (omega arith) (omega arith)
+    cell_within a.j a.dim a.dim c.before.loop.i (omega arith) (omega arith)
 
 last : (c : tie.After-loop invariant-loop decreases-loop) → (let a = c.before.before.before.before.before.before.before.args in a.j * a.dim + a.j < a.dim * a.dim)
-last c = let a = c.before.before.before.before.before.before.before.args in cell-within a.j a.dim a.dim a.j (omega arith) (omega arith)
+last c = let a = c.before.before.before.before.before.before.before.args in cell_within a.j a.dim a.dim a.j (omega arith) (omega arith)
 
 dot-requires : tie.Need-dot-requires invariant-loop decreases-loop
 dot-requires = λ c κs. omega arith
 
 loop-holds : tie.Need-loop-init invariant-loop decreases-loop
-loop-holds c = (omega arith, refl, began _ _ _ _ _ _, rw zero-mul (rw (part-window c.before.before.before.before.before.args.z-at c.before.before.before.before.before.args.len _, first_part c.before.before.before.before.before.args.len _) at c.dot.ensures))
+loop-holds c = (omega arith, refl, began _ _ _ _ _ _, rw zero-mul (rw (part_window c.before.before.before.before.before.args.z-at c.before.before.before.before.before.args.len _, first_part c.before.before.before.before.before.args.len _) at c.dot.ensures))
 
 mul_at : tie.Need-overflow-mul-at invariant-loop decreases-loop
 mul_at c = omega (arith, col c)
@@ -77,7 +77,7 @@ loop-again c =
     let i = c.before.before.before.before.before.loop.i in
     let t = set c.before.before.before.before.before.loop.work (a.h-at + (a.j * a.dim + i)) c.before.before.before.before.before.loop.c in
     let e = c.before.before.axpy-dot-in.ensures in
-    (omega arith, c.before.before.axpy-dot-in.auto.0 ∙ simp length-set inv.1, turn _ _ _ _ _ _ _ _ _ _ pre.0 pre.1.0 pre.1.1.0 pre.1.1.1 (omega arith) inv.2 inv.3 e.0, next-size a.len a.z-at a.j i t _ _ _ pre.0 (simp length-set (omega (arith, inv.1))) c.before.before.before.before.loop-test.true e.0 e.1)
+    (omega arith, c.before.before.axpy-dot-in.auto.0 ∙ simp length-set inv.1, turn _ _ _ _ _ _ _ _ _ _ pre.0 pre.1.0 pre.1.1.0 pre.1.1.1 (omega arith) inv.2 inv.3 e.0, next_size a.len a.z-at a.j i t _ _ _ pre.0 (simp length-set (omega (arith, inv.1))) c.before.before.before.before.loop-test.true e.0 e.1)
 
 mul-e-2 : tie.Need-overflow-mul-e-2 invariant-loop decreases-loop
 mul-e-2 c = omega (arith, last c)

@@ -2,7 +2,7 @@
 use borrow.Author.Rules.{rules}
 use native.Mathlib.Omega.{arith}
 use Prim.Native.Nat.{◌+◌}
-use Rattle.lists.proofs.Bounds.{column-within}
+use Rattle.lists.proofs.Bounds.{column_within}
 use Rattle.gram_schmidt.proofs.Turns.{rested}
 use Rattle.gram_schmidt.proofs.rest_in.Statement.{statement}
 use Rattle.gram_schmidt.proofs.rest_in.Tie as tie
@@ -10,7 +10,7 @@ use Rattle.gram_schmidt.proofs.rest_in.Tie as tie
 orthogonal-requires : tie.Need-orthogonal-requires
 orthogonal-requires c κs =
     let s = c.before.before.before.before.before.before.before.before.before.before.before.before in
-    let f = column-within s.args.j (s.args.k.m + 1) (s.args.l.n + s.args.l.d) (omega arith) in
+    let f = column_within s.args.j (s.args.k.m + 1) (s.args.l.n + s.args.l.d) (omega arith) in
     omega arith
 
 returns : tie.Need-returns

@@ -2,10 +2,10 @@
 use native.Mathlib.Omega.{arith}
 use Prim.Native.Nat.{◌+◌, ◌-◌, ◌*◌, ◌≤◌, ◌<◌}
 use mathlib.Core.Path.{◌≡◌, sym}
-use Rattle.lists.proofs.Bounds.{cell-within}
+use Rattle.lists.proofs.Bounds.{cell_within}
 use Rattle.doubles.specs.F64.{abs, at}
 use Rattle.doubles.specs.Sum.{sum}
-use Rattle.doubles.proofs.Sum.{sum-none, sum-turn}
+use Rattle.doubles.proofs.Sum.{sum_none, sum_turn}
 use Rattle.hess_rows.specs.HessProduct.{place}
 use Rattle.hess_exp.proofs.column_sum.Statement.{statement}
 use Rattle.hess_exp.proofs.column_sum.Tie as tie
@@ -17,12 +17,12 @@ abbrev decreases-loop : tie.decreases-loop
 decreases-loop h dim mx c s₀ r₀ s r = mx - r
 
 loop-holds : tie.Need-loop-init invariant-loop decreases-loop
-loop-holds c = (omega arith, sym (sum-none _))
+loop-holds c = (omega arith, sym (sum_none _))
 
 -- the place lies within the leading rows
 inside : (c : tie.In-loop invariant-loop decreases-loop) → (let a = c.before.before.before.args in a.c * a.dim + c.before.loop.r < a.mx * a.dim)
 inside c = let s = c.before.before.before in
-    cell-within _ _ _ _ s.requires.1 (omega (arith, s.requires.0.across))
+    cell_within _ _ _ _ s.requires.1 (omega (arith, s.requires.0.across))
 
 mul-abs : tie.Need-overflow-mul-abs invariant-loop decreases-loop
 mul-abs c = omega (arith, inside c)
@@ -37,7 +37,7 @@ shared-slice-read-abs : tie.Need-shared-slice-read-abs invariant-loop decreases-
 shared-slice-read-abs c = omega (arith, inside c.before)
 
 loop-again : tie.Need-loop-preserved invariant-loop decreases-loop
-loop-again c = (omega arith, sum-turn _ _ _ _ c.before.before.before.loop.invariant.1 c.abs.ensures)
+loop-again c = (omega arith, sum_turn _ _ _ _ c.before.before.before.loop.invariant.1 c.abs.ensures)
 
 returns : tie.Need-returns invariant-loop decreases-loop
 returns c = let e : c.before.loop.r ≡ c.before.before.before.args.mx = omega arith in

@@ -10,12 +10,12 @@ use lib.Seq.{take-set-lt}
 use lib.Ieee.{Float}
 use Rattle.lists.specs.Loop.{iter}
 use Rattle.lists.specs.Window.{window}
-use Rattle.lists.proofs.Window.{window-replicate}
+use Rattle.lists.proofs.Window.{window_replicate}
 use Rattle.doubles.specs.F64.{◌⊗◌, ◌⊘◌, nat, +0, 1f}
-use Rattle.expmv.specs.Select.{select-s-m}
+use Rattle.expmv.specs.Select.{select_s_m}
 use Rattle.expmv.specs.declared.Selected.{Selected}
 use Rattle.expmv.specs.declared.Selected.TheVariants.{NoRow, Row}
-use Rattle.hess_exp.specs.HessExp.{column-sum-norm, hess-sweep, e1, swept, hess-exp-e1}
+use Rattle.hess_exp.specs.HessExp.{column_sum_norm, hess_sweep, e1, swept, hess_exp_e1}
 use Rattle.hess_exp.specs.Parts.{small_of}
 use Rattle.hess_exp.proofs.hess_exp_e1.Statement.{statement}
 use Rattle.hess_exp.proofs.hess_exp_e1.Tie as tie
@@ -23,28 +23,28 @@ use Rattle.hess_exp.proofs.hess_exp_e1.Tie as tie
 -- what the array starts with
 starts : (mx : ℕ) → 1 ≤ mx → mx ≤ 130 → window 0 mx (set (replicate 130 +0) 0 1f) ≡ e1 mx
 unfolding window e1
-starts mx l m = take-set-lt mx (replicate 130 +0) 0 1f l ∙ ap (λ (v : List Float). set v 0 1f) (window-replicate mx 130 +0 m)
+starts mx l m = take-set-lt mx (replicate 130 +0) 0 1f l ∙ ap (λ (v : List Float). set v 0 1f) (window_replicate mx 130 +0 m)
 
-module _ (h : List Float) (dim mx : ℕ) (t norm : Float) (plan : Selected) (n : norm ≡ column-sum-norm h dim mx) (p : plan ≡ select-s-m 30 (t ⊗ norm)) where
-  none : (y : List Float) → plan ≡ NoRow → small_of mx (record { planned = false; argument = t ⊗ norm; column = y }) ≡ hess-exp-e1 h dim mx t
-  unfolding small_of hess-exp-e1 swept
+module _ (h : List Float) (dim mx : ℕ) (t norm : Float) (plan : Selected) (n : norm ≡ column_sum_norm h dim mx) (p : plan ≡ select_s_m 30 (t ⊗ norm)) where
+  none : (y : List Float) → plan ≡ NoRow → small_of mx (record { planned = false; argument = t ⊗ norm; column = y }) ≡ hess_exp_e1 h dim mx t
+  unfolding small_of hess_exp_e1 swept
   none y e = rw (← n, ← p, e)
 
   some : (y : List Float) (s deg : ℕ) (q : Float) (a : Float) → plan ≡ Row s deg → q ≡ nat s → 1 ≤ mx → mx ≤ 130
-      → window 0 mx y ≡ iter (λ _ v. hess-sweep h dim mx (t ⊘ q) deg v) s (window 0 mx (set (replicate 130 +0) 0 1f))
-      → small_of mx (record { planned = true; argument = a; column = y }) ≡ hess-exp-e1 h dim mx t
-  unfolding small_of hess-exp-e1 swept
+      → window 0 mx y ≡ iter (λ _ v. hess_sweep h dim mx (t ⊘ q) deg v) s (window 0 mx (set (replicate 130 +0) 0 1f))
+      → small_of mx (record { planned = true; argument = a; column = y }) ≡ hess_exp_e1 h dim mx t
+  unfolding small_of hess_exp_e1 swept
   some y s deg q a e d l m run = rw (← n, ← p, e, run, starts mx l m, d)
 
 returns : tie.Need-returns
 returns c = let selected = c.before.before in
-    (none _ _ _ _ _ _ selected.before.column-sum-norm.ensures selected.select-s-m.ensures _ c.enum_told.given.1, length-replicate 130 +0)
+    (none _ _ _ _ _ _ selected.before.column_sum_norm.ensures selected.select_s_m.ensures _ c.enum_told.given.1, length-replicate 130 +0)
 
 returns-2 : tie.Need-returns-2
 returns-2 c = let planned = c.before.before.before.before.before.before.before in
     let selected = planned.before.before in
     let run = c.before.before in
-    (some _ _ _ _ _ _ selected.before.column-sum-norm.ensures selected.select-s-m.ensures _ _ _ _ _ planned.plan.given.1 c.before.before.before.before.before.count.ensures (omega arith) (omega arith) run.hess-sweeps-in.ensures, run.hess-sweeps-in.auto.1.1.1.1.1.1.0 ∙ length-set (replicate 130 +0) 0 1f)
+    (some _ _ _ _ _ _ selected.before.column_sum_norm.ensures selected.select_s_m.ensures _ _ _ _ _ planned.plan.given.1 c.before.before.before.before.before.count.ensures (omega arith) (omega arith) run.hess-sweeps-in.ensures, run.hess-sweeps-in.auto.1.1.1.1.1.1.0 ∙ length-set (replicate 130 +0) 0 1f)
 
 pub hess-exp-e1-spec : {M : Type 1} → statement M
 hess-exp-e1-spec =

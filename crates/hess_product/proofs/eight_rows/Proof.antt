@@ -4,13 +4,13 @@ use Prim.Native.Nat.{◌+◌, ◌-◌, ◌*◌, ◌≤◌}
 use mathlib.Core.Path.{◌≡◌, refl, ◌∙◌}
 use lib.ListN.{length}
 use Rattle.doubles.specs.F64.{at}
-use Rattle.hess_rows.specs.Parts.{four-parts}
-use Rattle.hess_rows.proofs.Rows.{fewer, four-within, four-turn}
+use Rattle.hess_rows.specs.Parts.{four_parts}
+use Rattle.hess_rows.proofs.Rows.{fewer, four_within, four_turn}
 use Rattle.hess_product.proofs.eight_rows.Statement.{statement}
 use Rattle.hess_product.proofs.eight_rows.Tie as tie
 
 abbrev invariant-loop : tie.invariant-loop
-invariant-loop h dim mx w r x from s₀ t₀ j₀ s t j = (r + 7 ≤ j) × (j ≤ mx) × (s ≡ four-parts h dim x w r j) × (t ≡ four-parts h dim (at w (r + 3)) w (r + 4) j)
+invariant-loop h dim mx w r x from s₀ t₀ j₀ s t j = (r + 7 ≤ j) × (j ≤ mx) × (s ≡ four_parts h dim x w r j) × (t ≡ four_parts h dim (at w (r + 3)) w (r + 4) j)
 
 abbrev decreases-loop : tie.decreases-loop
 decreases-loop h dim mx w r x from s₀ t₀ j₀ s t j = mx - j
@@ -28,7 +28,7 @@ loop-holds c = let e : c.before.before.before.before.before.args.r + 7 ≡ c.bef
 -- the column's entries lie within the matrix
 inside : (c : tie.In-loop invariant-loop decreases-loop) → (let a = c.before.before.before.before.before.before.before.args in c.before.loop.j * a.dim + (a.r + 4) + 4 ≤ length a.h.now)
 inside c = let s = c.before.before.before.before.before.before.before in
-    four-within s.requires.0 (s.args.r + 4) c.before.loop.j (omega (arith, s.requires.0.across)) (omega arith)
+    four_within s.requires.0 (s.args.r + 4) c.before.loop.j (omega (arith, s.requires.0.across)) (omega arith)
 
 add-four-requires : tie.Need-add-four-requires invariant-loop decreases-loop
 add-four-requires c κs = omega (arith, inside c.before)
@@ -42,7 +42,7 @@ add-four-requires-2 c κs = omega (arith, inside c.before.before.before)
 loop-again : tie.Need-loop-preserved invariant-loop decreases-loop
 loop-again c =
     let l = c.before.before.before.before.before.loop in
-    (omega arith, omega arith, c.before.before.add-four.ensures ∙ four-turn _ _ _ _ _ _ (omega arith) _ refl l.invariant.2, c.add-four2.ensures ∙ four-turn _ _ _ _ _ _ (omega arith) _ (omega arith) l.invariant.3)
+    (omega arith, omega arith, c.before.before.add-four.ensures ∙ four_turn _ _ _ _ _ _ (omega arith) _ refl l.invariant.2, c.add-four2.ensures ∙ four_turn _ _ _ _ _ _ (omega arith) _ (omega arith) l.invariant.3)
 
 returns : tie.Need-returns invariant-loop decreases-loop
 returns c =

@@ -1,7 +1,7 @@
 -- `hess_product::hess_product_in` meets its contract. Assumes nothing.
 use native.Mathlib.Omega.{arith}
 use Prim.Native.Nat.{◌-◌}
-use Rattle.hess_rows.proofs.InPlace.{Placed, placed-start, row-turn, rows-turn, placed_end}
+use Rattle.hess_rows.proofs.InPlace.{Placed, placed_start, row_turn, rows_turn, placed_end}
 use Rattle.hess_product.proofs.hess_product_in.Statement.{statement}
 use Rattle.hess_product.proofs.hess_product_in.Tie as tie
 
@@ -12,7 +12,7 @@ abbrev decreases-loop : tie.decreases-loop
 decreases-loop h dim mx f w₀ r₀ x₀ w r x = mx - r
 
 loop-holds : tie.Need-loop-init invariant-loop decreases-loop
-loop-holds c = placed-start _ _ _ _ _ _
+loop-holds c = placed_start _ _ _ _ _ _
 
 row-part-requires : tie.Need-row-part-requires invariant-loop decreases-loop
 row-part-requires c κs = let s = c.before.before.before.before.before.before in
@@ -31,14 +31,14 @@ put-four-requires-2 c κs = let l = c.before.before.before.before.before.before.
     omega (arith, l.invariant.within, l.invariant.filled.long, c.before.before.before.put_four.auto.0, c.before.before.before.before.before.before.before.before.before.before.before.before.before.before.before.requires.1)
 
 loop-again : tie.Need-loop-preserved invariant-loop decreases-loop
-loop-again c = row-turn _ _ _ _ _ c.before.before.before.before.before.loop.invariant (omega arith) c.before.row-part.ensures
+loop-again c = row_turn _ _ _ _ _ c.before.before.before.before.before.loop.invariant (omega arith) c.before.row_part.ensures
 
 loop-again-2 : tie.Need-loop-preserved-2 invariant-loop decreases-loop
 loop-again-2 c =
     let s = c.before.before.before.before.before.before in
     let e = s.before.before.before.before.before.eight-rows.ensures in
     let l = s.before.before.before.before.before.before.before.before.before.loop in
-    rw (c.before.before.put-four2.ensures, s.put_four.ensures) (rows-turn _ _ _ _ _ l.invariant (omega arith) e.0 e.1)
+    rw (c.before.before.put-four2.ensures, s.put_four.ensures) (rows_turn _ _ _ _ _ l.invariant (omega arith) e.0 e.1)
 
 same_length : tie.Need-same-length invariant-loop decreases-loop
 same_length c = c.before.loop.invariant.filled.long

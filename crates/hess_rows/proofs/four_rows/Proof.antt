@@ -3,13 +3,13 @@ use native.Mathlib.Omega.{arith}
 use Prim.Native.Nat.{◌+◌, ◌-◌, ◌*◌, ◌≤◌}
 use mathlib.Core.Path.{◌≡◌, refl, ◌∙◌}
 use lib.ListN.{length}
-use Rattle.hess_rows.specs.Parts.{four-parts}
-use Rattle.hess_rows.proofs.Rows.{fewer, four-within, four-turn}
+use Rattle.hess_rows.specs.Parts.{four_parts}
+use Rattle.hess_rows.proofs.Rows.{fewer, four_within, four_turn}
 use Rattle.hess_rows.proofs.four_rows.Statement.{statement}
 use Rattle.hess_rows.proofs.four_rows.Tie as tie
 
 abbrev invariant-loop : tie.invariant-loop
-invariant-loop h dim to w r x from s₀ j₀ s j = (r + 3 ≤ j) × (j ≤ to) × (s ≡ four-parts h dim x w r j)
+invariant-loop h dim to w r x from s₀ j₀ s j = (r + 3 ≤ j) × (j ≤ to) × (s ≡ four_parts h dim x w r j)
 
 abbrev decreases-loop : tie.decreases-loop
 decreases-loop h dim to w r x from s₀ j₀ s j = to - j
@@ -23,13 +23,13 @@ loop-holds c = (omega arith, omega arith, c.four-starts.ensures)
 -- the column's entries lie within the matrix
 inside : (c : tie.In-loop invariant-loop decreases-loop) → (let a = c.before.before.before.before.before.args in c.before.loop.j * a.dim + a.r + 4 ≤ length a.h.now)
 inside c = let s = c.before.before.before.before.before in
-    four-within s.requires.0 s.args.r c.before.loop.j (omega arith) (omega arith)
+    four_within s.requires.0 s.args.r c.before.loop.j (omega arith) (omega arith)
 
 add-four-requires : tie.Need-add-four-requires invariant-loop decreases-loop
 add-four-requires c κs = inside c.before
 
 loop-again : tie.Need-loop-preserved invariant-loop decreases-loop
-loop-again c = let l = c.before.before.before.loop in (omega arith, omega arith, c.add-four.ensures ∙ four-turn _ _ _ _ _ _ l.invariant.0 _ refl l.invariant.2)
+loop-again c = let l = c.before.before.before.loop in (omega arith, omega arith, c.add-four.ensures ∙ four_turn _ _ _ _ _ _ l.invariant.0 _ refl l.invariant.2)
 
 returns : tie.Need-returns invariant-loop decreases-loop
 returns c = let e : c.before.loop.j ≡ c.before.before.before.before.before.args.to = omega arith in rw e at c.before.loop.invariant.2

@@ -5,7 +5,7 @@ use Rattle.hess_rows.proofs.four_starts.Tie as tie
 
 returns : tie.Need-returns
 returns c =
-    let e0 = c.before.before.before.before.before.before.row-part.ensures in
+    let e0 = c.before.before.before.before.before.before.row_part.ensures in
     let e1 = c.before.before.before.before.row-part2.ensures in
     let e2 = c.before.before.row-part3.ensures in
     let e3 = c.row-part4.ensures in

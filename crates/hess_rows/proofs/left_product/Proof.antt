@@ -1,16 +1,16 @@
 -- `hess_rows::left_product` meets its contract. Assumes nothing.
 use native.Mathlib.Omega.{arith}
 use borrow.Author.Tests.{eq-eqb, ne_eqb}
-use Rattle.hess_rows.specs.Parts.{left-product}
+use Rattle.hess_rows.specs.Parts.{left_product}
 use Rattle.hess_rows.proofs.left_product.Statement.{statement}
 use Rattle.hess_rows.proofs.left_product.Tie as tie
 
 returns : tie.Need-returns
-unfolding left-product
+unfolding left_product
 returns c = rw (eq-eqb _ _ c.if1.true)
 
 returns-2 : tie.Need-returns-2
-unfolding left-product
+unfolding left_product
 returns-2 c = rw (ne_eqb _ _ c.before.if1.false)
 
 pub left-product-spec : {M : Type 1} → statement M

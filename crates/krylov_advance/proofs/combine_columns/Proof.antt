@@ -4,9 +4,9 @@ use Prim.Native.Nat.{◌-◌, ◌+◌, ◌*◌, ◌≤◌}
 use mathlib.Core.Path.{◌≡◌, ap, ◌∙◌}
 use lib.ListN.{length}
 use Rattle.lists.specs.Window.{splice}
-use Rattle.lists.proofs.Window.{length-splice}
-use Rattle.lists.proofs.Bounds.{column-within}
-use Rattle.krylov_advance.proofs.Columns.{sums, sums-start, sums-turn, sums-all}
+use Rattle.lists.proofs.Window.{length_splice}
+use Rattle.lists.proofs.Bounds.{column_within}
+use Rattle.krylov_advance.proofs.Columns.{sums, sums_start, sums_turn, sums_all}
 use Rattle.krylov_advance.proofs.combine_columns.Statement.{statement}
 use Rattle.krylov_advance.proofs.combine_columns.Tie as tie
 
@@ -20,19 +20,19 @@ decreases-loop work₀ y-at len beta count trial i₀ work i = count - i
 col : (c : tie.In-loop invariant-loop decreases-loop) → (let a = c.before.before.before.before.before.before.before.args in c.before.loop.i * a.len + a.len ≤ a.y-at)
 col c =
     let a = c.before.before.before.before.before.before.before.args in
-    omega (arith, column-within c.before.loop.i a.count a.len c.loop-test.true)
+    omega (arith, column_within c.before.loop.i a.count a.len c.loop-test.true)
 
 long : (c : tie.At-loop invariant-loop decreases-loop) → length c.loop.work ≡ length c.before.before.before.Clear-in.new.0
-long c = ap length c.loop.invariant.1 ∙ length-splice _ _ _
+long c = ap length c.loop.invariant.1 ∙ length_splice _ _ _
 
 long₁ : (c : tie.At-loop invariant-loop decreases-loop) → length c.before.before.before.Clear-in.new.0 ≡ length c.before.before.before.before.before.before.args.work.now
-long₁ c = ap length c.before.before.before.Clear-in.ensures ∙ length-splice _ _ _
+long₁ c = ap length c.before.before.before.Clear-in.ensures ∙ length_splice _ _ _
 
 clear-in-requires : tie.Need-clear-in-requires invariant-loop decreases-loop
 clear-in-requires c κs = omega arith
 
 loop-holds : tie.Need-loop-init invariant-loop decreases-loop
-loop-holds c = let a = c.before.before.before.before.before.args in (omega arith, sums-start a.beta a.len a.count a.t6.f a.work.now a.y-at c.before.before.Clear-in.ensures)
+loop-holds c = let a = c.before.before.before.before.before.args in (omega arith, sums_start a.beta a.len a.count a.t6.f a.work.now a.y-at c.before.before.Clear-in.ensures)
 
 mul-axpy-in : tie.Need-overflow-mul-axpy-in invariant-loop decreases-loop
 mul-axpy-in c = omega (arith, col c.before)
@@ -57,7 +57,7 @@ loop-again c =
     let s = c.before.before.before.before.before.before in
     let a = c.before.before.before.before.before.before.before.before.before.before.before.before.args in
     let p = c.before.before.before.before.before.before.before.before.before.before.before.before.requires in
-    (omega arith, sums-turn a.beta a.len a.count a.t6.f c.before.before.before.before.before.before.before.before.before.Clear-in.new.0 a.y-at p.1 (omega (arith, long₁ s)) s.loop.i c.before.before.before.before.before.loop-test.true s.loop.invariant.1 c.before.before.axpy-in.ensures)
+    (omega arith, sums_turn a.beta a.len a.count a.t6.f c.before.before.before.before.before.before.before.before.before.Clear-in.new.0 a.y-at p.1 (omega (arith, long₁ s)) s.loop.i c.before.before.before.before.before.loop-test.true s.loop.invariant.1 c.before.before.axpy-in.ensures)
 
 same_length : tie.Need-same-length invariant-loop decreases-loop
 same_length c = long c.before ∙ long₁ c.before
@@ -68,7 +68,7 @@ returns c =
     let a = c.before.before.before.before.before.before.before.args in
     let p = c.before.before.before.before.before.before.before.requires in
     let e : s.loop.i ≡ a.count = omega arith in
-    rw e at s.loop.invariant.1 ∙ sums-all a.beta a.len a.count a.t6.f a.work.now a.y-at c.before.before.before.before.Clear-in.ensures (omega (arith, p.0, p.3)) p.1 p.2
+    rw e at s.loop.invariant.1 ∙ sums_all a.beta a.len a.count a.t6.f a.work.now a.y-at c.before.before.before.before.Clear-in.ensures (omega (arith, p.0, p.3)) p.1 p.2
 
 pub combine-columns-spec : {M : Type 1} → statement M
 combine-columns-spec =

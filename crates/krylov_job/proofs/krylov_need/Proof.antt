@@ -2,7 +2,7 @@
 use borrow.Author.Rules.{rules}
 use native.Mathlib.Omega.{arith}
 use mathlib.Core.Path.{refl}
-use Rattle.krylov_job.specs.KrylovCall.{krylov-need}
+use Rattle.krylov_job.specs.KrylovCall.{krylov_need}
 use Rattle.krylov_job.proofs.Places.{within}
 use Rattle.krylov_job.proofs.krylov_need.Statement.{statement}
 use Rattle.krylov_job.proofs.krylov_need.Tie as tie
@@ -23,7 +23,7 @@ add-result-7 : tie.Need-overflow-add-result-7
 add-result-7 c = omega (arith, within c.requires.0 c.requires.1 c.requires.2)
 
 returns : tie.Need-returns
-unfolding krylov-need
+unfolding krylov_need
 returns c = refl
 
 pub krylov-need-spec : {M : Type 1} → statement M

@@ -1,6 +1,6 @@
 -- `krylov_run::run_expv` meets its contract. Assumes nothing.
 use borrow.Author.Rules.{rules}
-use Rattle.krylov_job.proofs.Runs.{store-fits, room, run_is, spared}
+use Rattle.krylov_job.proofs.Runs.{store_fits, room, run_is, spared}
 use Rattle.krylov_run.proofs.run_expv.Statement.{statement}
 use Rattle.krylov_run.proofs.run_expv.Tie as tie
 
@@ -8,7 +8,7 @@ store-quotients-requires : tie.Need-store-quotients-requires
 store-quotients-requires c κs =
     let l = c.before in
     let s = l.before.before.before.before.before.before.before in
-    (s.requires.passed.valid, (s.requires.passed.divided, store-fits s.args.vectors.now s.args.work.now s.requires l.layout.ensures))
+    (s.requires.passed.valid, (s.requires.passed.divided, store_fits s.args.vectors.now s.args.work.now s.requires l.layout.ensures))
 
 expv-requires : tie.Need-expv-requires
 expv-requires c κs =

@@ -11,7 +11,7 @@ use Rattle.le_bytes.proofs.double.Statement.{statement}
 use Rattle.le_bytes.proofs.double.Tie as tie
 
 returns : tie.Need-returns
-returns c = c.not-a-number.ensures ∙ sym (only_nan (of_bits binary64 c.before.before.args.w) (sym (nan_bits_is binary64 c.before.before.args.w) ∙ nan_bits_above binary64 c.before.before.args.w ∙ lt-ltb _ _ c.before.if1.true))
+returns c = c.not_a_number.ensures ∙ sym (only_nan (of_bits binary64 c.before.before.args.w) (sym (nan_bits_is binary64 c.before.before.args.w) ∙ nan_bits_above binary64 c.before.before.args.w ∙ lt-ltb _ _ c.before.if1.true))
 
 float-from-bits-result : tie.Need-float-from-bits-result
 float-from-bits-result c = subst (λ (t : Bool). T (not t)) (sym (nan_bits_above binary64 c.before.args.w ∙ le-ltb _ _ c.if1.false)) tt

@@ -1,13 +1,13 @@
 -- `le_bytes::unpack_doubles` meets its contract. Assumes nothing.
 use native.Mathlib.Omega.{arith}
 use Prim.Native.Nat.{◌-◌, ◌*◌, ◌≤◌}
-use Rattle.lists.proofs.Loop.{Filled, started, turned₀, finished-all}
-use Rattle.le_bytes.specs.Bytes.{double-at, doubles-of}
+use Rattle.lists.proofs.Loop.{Filled, started, turned₀, finished_all}
+use Rattle.le_bytes.specs.Bytes.{double_at, doubles_of}
 use Rattle.le_bytes.proofs.unpack_doubles.Statement.{statement}
 use Rattle.le_bytes.proofs.unpack_doubles.Tie as tie
 
 abbrev invariant-loop : tie.invariant-loop
-invariant-loop src dst₀ k₀ k-end dst k = (k ≤ k-end) × Filled 0 k (λ j. double-at src (8 * j)) dst₀ dst
+invariant-loop src dst₀ k₀ k-end dst k = (k ≤ k-end) × Filled 0 k (λ j. double_at src (8 * j)) dst₀ dst
 
 abbrev decreases-loop : tie.decreases-loop
 decreases-loop src dst₀ k₀ k-end dst k = k-end - k
@@ -34,14 +34,14 @@ loop-less : tie.Need-loop-smaller invariant-loop decreases-loop
 loop-less c = omega arith
 
 loop-again : tie.Need-loop-preserved invariant-loop decreases-loop
-loop-again c = (omega arith, turned₀ c.before.before.loop.invariant.1 c.double-at.ensures)
+loop-again c = (omega arith, turned₀ c.before.before.loop.invariant.1 c.double_at.ensures)
 
 same_length : tie.Need-same-length invariant-loop decreases-loop
 same_length c = omega arith
 
 returns : tie.Need-returns invariant-loop decreases-loop
-unfolding doubles-of
-returns c = finished-all c.before.loop.invariant.1 _ (omega arith) (omega arith) (omega arith)
+unfolding doubles_of
+returns c = finished_all c.before.loop.invariant.1 _ (omega arith) (omega arith) (omega arith)
 
 pub unpack-doubles-spec : {M : Type 1} → statement M
 unpack-doubles-spec =

@@ -1,7 +1,7 @@
 -- `le_bytes::unpack_words` meets its contract. Assumes nothing.
 use native.Mathlib.Omega.{arith}
 use Prim.Native.Nat.{◌-◌, ◌*◌, ◌≤◌}
-use Rattle.lists.proofs.Loop.{Filled, started, turned₀, finished-all}
+use Rattle.lists.proofs.Loop.{Filled, started, turned₀, finished_all}
 use Rattle.le_bytes.specs.Bytes.{word, words_of}
 use Rattle.le_bytes.proofs.unpack_words.Statement.{statement}
 use Rattle.le_bytes.proofs.unpack_words.Tie as tie
@@ -41,7 +41,7 @@ same_length c = omega arith
 
 returns : tie.Need-returns invariant-loop decreases-loop
 unfolding words_of
-returns c = finished-all c.before.loop.invariant.1 _ (omega arith) (omega arith) (omega arith)
+returns c = finished_all c.before.loop.invariant.1 _ (omega arith) (omega arith) (omega arith)
 
 pub unpack-words-spec : {M : Type 1} → statement M
 unpack-words-spec =

@@ -4,7 +4,7 @@ use Prim.Native.Nat.{◌-◌, ◌*◌, ◌/◌, ◌%◌, ◌^◌, ◌≤◌}
 use mathlib.Core.Path.{refl}
 use lib.ListN.{get_or}
 use Rattle.lists.proofs.Loop.{Filled, started, turned₀, finished}
-use Rattle.le_bytes.specs.Bytes.{words-over}
+use Rattle.le_bytes.specs.Bytes.{words_over}
 use Rattle.pack_bytes.proofs.pack_words.Statement.{statement}
 use Rattle.pack_bytes.proofs.pack_words.Tie as tie
 
@@ -51,7 +51,7 @@ same_length : tie.Need-same-length invariant-loop decreases-loop
 same_length c = c.before.loop.invariant.1.long
 
 returns : tie.Need-returns invariant-loop decreases-loop
-unfolding words-over
+unfolding words_over
 returns c = finished c.before.loop.invariant.1 _ (omega arith) (omega arith)
 
 pub pack-words-spec : {M : Type 1} → statement M

@@ -1,7 +1,7 @@
 -- `paused_advance::substep_on` meets its contract. Assumes nothing.
 use borrow.Author.Rules.{rules}
 use native.Mathlib.Omega.{arith}
-use Rattle.paused_advance.proofs.Steps.{field_fits, fits, room₂, long₃, cleared₃, substep-is}
+use Rattle.paused_advance.proofs.Steps.{field_fits, fits, room₂, long₃, cleared₃, substep_is}
 use Rattle.paused_advance.proofs.substep_on.Statement.{statement}
 use Rattle.paused_advance.proofs.substep_on.Tie as tie
 
@@ -38,7 +38,7 @@ returns c =
     let y = a.field.now in
     let e = c.before.before.before.before.before.before.before.before.before.before.before.before.before.before.before.before.before.before.before.before.before.before.before.layout.ensures in
     let kept = c.before.before.before.before.before.before.before.substep.ensures.1 in
-    let i = substep-is v w y s.requires.0 s.requires.1.0 e c.before.before.before.before.before.before.before.before.before.before.before.before.before.before.before.before.before.before.before.before.copy-from.ensures c.before.before.before.before.before.before.before.before.before.before.before.before.before.before.before.before.store-quotients.ensures a.run kept c.before.before.before.before.before.before.before.before.before.before.norm2.ensures _ c.before.before.before.before.before.before.before.substep.ensures.0 c.before.before.copy-from2.ensures in
+    let i = substep_is v w y s.requires.0 s.requires.1.0 e c.before.before.before.before.before.before.before.before.before.before.before.before.before.before.before.before.before.before.before.before.copy-from.ensures c.before.before.before.before.before.before.before.before.before.before.before.before.before.before.before.before.store-quotients.ensures a.run kept c.before.before.before.before.before.before.before.before.before.before.norm2.ensures _ c.before.before.before.before.before.before.before.substep.ensures.0 c.before.before.copy-from2.ensures in
     (i.0, (cleared₃ v w y s.requires.0 s.requires.1.0 e c.before.before.before.before.before.before.before.before.before.before.before.before.before.before.before.before.before.before.before.before.copy-from.ensures c.before.before.before.before.before.before.before.before.before.before.before.before.before.before.before.before.store-quotients.ensures a.run kept c.before.before.before.before.before.before.before.before.before.before.norm2.ensures, long₃ v w y s.requires.0 s.requires.1.0 e c.before.before.before.before.before.before.before.before.before.before.before.before.before.before.before.before.before.before.before.before.copy-from.ensures c.before.before.before.before.before.before.before.before.before.before.before.before.before.before.before.before.store-quotients.ensures a.run kept c.before.before.before.before.before.before.before.before.before.before.norm2.ensures, i.1))
 
 pub substep-on-spec : {M : Type 1} → statement M

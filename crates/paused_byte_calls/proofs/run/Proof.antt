@@ -4,7 +4,7 @@ use native.Mathlib.Omega.{arith}
 use Rattle.general_operator.specs.Csr.{csr}
 use Rattle.generator_action.specs.Mass.{given}
 use Rattle.paused_byte_calls.specs.Replies.{slices}
-use Rattle.paused_byte_calls.specs.Inner.{job, called-run}
+use Rattle.paused_byte_calls.specs.Inner.{job, called_run}
 use Rattle.paused_byte_calls.proofs.Reply.{packing}
 use Rattle.paused_byte_calls.proofs.run.Statement.{statement}
 use Rattle.paused_byte_calls.proofs.run.Tie as tie
@@ -28,7 +28,7 @@ returns : tie.Need-returns
 returns c =
     let a = c.before.before.before.before.before.before.before.before.before.before.before.before.before.before.before.before.before.before.before.before.before.before.before.before.before.before.before.before.before.before.before.before.before.before.before.before.before.before.before.before.before.before.before.before.before.before.before.before.before.before.before.before.before.before.before.before.args in
     packing c.before.before.before.before.before.before.before.before.before.before.before.before.before.before.before.before.before.before.before.before.before.before.before.before.before.before.before.before.before.before.before.before.before.before.before.solve.result.number c.before.before.before.before.before.before.before.before.before.before.before.before.before.before.before.before.before.before.before.before.before.before.before.before.before.before.before.before.before.before.before.before.before.before.before.solve.result.value _ _ _ _ _ (slices a.out.now a.work.now a.field.now a.numbers.now a.counts.now)
-    (called-run a.call (job (csr a.n a.starts.now a.cols.now a.vals.now) (given a.with-mass a.mass.now) a.tau a.count a.w.now) a.out-array.now a.work-array.now a.field-array.now a.numbers-array.now a.counts-array.now)
+    (called_run a.call (job (csr a.n a.starts.now a.cols.now a.vals.now) (given a.with-mass a.mass.now) a.tau a.count a.w.now) a.out-array.now a.work-array.now a.field-array.now a.numbers-array.now a.counts-array.now)
     c.before.before.before.before.before.before.before.before.before.before.before.before.before.before.before.before.before.before.before.before.before.before.before.before.before.before.before.before.before.before.before.before.before.before.before.solve.ensures c.before.before.before.before.before.before.before.before.before.before.before.before.before.before.before.before.before.before.before.before.before.before.pack-doubles.ensures c.before.before.before.before.before.before.before.before.before.before.before.before.before.before.before.before.before.pack-doubles2.ensures c.before.before.before.before.before.before.before.before.before.before.before.before.pack-doubles3.ensures c.before.before.before.before.before.before.before.pack-doubles4.ensures c.before.before.pack-words.ensures
 
 pub run_spec : {M : Type 1} → statement M

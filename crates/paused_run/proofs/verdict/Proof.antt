@@ -17,7 +17,7 @@ returns-2 c y = rw (c.before.before.before.before.before.o.given.1, le-ltb _ _ c
 
 returns-3 : tie.Need-returns-3
 unfolding verdict turned
-returns-3 c y = rw (c.before.before.before.o2.given.1, c.moved3.ensures c.before.before.before.o2.given.0.1.0 y, c.before.relative-report.ensures) refl
+returns-3 c y = rw (c.before.before.before.o2.given.1, c.moved3.ensures c.before.before.before.o2.given.0.1.0 y, c.before.relative_report.ensures) refl
 
 returns-4 : tie.Need-returns-4
 unfolding verdict turned

@@ -6,7 +6,7 @@ use lib.Ieee.{Float}
 use mathlib.Core.List.{List}
 use Rattle.lists.specs.Window.{window}
 use Rattle.vectors.specs.Vectors.{scale}
-use Rattle.paused_start.proofs.Starts.{first-is}
+use Rattle.paused_start.proofs.Starts.{first_is}
 use Rattle.paused_start.proofs.first_run.Statement.{statement}
 use Rattle.paused_start.proofs.first_run.Tie as tie
 
@@ -14,7 +14,7 @@ returns : tie.Need-returns
 returns c =
     let a = c.before.before.before.before.before.before.before.before.before.before.before.before.before.before.before.before.args in
     let e = c.before.before.before.before.before.before.before.before.before.before.before.before.scale.ensures in
-    (first-is a.o a.j a.f a.field.now e c.before.before.before.before.before.before.before.before.norm2.ensures c.before.before.before.before.before.before.first-length.ensures c.fresh.ensures, (e, c.before.before.before.hand-out.ensures ∙ ap (λ (y : List Float). window 0 (length a.out.now) (scale a.f.up y)) e))
+    (first_is a.o a.j a.f a.field.now e c.before.before.before.before.before.before.before.before.norm2.ensures c.before.before.before.before.before.before.first_length.ensures c.fresh.ensures, (e, c.before.before.before.hand-out.ensures ∙ ap (λ (y : List Float). window 0 (length a.out.now) (scale a.f.up y)) e))
 
 pub first-run-spec : {M : Type 1} → statement M
 first-run-spec =

@@ -3,8 +3,8 @@ use borrow.Author.Rules.{rules}
 use mathlib.Core.Path.{refl}
 use Rattle.general_operator.specs.Csr.{csr}
 use Rattle.generator_action.specs.Mass.{given}
-use Rattle.generator_action.proofs.Answered.{passed-up, refusal-told, norm-told, passed}
-use Rattle.paused_start.proofs.Starts.{refused-generator}
+use Rattle.generator_action.proofs.Answered.{passed_up, refusal_told, norm_told, passed}
+use Rattle.paused_start.proofs.Starts.{refused_generator}
 use Rattle.paused_start.proofs.start.Statement.{statement}
 use Rattle.paused_start.proofs.start.Tie as tie
 
@@ -12,8 +12,8 @@ returns : tie.Need-returns
 returns c =
     let g = c.before.before.before.before in
     let a = c.before.before.before.before.before.before.before.before.before.before.before.before.before.args in
-    let refusal = passed-up c.before.before.enum_told.given.1 c.before.number.ensures c.value.ensures in
-    refused-generator a.o _ a.out.now a.work.now a.field.now (refusal-told (csr a.n a.starts.now a.cols.now a.vals.now) (given a.with-mass a.mass.now) g.check-generator.ensures refusal)
+    let refusal = passed_up c.before.before.enum_told.given.1 c.before.number.ensures c.value.ensures in
+    refused_generator a.o _ a.out.now a.work.now a.field.now (refusal_told (csr a.n a.starts.now a.cols.now a.vals.now) (given a.with-mass a.mass.now) g.check-generator.ensures refusal)
 
 started-requires : tie.Need-started-requires
 started-requires c κs =
@@ -21,7 +21,7 @@ started-requires c κs =
     let g = c.before.before.before.before.before.before.before in
     let a = c.before.before.before.before.before.before.before.before.before.before.before.before.before.before.before.before.args in
     let m = csr a.n a.starts.now a.cols.now a.vals.now in
-    let norm = norm-told m (given a.with-mass a.mass.now) g.check-generator.ensures c.before.before.before.before.before.matrix.given.1 in
+    let norm = norm_told m (given a.with-mass a.mass.now) g.check-generator.ensures c.before.before.before.before.before.matrix.given.1 in
     let p = passed m a.with-mass a.mass.now norm in
     rw (h.generator-shape.ensures a.starts.now a.cols.now a.vals.now a.mass.now refl) (p.valid.few, p.light)
 
@@ -31,7 +31,7 @@ returns-2 c =
     let g = c.before.before.before.before.before.before.before.before.before.before.before.before.before.before in
     let a = c.before.before.before.before.before.before.before.before.before.before.before.before.before.before.before.before.before.before.before.before.before.before.before.args in
     let m = csr a.n a.starts.now a.cols.now a.vals.now in
-    let norm = norm-told m (given a.with-mass a.mass.now) g.check-generator.ensures c.before.before.before.before.before.before.before.before.before.before.before.before.matrix.given.1 in
+    let norm = norm_told m (given a.with-mass a.mass.now) g.check-generator.ensures c.before.before.before.before.before.before.before.before.before.before.before.before.matrix.given.1 in
     let e = h.generator-shape.ensures a.starts.now a.cols.now a.vals.now a.mass.now refl in
     (rw e at c.before.before.before.before.before.before.started.ensures) _ a.starts.now a.cols.now a.vals.now a.mass.now norm.sound (passed m a.with-mass a.mass.now norm)
 

@@ -2,9 +2,9 @@
 use borrow.Author.Rules.{rules}
 use mathlib.Core.Path.{refl, ap, ◌∙◌}
 use lib.ListN.{length}
-use Rattle.lists.proofs.Window.{length-splice}
-use Rattle.checks.proofs.First.{passed-up}
-use Rattle.phi_combination.proofs.Calls.{known-action, allowed-action, runs-action, field_fits, refused-action, acted-is}
+use Rattle.lists.proofs.Window.{length_splice}
+use Rattle.checks.proofs.First.{passed_up}
+use Rattle.phi_combination.proofs.Calls.{known_action, allowed_action, runs_action, field_fits, refused_action, acted_is}
 use Rattle.phi_action.proofs.acted.Statement.{statement}
 use Rattle.phi_action.proofs.acted.Tie as tie
 
@@ -12,16 +12,16 @@ returns : tie.Need-returns
 returns c gs sound =
     let j = c.before.before.before.before in
     let s = j.before.before.before.before.before.before.before.before in
-    let refusal = passed-up c.before.before.enum-told2.given.1 c.before.number.ensures c.reported.ensures in
-    search (refused-action s.args.mass.now s.requires gs sound)
+    let refusal = passed_up c.before.before.enum-told2.given.1 c.before.number.ensures c.reported.ensures in
+    search (refused_action s.args.mass.now s.requires gs sound)
 
 init-aug-vector-requires : tie.Need-init-aug-vector-requires
 init-aug-vector-requires c κs =
     let j = c.before.before.before in
     let s = j.before.before.before.before.before.before.before.before in
     let a = s.args in
-    let h = known-action a.g a.tau a.cap a.k a.v.now _ _ _ j.admit-action.ensures c.before.enum_told.given.1 in
-    let fits = field_fits (allowed-action a.mass.now s.requires {work = a.work.now} a.v.now h j.admit-action.ensures refl) in
+    let h = known_action a.g a.tau a.cap a.k a.v.now _ _ _ j.admit-action.ensures c.before.enum_told.given.1 in
+    let fits = field_fits (allowed_action a.mass.now s.requires {work = a.work.now} a.v.now h j.admit-action.ensures refl) in
     (h.whole, rw j.admit-action.ensures at fits, h.index)
 
 run-job-requires : tie.Need-run-job-requires
@@ -30,8 +30,8 @@ run-job-requires c κs =
     let j = i.before.before.before.before in
     let s = j.before.before.before.before.before.before.before.before in
     let a = s.args in
-    let h = known-action a.g a.tau a.cap a.k a.v.now _ _ _ j.admit-action.ensures i.before.before.enum_told.given.1 in
-    runs-action a.mass.now s.requires a.v.now h j.admit-action.ensures (ap length i.init-aug-vector.ensures ∙ length-splice 0 _ a.work.now)
+    let h = known_action a.g a.tau a.cap a.k a.v.now _ _ _ j.admit-action.ensures i.before.before.enum_told.given.1 in
+    runs_action a.mass.now s.requires a.v.now h j.admit-action.ensures (ap length i.init_aug_vector.ensures ∙ length_splice 0 _ a.work.now)
 
 returns-2 : tie.Need-returns-2
 returns-2 c gs sound =
@@ -40,7 +40,7 @@ returns-2 c gs sound =
     let j = i.before.before.before.before in
     let s = j.before.before.before.before.before.before.before.before in
     let a = s.args in
-    acted-is a.mass.now s.requires gs sound a.tau a.cap a.k a.v.now a.out.now a.work.now j.admit-action.ensures i.before.before.enum_told.given.1 i.init-aug-vector.ensures r.run-job.ensures
+    acted_is a.mass.now s.requires gs sound a.tau a.cap a.k a.v.now a.out.now a.work.now j.admit-action.ensures i.before.before.enum_told.given.1 i.init_aug_vector.ensures r.run-job.ensures
 
 pub acted-spec : {M : Type 1} → statement M
 acted-spec =

@@ -2,9 +2,9 @@
 use native.Mathlib.Omega.{arith}
 use borrow.Author.Rules.{rules}
 use lib.ListN.{length-take, length-drop}
-use Rattle.lists.proofs.Window.{part-window}
-use Rattle.csr_matvec.proofs.Values.{not-scaled}
-use Rattle.phi_action_helpers.specs.Laid.{operator-at}
+use Rattle.lists.proofs.Window.{part_window}
+use Rattle.csr_matvec.proofs.Values.{not_scaled}
+use Rattle.phi_action_helpers.specs.Laid.{operator_at}
 use Rattle.lists.proofs.Bounds.{part_apart}
 use Rattle.phi_action_helpers.proofs.Augmented.{product}
 use Rattle.phi_action_helpers.proofs.aug_matvec.Statement.{statement}
@@ -27,9 +27,9 @@ returns : tie.Need-returns
 returns c =
     let start = c.before.before.before.before.before.before.before.before.before.before.before.before.before.before.before.before.before.before.before.before.before.before in
     let a = start.args in
-    product (operator-at a.l a.b a.starts.now a.cols.now a.vals.now a.vectors.now a.work.now) a.k _ _ _ a.work.now _ _ _ start.requires.w-in start.requires.av-in start.requires.apart
-    (rw not-scaled at c.before.before.before.before.before.before.before.before.before.before.before.before.before.apply-generator.ensures)
-    (rw part-window at c.before.before.before.before.before.before.before.before.scalars.ensures)
+    product (operator_at a.l a.b a.starts.now a.cols.now a.vals.now a.vectors.now a.work.now) a.k _ _ _ a.work.now _ _ _ start.requires.w_in start.requires.av_in start.requires.apart
+    (rw not_scaled at c.before.before.before.before.before.before.before.before.before.before.before.before.before.apply_generator.ensures)
+    (rw part_window at c.before.before.before.before.before.before.before.before.scalars.ensures)
     c.before.before.before.before.before.before.top_in.ensures
     c.before.before.chain-in.ensures
 

@@ -5,15 +5,15 @@ use mathlib.Core.Path.{◌∙◌}
 use lib.ListN.{length}
 use lib.Ieee.{nan}
 use Rattle.lists.specs.Window.{window}
-use Rattle.lists.proofs.Window.{part-window, length-window}
-use Rattle.lists.proofs.Loop.{Filled, started, turned, finished, read-window}
-use Rattle.phi_action_helpers.specs.Augmented.{chain-term, bottom}
-use Rattle.phi_action_helpers.proofs.Augmented.{chain-reads}
+use Rattle.lists.proofs.Window.{part_window, length_window}
+use Rattle.lists.proofs.Loop.{Filled, started, turned, finished, read_window}
+use Rattle.phi_action_helpers.specs.Augmented.{chain_term, bottom}
+use Rattle.phi_action_helpers.proofs.Augmented.{chain_reads}
 use Rattle.phi_action_helpers.proofs.chain_in.Statement.{statement}
 use Rattle.phi_action_helpers.proofs.chain_in.Tie as tie
 
 abbrev invariant-loop : tie.invariant-loop
-invariant-loop work₀ c d k end i₀ work i = (i ≤ d) × Filled c i (chain-term k d (window c d work₀)) work₀ work
+invariant-loop work₀ c d k end i₀ work i = (i ≤ d) × Filled c i (chain_term k d (window c d work₀)) work₀ work
 
 abbrev decreases-loop : tie.decreases-loop
 decreases-loop work₀ c d k end i₀ work i = d - i
@@ -26,7 +26,7 @@ chain-term-requires c κs =
     let s = c.before.before.before in
     let a = s.before.before.args in
     let fits : a.c + a.d ≤ length s.loop.work = omega arith in
-    rw (part-window, length-window) (omega arith)
+    rw (part_window, length_window) (omega arith)
 
 loop-again : tie.Need-loop-preserved invariant-loop decreases-loop
 loop-again c =
@@ -37,9 +37,9 @@ loop-again c =
     let fits : a.c + a.d ≤ length s.loop.work = omega arith in (
       omega arith,
       turned filled
-          (c.chain-term.ensures
-          ∙ rw (part-window, length-window)
-          (chain-reads a.k a.d _ _ i (read-window filled a.d i nan (omega arith) (omega arith)) (λ h. read-window filled a.d (i + 1) nan (omega arith) h))),
+          (c.chain_term.ensures
+          ∙ rw (part_window, length_window)
+          (chain_reads a.k a.d _ _ i (read_window filled a.d i nan (omega arith) (omega arith)) (λ h. read_window filled a.d (i + 1) nan (omega arith) h))),
     )
 
 returns : tie.Need-returns invariant-loop decreases-loop

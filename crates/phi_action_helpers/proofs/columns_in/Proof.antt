@@ -7,7 +7,7 @@ use Rattle.lists.specs.Loop.{tabulate}
 use Rattle.lists.specs.Window.{splice}
 use Rattle.doubles.specs.F64.{at}
 use Rattle.phi_action_helpers.specs.Augmented.{coupled}
-use Rattle.phi_action_helpers.proofs.Augmented.{no-column, next-column}
+use Rattle.phi_action_helpers.proofs.Augmented.{no_column, next_column}
 use Rattle.phi_action_helpers.proofs.columns_in.Statement.{statement}
 use Rattle.phi_action_helpers.proofs.columns_in.Tie as tie
 
@@ -20,7 +20,7 @@ decreases-loop vectors count work₀ w n places sc j₀ work j = count - j
 loop-holds : tie.Need-loop-init invariant-loop decreases-loop
 loop-holds c =
     let a = c.before.before.args in
-    (omega arith, refl, no-column a.vectors.now a.t2 a.t3 a.w a.n a.work.now (omega arith))
+    (omega arith, refl, no_column a.vectors.now a.t2 a.t3 a.w a.n a.work.now (omega arith))
 
 add-column-in-requires : tie.Need-add-column-in-requires invariant-loop decreases-loop
 add-column-in-requires c κs =
@@ -31,7 +31,7 @@ loop-again : tie.Need-loop-preserved invariant-loop decreases-loop
 loop-again c =
     let s = c.before.before.before.before.before.loop in
     let a = c.before.before.before.before.before.before.before.before.args in
-    (omega arith, c.before.before.add-column-in.auto.1.1.1.0 ∙ s.invariant.1, next-column a.vectors.now a.t2 a.t3 a.w a.n s.j a.work.now s.invariant.2 c.before.before.add-column-in.ensures (omega arith))
+    (omega arith, c.before.before.add-column-in.auto.1.1.1.0 ∙ s.invariant.1, next_column a.vectors.now a.t2 a.t3 a.w a.n s.j a.work.now s.invariant.2 c.before.before.add-column-in.ensures (omega arith))
 
 returns : tie.Need-returns invariant-loop decreases-loop
 returns c =

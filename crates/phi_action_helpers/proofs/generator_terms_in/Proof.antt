@@ -4,14 +4,14 @@ use native.Mathlib.Omega.{arith}
 use Prim.Native.Nat.{◌+◌, ◌-◌, ◌≤◌}
 use mathlib.Core.Path.{◌∙◌}
 use lib.Ieee.{nan}
-use Rattle.lists.proofs.Loop.{Filled, started, turned, finished, read_here, read-apart}
+use Rattle.lists.proofs.Loop.{Filled, started, turned, finished, read_here, read_apart}
 use Rattle.doubles.specs.F64.{at}
-use Rattle.phi_action_helpers.specs.Augmented.{generator-term}
+use Rattle.phi_action_helpers.specs.Augmented.{generator_term}
 use Rattle.phi_action_helpers.proofs.generator_terms_in.Statement.{statement}
 use Rattle.phi_action_helpers.proofs.generator_terms_in.Tie as tie
 
 abbrev invariant-loop : tie.invariant-loop
-invariant-loop k work₀ w av n i₀ work i = (i ≤ n) × Filled w i (λ m. generator-term k (at work₀ (av + m)) (at work₀ (w + m))) work₀ work
+invariant-loop k work₀ w av n i₀ work i = (i ≤ n) × Filled w i (λ m. generator_term k (at work₀ (av + m)) (at work₀ (w + m))) work₀ work
 
 abbrev decreases-loop : tie.decreases-loop
 decreases-loop k work₀ w av n i₀ work i = n - i
@@ -28,8 +28,8 @@ loop-again c =
     let a = start.args in
     let inv = c.before.before.before.before.loop.invariant in
     let here = read_here inv.1 nan in
-    let there = read-apart inv.1 a.av a.n c.before.before.before.before.loop.i nan start.requires.1 inv.0 (omega arith) in
-    (omega arith, turned inv.1 (c.generator-term.ensures ∙ rw (here, there)))
+    let there = read_apart inv.1 a.av a.n c.before.before.before.before.loop.i nan start.requires.1 inv.0 (omega arith) in
+    (omega arith, turned inv.1 (c.generator_term.ensures ∙ rw (here, there)))
 
 returns : tie.Need-returns invariant-loop decreases-loop
 returns c = finished c.before.loop.invariant.1 _ (omega arith) (omega arith)

@@ -3,7 +3,7 @@ use native.Mathlib.Omega.{arith}
 use Prim.Native.Nat.{◌-◌, ◌≤◌}
 use mathlib.Core.Path.{refl, ◌∙◌}
 use lib.ListN.{replicate}
-use Rattle.lists.proofs.Loop.{Filled, started, turned₀, finished, front-filled}
+use Rattle.lists.proofs.Loop.{Filled, started, turned₀, finished, front_filled}
 use Rattle.doubles.specs.F64.{◌⊗◌, +0, at}
 use Rattle.phi_action_helpers.specs.Augmented.{scalars}
 use Rattle.phi_action_helpers.proofs.scalars.Statement.{statement}
@@ -23,7 +23,7 @@ loop-again c = (omega arith, turned₀ c.before.before.loop.invariant.1 refl)
 
 returns : tie.Need-returns invariant-loop decreases-loop
 unfolding scalars
-returns c = finished c.before.loop.invariant.1 c.before.before.args.count (omega arith) (omega arith) ∙ front-filled 3 _ _ _ (omega arith)
+returns c = finished c.before.loop.invariant.1 c.before.before.args.count (omega arith) (omega arith) ∙ front_filled 3 _ _ _ (omega arith)
 
 pub scalars-spec : {M : Type 1} → statement M
 scalars-spec =

@@ -5,7 +5,7 @@ use Prim.Native.Nat.{◌+◌}
 use lib.Ieee.{nan}
 use Rattle.lists.proofs.Loop.{passed}
 use Rattle.doubles.specs.F64.{at}
-use Rattle.phi_action_helpers.specs.Augmented.{coupled, generator-term}
+use Rattle.phi_action_helpers.specs.Augmented.{coupled, generator_term}
 use Rattle.phi_action_helpers.proofs.top_in.Statement.{statement}
 use Rattle.phi_action_helpers.proofs.top_in.Tie as tie
 
@@ -17,7 +17,7 @@ columns-in-requires c κs =
 returns : tie.Need-returns
 returns c =
     let a = c.before.before.before.before.before.before.before.before.before.before.args in
-    passed a.w a.n (λ i. generator-term a.k (at a.work.now (a.av + i)) (at a.work.now (a.w + i))) (λ i x. coupled a.vectors.now a.places a.count a.sc i x) a.work.now nan (omega arith) c.before.before.before.before.before.before.generator-terms-in.ensures c.before.before.columns-in.ensures
+    passed a.w a.n (λ i. generator_term a.k (at a.work.now (a.av + i)) (at a.work.now (a.w + i))) (λ i x. coupled a.vectors.now a.places a.count a.sc i x) a.work.now nan (omega arith) c.before.before.before.before.before.before.generator-terms-in.ensures c.before.before.columns_in.ensures
 
 pub top-in-spec : {M : Type 1} → statement M
 top-in-spec =

@@ -4,10 +4,10 @@ use native.Mathlib.Omega.{arith}
 use native.Mathlib.Numerals.{add-one}
 use Prim.Native.Nat.{◌+◌}
 use mathlib.Core.Path.{refl}
-use Rattle.lists.proofs.Bounds.{product-within}
-use Rattle.checks.proofs.First.{passed-up}
-use Rattle.taylor_schedule.proofs.Admitted.{index-known}
-use Rattle.phi_combination.proofs.Calls.{known-action, runs-batch, refused-index, refused-batch, batch-is}
+use Rattle.lists.proofs.Bounds.{product_within}
+use Rattle.checks.proofs.First.{passed_up}
+use Rattle.taylor_schedule.proofs.Admitted.{index_known}
+use Rattle.phi_combination.proofs.Calls.{known_action, runs_batch, refused_index, refused_batch, batch_is}
 use Rattle.phi_batch.proofs.acted_batched.Statement.{statement}
 use Rattle.phi_batch.proofs.acted_batched.Tie as tie
 
@@ -15,20 +15,20 @@ returns : tie.Need-returns
 returns c gs sound =
     let j = c.before.before.before.before in
     let s = j.before.before.before.before.before.before.before.before in
-    let refusal = passed-up c.before.before.enum-told2.given.1 c.before.number.ensures c.reported.ensures in
-    search (refused-index s.args.mass.now s.requires gs sound)
+    let refusal = passed_up c.before.before.enum-told2.given.1 c.before.number.ensures c.reported.ensures in
+    search (refused_index s.args.mass.now s.requires gs sound)
 
 add-count : tie.Need-overflow-add-count
 add-count c =
     let i = c.before.before in
-    omega (arith, index-known i.before.before.before.before.before.before.before.before.args.p c.enum_told.given.1 i.check-index.ensures)
+    omega (arith, index_known i.before.before.before.before.before.before.before.before.args.p c.enum_told.given.1 i.check-index.ensures)
 
 mul-admit-action : tie.Need-overflow-mul-admit-action
 mul-admit-action c =
     let i = c.before.before.before in
     let s = i.before.before.before.before.before.before.before.before in
-    let k = index-known s.args.p c.before.enum_told.given.1 i.check-index.ensures in
-    omega (arith, product-within {a = s.args.p + 1} 4 1000000 (omega (arith, k)) s.requires.valid.few)
+    let k = index_known s.args.p c.before.enum_told.given.1 i.check-index.ensures in
+    omega (arith, product_within {a = s.args.p + 1} 4 1000000 (omega (arith, k)) s.requires.valid.few)
 
 returns-2 : tie.Need-returns-2
 returns-2 c gs sound =
@@ -36,8 +36,8 @@ returns-2 c gs sound =
     let i = j.before.before.before.before in
     let s = i.before.before.before.before.before.before.before.before in
     let a = s.args in
-    let refusal = passed-up c.before.before.enum-told4.given.1 c.before.number2.ensures c.reported2.ensures in
-    refused-batch a.mass.now s.requires gs sound a.tau a.cap a.p a.v.now a.out.now a.work.now _ (add-one a.p) j.admit-action.ensures refusal
+    let refusal = passed_up c.before.before.enum-told4.given.1 c.before.number2.ensures c.reported2.ensures in
+    refused_batch a.mass.now s.requires gs sound a.tau a.cap a.p a.v.now a.out.now a.work.now _ (add-one a.p) j.admit-action.ensures refusal
 
 run-batch-requires : tie.Need-run-batch-requires
 run-batch-requires c κs =
@@ -45,9 +45,9 @@ run-batch-requires c κs =
     let i = j.before.before.before.before in
     let s = i.before.before.before.before.before.before.before.before in
     let a = s.args in
-    let k = index-known a.p j.before.before.enum_told.given.1 i.check-index.ensures in
-    let h = known-action a.g a.tau a.cap a.p a.v.now _ _ _ j.admit-action.ensures c.before.before.enum-told3.given.1 in
-    runs-batch a.mass.now s.requires a.v.now h j.admit-action.ensures refl (omega (arith, k))
+    let k = index_known a.p j.before.before.enum_told.given.1 i.check-index.ensures in
+    let h = known_action a.g a.tau a.cap a.p a.v.now _ _ _ j.admit-action.ensures c.before.before.enum-told3.given.1 in
+    runs_batch a.mass.now s.requires a.v.now h j.admit-action.ensures refl (omega (arith, k))
 
 returns-3 : tie.Need-returns-3
 returns-3 c gs sound =
@@ -56,7 +56,7 @@ returns-3 c gs sound =
     let i = j.before.before.before.before in
     let s = i.before.before.before.before.before.before.before.before in
     let a = s.args in
-    batch-is a.mass.now s.requires gs sound a.tau a.cap a.p a.v.now a.out.now a.work.now _ (add-one a.p) j.admit-action.ensures r.before.before.before.enum-told3.given.1 r.run-batch.ensures
+    batch_is a.mass.now s.requires gs sound a.tau a.cap a.p a.v.now a.out.now a.work.now _ (add-one a.p) j.admit-action.ensures r.before.before.before.enum-told3.given.1 r.run-batch.ensures
 
 pub acted-batched-spec : {M : Type 1} → statement M
 acted-batched-spec =

@@ -1,7 +1,7 @@
 -- `phi_batch::run_batch` meets its contract. Assumes nothing.
 use borrow.Author.Rules.{rules}
 use Rattle.taylor_job.specs.Calls.{batched}
-use Rattle.taylor_job.proofs.Jobs.{ready, lined, bounded, still-enough, finished}
+use Rattle.taylor_job.proofs.Jobs.{ready, lined, bounded, still_enough, finished}
 use Rattle.phi_batch.proofs.run_batch.Statement.{statement}
 use Rattle.phi_batch.proofs.run_batch.Tie as tie
 
@@ -14,14 +14,14 @@ sweep-batch-requires c κs =
     let el = l.layout.ensures in
     let e = k.prepare.ensures in
     let b = bounded p.0 _ e.0 in
-    (ready p.0 el e.1 s.args.v.now p.1.0, ((lined p.0 el, b.s-most, b.m-most, rw el p.1.1.0), rw el (p.1.1.1, p.1.1.2, p.1.1.3)))
+    (ready p.0 el e.1 s.args.v.now p.1.0, ((lined p.0 el, b.s_most, b.m_most, rw el p.1.1.0), rw el (p.1.1.1, p.1.1.2, p.1.1.3)))
 
 finish-requires : tie.Need-finish-requires
 finish-requires c κs =
     let r = c.before.before.before.before.before in
     let k = r.before.before.before.before.before in
     let l = k.before.before.before in
-    still-enough l.before.before.before.before.before.before.before.before.before.requires.0 l.layout.ensures k.prepare.ensures.1 r.sweep-batch.ensures.1.1
+    still_enough l.before.before.before.before.before.before.before.before.before.requires.0 l.layout.ensures k.prepare.ensures.1 r.sweep-batch.ensures.1.1
 
 returns : tie.Need-returns
 returns c =

@@ -3,8 +3,8 @@ use borrow.Author.Rules.{rules}
 use mathlib.Core.Path.{refl}
 use Rattle.general_operator.specs.Csr.{csr}
 use Rattle.generator_action.specs.Mass.{given}
-use Rattle.generator_action.proofs.Answered.{passed-up, refusal-told, norm-told, passed}
-use Rattle.krylov_job.proofs.Calls.{refused-generator}
+use Rattle.generator_action.proofs.Answered.{passed_up, refusal_told, norm_told, passed}
+use Rattle.krylov_job.proofs.Calls.{refused_generator}
 use Rattle.phi_krylov.proofs.phi_combination_krylov.Statement.{statement}
 use Rattle.phi_krylov.proofs.phi_combination_krylov.Tie as tie
 
@@ -12,8 +12,8 @@ returns : tie.Need-returns
 returns c =
     let g = c.before.before.before.before in
     let a = g.before.before.before.before.before.before.before.before.args in
-    let refusal = passed-up c.before.before.enum_told.given.1 c.before.number.ensures c.value.ensures in
-    refused-generator _ a.tau a.count a.w.now a.o a.out.now a.work.now (refusal-told (csr a.n a.starts.now a.cols.now a.vals.now) (given a.with-mass a.mass.now) g.check-generator.ensures refusal)
+    let refusal = passed_up c.before.before.enum_told.given.1 c.before.number.ensures c.value.ensures in
+    refused_generator _ a.tau a.count a.w.now a.o a.out.now a.work.now (refusal_told (csr a.n a.starts.now a.cols.now a.vals.now) (given a.with-mass a.mass.now) g.check-generator.ensures refusal)
 
 combined-requires : tie.Need-combined-requires
 combined-requires c κs =
@@ -21,7 +21,7 @@ combined-requires c κs =
     let g = h.before.before.before.before in
     let a = g.before.before.before.before.before.before.before.before.args in
     let m = csr a.n a.starts.now a.cols.now a.vals.now in
-    let norm = norm-told m (given a.with-mass a.mass.now) g.check-generator.ensures h.before.before.matrix.given.1 in
+    let norm = norm_told m (given a.with-mass a.mass.now) g.check-generator.ensures h.before.before.matrix.given.1 in
     rw (h.generator-shape.ensures a.starts.now a.cols.now a.vals.now a.mass.now refl) (passed m a.with-mass a.mass.now norm)
 
 returns-2 : tie.Need-returns-2
@@ -31,7 +31,7 @@ returns-2 c =
     let g = h.before.before.before.before in
     let a = g.before.before.before.before.before.before.before.before.args in
     let m = csr a.n a.starts.now a.cols.now a.vals.now in
-    let norm = norm-told m (given a.with-mass a.mass.now) g.check-generator.ensures h.before.before.matrix.given.1 in
+    let norm = norm_told m (given a.with-mass a.mass.now) g.check-generator.ensures h.before.before.matrix.given.1 in
     rw (h.generator-shape.ensures a.starts.now a.cols.now a.vals.now a.mass.now refl) at (r.combined.ensures _ norm.sound)
 
 pub phi-combination-krylov-spec : {M : Type 1} → statement M

@@ -1,17 +1,17 @@
 -- `phi_shift::cheaper_shifted` meets its contract. Assumes nothing.
 use borrow.Author.Rules.{rules}
-use Rattle.phi_shift.proofs.Ways.{no-shifted-row, costs-less, costs-as-much}
+use Rattle.phi_shift.proofs.Ways.{no_shifted_row, costs_less, costs_as_much}
 use Rattle.phi_shift.proofs.cheaper_shifted.Statement.{statement}
 use Rattle.phi_shift.proofs.cheaper_shifted.Tie as tie
 
 returns : tie.Need-returns
-returns c = search no-shifted-row
+returns c = search no_shifted_row
 
 returns-2 : tie.Need-returns-2
-returns-2 c = search costs-less
+returns-2 c = search costs_less
 
 returns-3 : tie.Need-returns-3
-returns-3 c = search costs-as-much
+returns-3 c = search costs_as_much
 
 pub cheaper-shifted-spec : {M : Type 1} → statement M
 cheaper-shifted-spec =

@@ -34,7 +34,7 @@ returns-5 c =
     let g = c.before.before in
     let e = g.before in
     let d = e.before.before in
-    rw (d.before.before.if1.false, ← d.before.is_finite.ensures, not-false d.before.is_finite.result d.if2.false, ← e.before.is-finite2.ensures, not-false e.before.is-finite2.result e.if3.false, not-false (le +0 e.before.before.before.before.before.args.norm) g.if4.false, ← c.before.shifted-bound.ensures) c.is-finite3.ensures
+    rw (d.before.before.if1.false, ← d.before.is_finite.ensures, not-false d.before.is_finite.result d.if2.false, ← e.before.is-finite2.ensures, not-false e.before.is-finite2.result e.if3.false, not-false (le +0 e.before.before.before.before.before.args.norm) g.if4.false, ← c.before.shifted_bound.ensures) c.is-finite3.ensures
 
 pub usable-spec : {M : Type 1} → statement M
 usable-spec =

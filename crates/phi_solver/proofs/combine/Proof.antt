@@ -1,6 +1,6 @@
 -- `phi_solver::combine` meets its contract. Assumes nothing.
 use borrow.Author.Rules.{rules}
-use Rattle.phi_solver.proofs.Dispatch.{by-taylor, by-krylov}
+use Rattle.phi_solver.proofs.Dispatch.{by_taylor, by_krylov}
 use Rattle.phi_solver.proofs.combine.Statement.{statement}
 use Rattle.phi_solver.proofs.combine.Tie as tie
 
@@ -9,14 +9,14 @@ returns c =
     let r = c.before.before.before.before.before in
     let t = r.before.before.before.before in
     let a = t.before.before.before.before.before.before.before.before.before.args in
-    by-taylor _ a.tau a.count a.w.now a.out.now a.work.now t.solver.given.1 c.of-taylor.ensures r.phi-combination.ensures
+    by_taylor _ a.tau a.count a.w.now a.out.now a.work.now t.solver.given.1 c.of_taylor.ensures r.phi_combination.ensures
 
 returns-2 : tie.Need-returns-2
 returns-2 c =
     let r = c.before.before.before.before.before in
     let t = r.before.before.before.before in
     let a = t.before.before.before.before.before.before.before.before.before.args in
-    by-krylov _ a.tau a.count a.w.now a.out.now a.work.now t.solver2.given.1 c.of-krylov.ensures r.phi-combination-krylov.ensures
+    by_krylov _ a.tau a.count a.w.now a.out.now a.work.now t.solver2.given.1 c.of_krylov.ensures r.phi_combination_krylov.ensures
 
 pub combine-spec : {M : Type 1} → statement M
 combine-spec =

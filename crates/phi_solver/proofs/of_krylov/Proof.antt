@@ -1,16 +1,16 @@
 -- `phi_solver::of_krylov` meets its contract. Assumes nothing.
 use borrow.Author.Rules.{rules}
 use mathlib.Core.Path.{refl}
-use Rattle.phi_solver.specs.Combine.{of-krylov}
+use Rattle.phi_solver.specs.Combine.{of_krylov}
 use Rattle.phi_solver.proofs.of_krylov.Statement.{statement}
 use Rattle.phi_solver.proofs.of_krylov.Tie as tie
 
 returns : tie.Need-returns
-unfolding of-krylov
+unfolding of_krylov
 returns c = rw c.before.answer.given.1 refl
 
 returns-2 : tie.Need-returns-2
-unfolding of-krylov
+unfolding of_krylov
 returns-2 c = rw c.before.answer2.given.1 refl
 
 pub of-krylov-spec : {M : Type 1} → statement M

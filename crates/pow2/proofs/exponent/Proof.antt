@@ -3,8 +3,8 @@ use mathlib.Core.Path.{sym, subst, ◌∙◌}
 use lib.Dec.{T, lit<}
 use lib.IntN.{negsuc}
 use lib.Ieee.{binary64, fits}
-use Rattle.pow2.proofs.Integers.{exp-fits, exp-is, next_fits, next-is}
-use Rattle.pow2.proofs.Leading.{positive-plain, exponent-normal, lifted-plain, exponent-subnormal}
+use Rattle.pow2.proofs.Integers.{exp_fits, exp_is, next_fits, next_is}
+use Rattle.pow2.proofs.Leading.{positive_plain, exponent_normal, lifted_plain, exponent_subnormal}
 use Rattle.pow2.proofs.exponent.Statement.{statement}
 use Rattle.pow2.proofs.exponent.Tie as tie
 
@@ -15,16 +15,16 @@ pub exponent-spec : {M : Type 1} → statement M
 exponent-spec =
     tie.close
     (tie.spec
-    (λ c. (positive-plain c.args.mag c.requires).number)
+    (λ c. (positive_plain c.args.mag c.requires).number)
     (λ c κs. tt)
-    (λ c. (lifted-plain _ (is-fit c.before.before) c.before.before.requires (rw c.before.field.ensures at c.if1.true)).number)
+    (λ c. (lifted_plain _ (is-fit c.before.before) c.before.before.requires (rw c.before.field.ensures at c.if1.true)).number)
     (λ c κs. tt)
-    (λ c. exp-fits _ _ c.field2.ensures)
+    (λ c. exp_fits _ _ c.field2.ensures)
     (λ c. next_fits _ _ c.field2.ensures (negsuc 53) (lit< tt))
     (λ c.
     let s = c.before.before.before in
-    next-is _ _ c.field2.ensures (negsuc 53) (lit< tt) ∙ exponent-subnormal _ (is-fit s) s.requires (rw c.before.before.field.ensures at c.before.if1.true))
-    (λ c. exp-fits _ _ c.before.field.ensures)
+    next_is _ _ c.field2.ensures (negsuc 53) (lit< tt) ∙ exponent_subnormal _ (is-fit s) s.requires (rw c.before.before.field.ensures at c.before.if1.true))
+    (λ c. exp_fits _ _ c.before.field.ensures)
     (λ c.
     let s = c.before.before in
-    exp-is _ _ c.before.field.ensures ∙ exponent-normal _ (is-fit s) (positive-plain s.args.mag s.requires) (rw c.before.field.ensures at c.if1.false)))
+    exp_is _ _ c.before.field.ensures ∙ exponent_normal _ (is-fit s) (positive_plain s.args.mag s.requires) (rw c.before.field.ensures at c.if1.false)))

@@ -2,22 +2,22 @@
 use mathlib.Core.Path.{◌≡◌, sym, ap, ◌∙◌}
 use native.Mathlib.Omega.{arith}
 use lib.IntN.{neg_ℤ}
-use Rattle.pow2.specs.Pow2.{pow2-f64, usable, factors}
-use Rattle.pow2.proofs.Integers.{held, mag-neg, negated, negated_fits}
+use Rattle.pow2.specs.Pow2.{pow2_f64, usable, factors}
+use Rattle.pow2.proofs.Integers.{held, mag_neg, negated, negated_fits}
 use Rattle.pow2.proofs.factors.Statement.{statement}
 use Rattle.pow2.proofs.factors.Tie as tie
 
 -- the two factors, as the code has them
-down_is : (c : tie.After-pow2-f64) → c.pow2-f64.result ≡ pow2-f64 (neg_ℤ c.before.args.e)
-down_is c = c.pow2-f64.ensures ∙ ap pow2-f64 (negated c.before.args.e (omega arith))
+down_is : (c : tie.After-pow2-f64) → c.pow2_f64.result ≡ pow2_f64 (neg_ℤ c.before.args.e)
+down_is c = c.pow2_f64.ensures ∙ ap pow2_f64 (negated c.before.args.e (omega arith))
 
-up_is : (c : tie.After-pow2-f642) → c.pow2-f642.result ≡ pow2-f64 c.before.before.args.e
-up_is c = c.pow2-f642.ensures ∙ ap pow2-f64 (held c.before.before.args.e (omega arith))
+up_is : (c : tie.After-pow2-f642) → c.pow2-f642.result ≡ pow2_f64 c.before.before.args.e
+up_is c = c.pow2-f642.ensures ∙ ap pow2_f64 (held c.before.before.args.e (omega arith))
 
-down-test : (c : tie.After-usable) → c.usable.result ≡ usable (pow2-f64 (neg_ℤ c.before.before.before.args.e))
+down-test : (c : tie.After-usable) → c.usable.result ≡ usable (pow2_f64 (neg_ℤ c.before.before.before.args.e))
 down-test c = c.usable.ensures ∙ ap usable (down_is c.before.before)
 
-up-test : (c : tie.After-usable2) → c.usable2.result ≡ usable (pow2-f64 c.before.before.before.before.before.args.e)
+up-test : (c : tie.After-usable2) → c.usable2.result ≡ usable (pow2_f64 c.before.before.before.before.before.args.e)
 up-test c = c.usable2.ensures ∙ ap usable (up_is c.before.before.before)
 
 returns : tie.Need-returns
@@ -39,7 +39,7 @@ factors-spec =
     tie.close
     (tie.spec
     (λ c. negated_fits c.args.e (omega arith))
-    (λ c κs. rw (negated c.args.e (omega arith)) (omega (arith, mag-neg c.args.e)))
+    (λ c κs. rw (negated c.args.e (omega arith)) (omega (arith, mag_neg c.args.e)))
     (λ c κs. rw (held c.before.args.e (omega arith)) (omega arith))
     (λ c κs. tt)
     (λ c κs. tt)

@@ -9,9 +9,9 @@ use lib.Ieee.{Float, binary64, mul}
 use mir.Syntax.{w32}
 use mir.Val.{SFits, to_z, of_z}
 use mir.Facts.{to_z-of_z}
-use Rattle.pow2.specs.Pow2.{exact-pow2, pow2-f64}
+use Rattle.pow2.specs.Pow2.{exact_pow2, pow2_f64}
 use Rattle.pow2.proofs.Integers.{small, held, halves}
-use Rattle.pow2.proofs.Rounded.{pow2-product}
+use Rattle.pow2.proofs.Rounded.{pow2_product}
 use Rattle.pow2.proofs.pow2_f64.Statement.{statement}
 use Rattle.pow2.proofs.pow2_f64.Tie as tie
 
@@ -32,11 +32,11 @@ module _ (k : ℤ) (h : mag k < 2042) where
   rest-is : to_z w32 (of_z w32 (to_z w32 (of_z w32 k) -ℤ half k)) ≡ k -ℤ quot_z k (pos 2)
   rest-is = to_z-of_z rest-fits ∙ rw (half_is, held k (omega arith))
 
-  product : (a b : Float) → a ≡ exact-pow2 (half k) → b ≡ exact-pow2 (to_z w32 (of_z w32 (to_z w32 (of_z w32 k) -ℤ half k))) → mul binary64 a b ≡ pow2-f64 k
+  product : (a b : Float) → a ≡ exact_pow2 (half k) → b ≡ exact_pow2 (to_z w32 (of_z w32 (to_z w32 (of_z w32 k) -ℤ half k))) → mul binary64 a b ≡ pow2_f64 k
   product a b p q =
       let i = quot_z k (pos 2) in
-      (λ j. mul binary64 ((p ∙ ap exact-pow2 half_is) j) ((q ∙ ap exact-pow2 rest-is) j))
-      ∙ pow2-product i (k -ℤ i) ∙ ap pow2-f64 (+ℤ_comm i (k -ℤ i) ∙ -ℤ-+ℤ_cancel k i)
+      (λ j. mul binary64 ((p ∙ ap exact_pow2 half_is) j) ((q ∙ ap exact_pow2 rest-is) j))
+      ∙ pow2_product i (k -ℤ i) ∙ ap pow2_f64 (+ℤ_comm i (k -ℤ i) ∙ -ℤ-+ℤ_cancel k i)
 
 pub pow2-f64-spec : {M : Type 1} → statement M
 pow2-f64-spec =
@@ -46,4 +46,4 @@ pow2-f64-spec =
     (λ c κs. rw (half_is c.args.k c.requires) (omega (arith, (halves c.args.k 1021 c.requires).0)))
     (λ c. rest-fits c.before.args.k c.before.requires)
     (λ c κs. rw (rest-is c.before.args.k c.before.requires) (omega (arith, (halves c.before.args.k 1021 c.before.requires).1)))
-    (λ c. product c.before.before.args.k c.before.before.requires _ _ c.before.exact-pow2.ensures c.exact-pow22.ensures))
+    (λ c. product c.before.before.args.k c.before.before.requires _ _ c.before.exact_pow2.ensures c.exact-pow22.ensures))

@@ -4,14 +4,14 @@ use Prim.Native.Nat.{◌≤◌, ◌-◌}
 use native.Mathlib.Omega.{arith}
 use lib.ListN.{length}
 use Rattle.lists.specs.Loop.{iter}
-use Rattle.lists.proofs.Loop.{iter-none, iter_turn}
-use Rattle.doubles.specs.F64.{+0, at, abs, maxNum}
+use Rattle.lists.proofs.Loop.{iter_none, iter_turn}
+use Rattle.doubles.specs.F64.{+0, at, abs, max_num}
 use Rattle.pow2.specs.Pow2.{sup}
 use Rattle.pow2.proofs.sup.Statement.{statement}
 use Rattle.pow2.proofs.sup.Tie as tie
 
 abbrev invariant-loop : tie.invariant-loop
-invariant-loop x m₀ i₀ i-end m i = (i ≤ length x) × (m ≡ iter (λ k s. maxNum s (abs (at x k))) i +0)
+invariant-loop x m₀ i₀ i-end m i = (i ≤ length x) × (m ≡ iter (λ k s. max_num s (abs (at x k))) i +0)
 
 abbrev decreases-loop : tie.decreases-loop
 decreases-loop x m₀ i₀ i-end m i = length x - i
@@ -19,7 +19,7 @@ decreases-loop x m₀ i₀ i-end m i = length x - i
 loop-again : tie.Need-loop-preserved invariant-loop decreases-loop
 loop-again c =
     let s = c.before.before.before.before in
-    (omega arith, iter_turn _ _ _ _ _ s.loop.invariant.1 (c.max.ensures ∙ ap (maxNum s.loop.m) c.before.abs.ensures))
+    (omega arith, iter_turn _ _ _ _ _ s.loop.invariant.1 (c.max.ensures ∙ ap (max_num s.loop.m) c.before.abs.ensures))
 
 returns : tie.Need-returns invariant-loop decreases-loop
 unfolding sup
@@ -33,7 +33,7 @@ sup-spec =
     (tie.spec
     invariant-loop
     decreases-loop
-    (λ c. (omega arith, sym (iter-none _ _)))
+    (λ c. (omega arith, sym (iter_none _ _)))
     (λ c. omega arith)
     (λ c. omega arith)
     (λ c κs. tt)

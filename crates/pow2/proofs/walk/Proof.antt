@@ -13,8 +13,8 @@ use mir.Facts.{to_z-of_z}
 use Rattle.pow2.specs.declared.Prescale.{Prescale}
 use Rattle.pow2.specs.declared.Prescale.TheVariants.{None}
 use Rattle.pow2.specs.Pow2.{clamp, signum, factors, scale_of}
-use Rattle.pow2.proofs.Integers.{small, held, mag-abs}
-use Rattle.pow2.proofs.Toward.{end, found, none-outside, Step, stepped}
+use Rattle.pow2.proofs.Integers.{small, held, mag_abs}
+use Rattle.pow2.proofs.Toward.{end, found, none_outside, Step, stepped}
 use Rattle.pow2.proofs.walk.Statement.{statement}
 use Rattle.pow2.proofs.walk.Tie as tie
 
@@ -27,7 +27,7 @@ decreases-loop exp e₀ e = nat_abs (to_z w32 e)
 -- a turn: z is the exponent, f its factors and r its sign
 module _ (z : ℤ) (f : Prescale) (r : ℤ) (h : nat_abs z < 2041) (q : f ≡ factors z) (n : f ≡ None) (p : r ≡ signum z) where
   step : Step z (z -ℤ signum z)
-  step = stepped z (none-outside z (sym q ∙ n))
+  step = stepped z (none_outside z (sym q ∙ n))
 
   moved : z -ℤ to_z w32 (of_z w32 r) ≡ z -ℤ signum z
   moved = rw p (ap (λ (s : ℤ). z -ℤ s) (held (signum z) (sign_small z)))
@@ -38,7 +38,7 @@ module _ (z : ℤ) (f : Prescale) (r : ℤ) (h : nat_abs z < 2041) (q : f ≡ fa
       sign_small (negsuc n) = lit< tt
 
   moved-fits : SFits w32 (z -ℤ to_z w32 (of_z w32 r))
-  moved-fits = rw moved (small (z -ℤ signum z) (omega (arith, mag-abs (z -ℤ signum z), step.nearer)))
+  moved-fits = rw moved (small (z -ℤ signum z) (omega (arith, mag_abs (z -ℤ signum z), step.nearer)))
 
   turn : Step z (to_z w32 (of_z w32 (z -ℤ to_z w32 (of_z w32 r))))
   turn = rw (to_z-of_z moved-fits, moved) step
@@ -76,8 +76,8 @@ walk-spec =
     (tie.spec
     invariant-loop
     decreases-loop
-    (λ c. (rw (held c.args.exp (omega arith)) (omega (arith, mag-abs c.args.exp)), refl))
-    (λ c κs. omega (arith, mag-abs (to_z w32 c.loop.e)))
+    (λ c. (rw (held c.args.exp (omega arith)) (omega (arith, mag_abs c.args.exp)), refl))
+    (λ c κs. omega (arith, mag_abs (to_z w32 c.loop.e)))
     (λ c. search rules)
     returns
     (λ c. search rules)

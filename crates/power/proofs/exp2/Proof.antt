@@ -3,12 +3,12 @@ use Rattle.std.proofs.Common.{ℕ, ◌≤◌, Bool, not, T, sym, subst, arith, r
 use lib.Ieee.{binary64, of_bits, nan_bits}
 use lib.Ieee.Bits.{nan_bits_is}
 use Rattle.doubles.proofs.Compare.{above_no_nan}
-use Rattle.doubles.proofs.Order.{nonneg-number, bits-nonneg}
+use Rattle.doubles.proofs.Order.{nonneg_number, bits_nonneg}
 use Rattle.power.proofs.exp2.Statement.{statement}
 use Rattle.power.proofs.exp2.Tie as tie
 
 no_nan : (w : ℕ) → w ≤ 9218868437227405312 → T (not (nan_bits binary64 w))
-no_nan w h = subst (λ (b : Bool). T (not b)) (sym (nan_bits_is binary64 w)) (nonneg-number (of_bits binary64 w) (bits-nonneg w h))
+no_nan w h = subst (λ (b : Bool). T (not b)) (sym (nan_bits_is binary64 w)) (nonneg_number (of_bits binary64 w) (bits_nonneg w h))
 
 float-to-bits-scale : tie.Need-float-to-bits-scale
 float-to-bits-scale c = above_no_nan _ c.if1.true

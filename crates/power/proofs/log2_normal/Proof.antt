@@ -1,7 +1,7 @@
 -- `power::log2_normal` meets its contract. Assumes nothing.
 use Rattle.std.proofs.Common.{arith, rules}
 use Rattle.doubles.proofs.Compare.{above_no_nan}
-use Rattle.doubles.proofs.Patterns.{finite-no-nan}
+use Rattle.doubles.proofs.Patterns.{finite_no_nan}
 use Rattle.power.proofs.log2_normal.Statement.{statement}
 use Rattle.power.proofs.log2_normal.Tie as tie
 
@@ -9,10 +9,10 @@ float-to-bits-b : tie.Need-float-to-bits-b
 float-to-bits-b c = above_no_nan c.before.args.x c.if1.true
 
 float-from-bits-e : tie.Need-float-from-bits-e
-float-from-bits-e c = finite-no-nan _ (omega arith)
+float-from-bits-e c = finite_no_nan _ (omega arith)
 
 float-from-bits-m : tie.Need-float-from-bits-m
-float-from-bits-m c = finite-no-nan _ (omega arith)
+float-from-bits-m c = finite_no_nan _ (omega arith)
 
 pub log2-normal-spec : {M : Type 1} → statement M
 log2-normal-spec =

@@ -1,6 +1,6 @@
 -- `record_checks::check_products` meets its contract. Assumes nothing.
 use borrow.Author.Rules.{rules}
-use Rattle.record_checks.proofs.Products.{product-bad, products-finite}
+use Rattle.record_checks.proofs.Products.{product_bad, products_finite}
 use Rattle.record_checks.proofs.check_products.Statement.{statement}
 use Rattle.record_checks.proofs.check_products.Tie as tie
 
@@ -20,13 +20,13 @@ shared-slice-read-t8 c = search rules
 returns : tie.Need-returns
 returns c =
     let a = c.before.before.before.before.args in
-    product-bad a.load.now a.level c.before.before.first-bad-product.ensures c.before.if1.true
+    product_bad a.load.now a.level c.before.before.first-bad-product.ensures c.before.if1.true
 
 -- src/rt:118:1
 returns-2 : tie.Need-returns-2
 returns-2 c =
     let a = c.before.before.before.args in
-    products-finite a.load.now a.level c.before.first-bad-product.ensures c.if1.false
+    products_finite a.load.now a.level c.before.first-bad-product.ensures c.if1.false
 
 pub check-products-spec : {M : Type 1} → statement M
 check-products-spec =

@@ -1,7 +1,7 @@
 -- `record_checks::check_record` meets its contract. Assumes nothing.
 use borrow.Author.Rules.{rules}
 use mathlib.Core.Path.{◌∙◌}
-use Rattle.record_checks.proofs.Products.{both-finite}
+use Rattle.record_checks.proofs.Products.{both_finite}
 use Rattle.record_checks.proofs.check_record.Statement.{statement}
 use Rattle.record_checks.proofs.check_record.Tie as tie
 
@@ -32,7 +32,7 @@ returns c =
     let f = c.before in
     rw f.before.before.if1.true
     (c.and-then2.ensures _ _ f.before.before.before.before.check-plan.ensures
-    (f.and_then.ensures _ _ f.before.check-finite.ensures f.before.before.before.check-products.ensures ∙ both-finite a.field.now _))
+    (f.and_then.ensures _ _ f.before.check-finite.ensures f.before.before.before.check-products.ensures ∙ both_finite a.field.now _))
 
 -- src/rt:174:39
 check-finite-requires-2 : tie.Need-check-finite-requires-2
@@ -53,7 +53,7 @@ returns-2 c =
     let f = c.before in
     rw f.before.before.if1.false
     (c.and-then4.ensures _ _ f.before.before.before.before.check-plan.ensures
-    (f.and-then3.ensures _ _ f.before.check-finite2.ensures f.before.before.before.check-products.ensures ∙ both-finite a.out.now _))
+    (f.and-then3.ensures _ _ f.before.check-finite2.ensures f.before.before.before.check-products.ensures ∙ both_finite a.out.now _))
 
 pub check-record-spec : {M : Type 1} → statement M
 check-record-spec =

@@ -4,7 +4,7 @@ use mathlib.Core.Path.{refl, sym, ◌∙◌}
 use Prim.Native.Nat.{◌-◌, ◌≤◌}
 use lib.ListN.{length}
 use lib.Ieee.{nan}
-use Rattle.lists.proofs.Loop.{Filled, started, turned₀, finished-all, map-tabulate}
+use Rattle.lists.proofs.Loop.{Filled, started, turned₀, finished_all, map_tabulate}
 use Rattle.doubles.specs.F64.{◌⊗◌, at}
 use Rattle.vectors.specs.Vectors.{scale}
 use Rattle.record_start.proofs.scale_into.Statement.{statement}
@@ -23,7 +23,7 @@ returns : tie.Need-returns invariant-loop decreases-loop
 unfolding scale
 returns c =
     let a = c.before.before.args in
-    finished-all c.before.loop.invariant.1 (length a.load.now) (omega arith) (omega arith) (omega arith) ∙ sym (map-tabulate (λ e. e ⊗ a.level) a.load.now nan)
+    finished_all c.before.loop.invariant.1 (length a.load.now) (omega arith) (omega arith) (omega arith) ∙ sym (map_tabulate (λ e. e ⊗ a.level) a.load.now nan)
 
 pub scale-into-spec : {M : Type 1} → statement M
 scale-into-spec =

@@ -11,7 +11,7 @@ combination-start-requires c κs =
     (omega (arith, l), s.requires.1)
 
 returns : tie.Need-returns
-returns c = rw c.before.before.before.before.if1.true c.before.before.combination-start.ensures
+returns c = rw c.before.before.before.before.if1.true c.before.before.combination_start.ensures
 
 combination-start-requires-2 : tie.Need-combination-start-requires-2
 combination-start-requires-2 c κs =

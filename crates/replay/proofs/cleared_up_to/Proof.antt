@@ -9,7 +9,7 @@ use native.Mathlib.Omega.{arith}
 use lib.Dec.{ltb}
 use lib.ListN.{length, get_or}
 use lib.Seq.{ext_get_or}
-use Rattle.lists.proofs.Loop.{length-tabulate, get_d_tabulate}
+use Rattle.lists.proofs.Loop.{length_tabulate, get_d_tabulate}
 use Rattle.replay.proofs.cleared_up_to.Statement.{statement}
 use Rattle.replay.proofs.cleared_up_to.Tie as tie
 
@@ -35,7 +35,7 @@ loop-again : tie.Need-loop-preserved invariant-loop decreases-loop
 loop-again c = (omega arith, below_more (λ (i : ℕ). get_or c.before.before.before.before.before.before.args.work.now i 0 ≡ cond (ltb i c.before.before.before.before.before.before.args.cleared) 0 90) _ c.before.before.before.before.loop.invariant.1 (c.if1.false ∙ c.before.left_at.ensures))
 
 returns-2 : tie.Need-returns-2 invariant-loop decreases-loop
-returns-2 c = ((λ e. ext_get_or 0 _ _ (sym (length-tabulate _ (λ k. cond (ltb k c.before.before.before.args.cleared) 0 90))) (λ i l. c.before.loop.invariant.1 i (omega (arith, c.loop-test.false)) ∙ sym (get_d_tabulate _ (λ k. cond (ltb k c.before.before.before.args.cleared) 0 90) i 0 l))), λ e. refl)
+returns-2 c = ((λ e. ext_get_or 0 _ _ (sym (length_tabulate _ (λ k. cond (ltb k c.before.before.before.args.cleared) 0 90))) (λ i l. c.before.loop.invariant.1 i (omega (arith, c.loop-test.false)) ∙ sym (get_d_tabulate _ (λ k. cond (ltb k c.before.before.before.args.cleared) 0 90) i 0 l))), λ e. refl)
 
 pub cleared-up-to-spec : {M : Type 1} → statement M
 cleared-up-to-spec =

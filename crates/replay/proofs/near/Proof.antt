@@ -8,15 +8,15 @@ use Prim.Native.Nat.{◌-◌, ◌≤◌}
 use Rattle.replay.proofs.near.Statement.{statement}
 use Rattle.replay.proofs.near.Tie as tie
 
-and-true : (t : Bool) {u : Bool} → u ≡ true → t ≡ (t && u)
-and-true true e = sym e
-and-true false e = refl
+and_true : (t : Bool) {u : Bool} → u ≡ true → t ≡ (t && u)
+and_true true e = sym e
+and_true false e = refl
 
 returns : tie.Need-returns
 returns c = simp (le-leb (c.before.args.a - c.before.args.b) c.before.args.units (omega (arith, c.if1.true)))
 
 returns-2 : tie.Need-returns-2
-returns-2 c = and-true _ (le-leb (c.before.args.b - c.before.args.a) c.before.args.units (omega (arith, c.if1.false)))
+returns-2 c = and_true _ (le-leb (c.before.args.b - c.before.args.a) c.before.args.units (omega (arith, c.if1.false)))
 
 pub near-spec : {M : Type 1} → statement M
 near-spec =

@@ -5,7 +5,7 @@ use lib.Dec.{leb}
 use lib.ListN.{get_or}
 use borrow.Author.Rules.{rules}
 use borrow.Author.Tests.{le-leb, lt-leb}
-use Rattle.lists.proofs.Find.{Passed, passed_start, passed-next, found_at, found_none}
+use Rattle.lists.proofs.Find.{Passed, passed_start, passed_next, found_at, found_none}
 use Rattle.rotation.proofs.count_in.Statement.{statement}
 use Rattle.rotation.proofs.count_in.Tie as tie
 
@@ -19,7 +19,7 @@ returns : tie.Need-returns invariant-loop decreases-loop
 returns c = found_at c.before.before.loop.invariant.1 16 (omega arith) (le-leb _ _ c.if1.true)
 
 loop-again : tie.Need-loop-preserved invariant-loop decreases-loop
-loop-again c = (omega arith, passed-next c.before.before.loop.invariant.1 (lt-leb _ _ c.if1.false))
+loop-again c = (omega arith, passed_next c.before.before.loop.invariant.1 (lt-leb _ _ c.if1.false))
 
 pub count-in-spec : {M : Type 1} → statement M
 count-in-spec =

@@ -2,8 +2,8 @@
 use native.Mathlib.Omega.{arith}
 use Prim.Native.Nat.{◌-◌, ◌≤◌}
 use borrow.Author.Rules.{rules}
-use Rattle.lists.proofs.Find.{Passed, passed_start, passed-next, found_at, found_none}
-use Rattle.rotation.specs.Unit.{run_at, lowest-free}
+use Rattle.lists.proofs.Find.{Passed, passed_start, passed_next, found_at, found_none}
+use Rattle.rotation.specs.Unit.{run_at, lowest_free}
 use Rattle.rotation.proofs.lowest_free.Statement.{statement}
 use Rattle.rotation.proofs.lowest_free.Tie as tie
 
@@ -14,14 +14,14 @@ abbrev decreases-loop : tie.decreases-loop
 decreases-loop unit p₀ p = 16 - p
 
 returns : tie.Need-returns invariant-loop decreases-loop
-unfolding lowest-free
+unfolding lowest_free
 returns c = found_at c.before.before.before.loop.invariant.1 16 (omega arith) c.if1.true
 
 loop-again : tie.Need-loop-preserved invariant-loop decreases-loop
-loop-again c = (omega arith, passed-next c.before.before.before.loop.invariant.1 c.if1.false)
+loop-again c = (omega arith, passed_next c.before.before.before.loop.invariant.1 c.if1.false)
 
 returns-2 : tie.Need-returns-2 invariant-loop decreases-loop
-unfolding lowest-free
+unfolding lowest_free
 returns-2 c = found_none c.before.loop.invariant.1 16 (omega arith)
 
 pub lowest-free-spec : {M : Type 1} → statement M

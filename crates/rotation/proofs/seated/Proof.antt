@@ -3,12 +3,12 @@ use borrow.Author.Rules.{rules, scaled_Fits}
 use lib.Dec.{lit<}
 use native.Mathlib.Omega.{arith}
 use mathlib.Core.Path.{refl, sym, ◌∙◌}
-use Rattle.rotation.proofs.Queue.{has_room, seat-is}
+use Rattle.rotation.proofs.Queue.{has_room, seat_is}
 use Rattle.rotation.proofs.seated.Statement.{statement}
 use Rattle.rotation.proofs.seated.Tie as tie
 
 array-set-from-places : tie.Need-array-set-from-places
-array-set-from-places c = omega (arith, c.before.before.lowest-free.ensures, (has_room _ (sym c.before.before.before.before.room.ensures ∙ c.before.before.before.if1.true)).0)
+array-set-from-places c = omega (arith, c.before.before.lowest_free.ensures, (has_room _ (sym c.before.before.before.before.room.ensures ∙ c.before.before.before.if1.true)).0)
 
 shifted-requires : tie.Need-shifted-requires
 shifted-requires c κs =
@@ -18,7 +18,7 @@ shifted-requires c κs =
 returns : tie.Need-returns
 returns c =
     let a = c.before.before.before.before.before.before.before.args in
-    seat-is a.unit a.run (sym c.before.before.before.before.before.before.room.ensures ∙ c.before.before.before.before.before.if1.true) c.before.before.before.before.lowest-free.ensures c.before.count-in.ensures c.shifted.ensures
+    seat_is a.unit a.run (sym c.before.before.before.before.before.before.room.ensures ∙ c.before.before.before.before.before.if1.true) c.before.before.before.before.lowest_free.ensures c.before.count-in.ensures c.shifted.ensures
 
 returns-2 : tie.Need-returns-2
 returns-2 c = rw (sym c.before.room.ensures ∙ c.if1.false) refl

@@ -7,7 +7,7 @@ use lib.Dec.{T}
 use lib.Ieee.{Float, nan, binary64, le, lt, mul, div, nan_bits}
 use Rattle.doubles.specs.F64.{+∞}
 use Rattle.doubles.specs.Whole.{ceil}
-use Rattle.doubles.proofs.Compare.{zero-over-zero}
+use Rattle.doubles.proofs.Compare.{zero_over_zero}
 use Rattle.round2.specs.Ten.{ten}
 use Rattle.round2.specs.Rounded.{decade, up_to, round2}
 use Rattle.round2.proofs.round2.Statement.{statement}
@@ -17,9 +17,9 @@ when-usable : (x : Float) → le (ten 1) x ≡ true → lt x +∞ ≡ true → u
 unfolding round2
 when-usable x a b = sym (ap (λ (t : Bool). cond (t && lt x +∞) (up_to x (decade x)) nan) a ∙ ap (λ (t : Bool). cond t (up_to x (decade x)) nan) b)
 
-when-endless : (x : Float) → le (ten 1) x ≡ true → lt x +∞ ≡ false → nan ≡ round2 x
+when_endless : (x : Float) → le (ten 1) x ≡ true → lt x +∞ ≡ false → nan ≡ round2 x
 unfolding round2
-when-endless x a b = sym (ap (λ (t : Bool). cond (t && lt x +∞) (up_to x (decade x)) nan) a ∙ ap (λ (t : Bool). cond t (up_to x (decade x)) nan) b)
+when_endless x a b = sym (ap (λ (t : Bool). cond (t && lt x +∞) (up_to x (decade x)) nan) a ∙ ap (λ (t : Bool). cond t (up_to x (decade x)) nan) b)
 
 when-small : (x : Float) → le (ten 1) x ≡ false → nan ≡ round2 x
 unfolding round2
@@ -63,13 +63,13 @@ returns c =
 returns-2 : tie.Need-returns-2
 returns-2 c =
     let x = c.before.before.before.args.x in
-    zero-over-zero
-    ∙ when-endless x (subst (λ (y : Float). le y x ≡ true) c.before.before.ten.ensures c.before.if1.true) c.if2.false
+    zero_over_zero
+    ∙ when_endless x (subst (λ (y : Float). le y x ≡ true) c.before.before.ten.ensures c.before.if1.true) c.if2.false
 
 returns-3 : tie.Need-returns-3
 returns-3 c =
     let x = c.before.before.args.x in
-    zero-over-zero ∙ when-small x (subst (λ (y : Float). le y x ≡ false) c.before.ten.ensures c.if1.false)
+    zero_over_zero ∙ when-small x (subst (λ (y : Float). le y x ≡ false) c.before.ten.ensures c.if1.false)
 
 pub round2-spec : {M : Type 1} → statement M
 round2-spec = tie.close (tie.spec ten-requires float-from-bits-if2 decade-requires sub-ten ten-requires-2 ceil-requires returns returns-2 returns-3)

@@ -7,8 +7,8 @@ use lib.ListN.{get_or}
 use lib.Ieee.{Float, neg}
 use Rattle.doubles.specs.F64.{◌⊕◌, ◌⊗◌, at}
 use Rattle.doubles.specs.Sum.{sum}
-use Rattle.doubles.proofs.Sum.{sum-none, sum-turn}
-use Rattle.general_operator.specs.Csr.{row-product}
+use Rattle.doubles.proofs.Sum.{sum_none, sum_turn}
+use Rattle.general_operator.specs.Csr.{row_product}
 use Rattle.row_product.proofs.row_product.Statement.{statement}
 use Rattle.row_product.proofs.row_product.Tie as tie
 
@@ -24,7 +24,7 @@ more : (f : ℕ → Float) (from k : ℕ) {s : Float} → from ≤ k → s ≡ p
 more f from k {s} l e =
     let here : k ≡ from + (k - from) = omega arith in
     let next : k - from + 1 ≡ k + 1 - from = omega arith in
-    sum-turn (k - from) (λ j. f (from + j)) s (f k) e (ap f here) ∙ ap (λ (n : ℕ). sum n (λ j. f (from + j))) next
+    sum_turn (k - from) (λ j. f (from + j)) s (f k) e (ap f here) ∙ ap (λ (n : ℕ). sum n (λ j. f (from + j))) next
 
 -- two
 two-more : (f : ℕ → Float) (from k : ℕ) {s : Float} → from ≤ k → s ≡ part f from k → s ⊕ f k ⊕ f (k + 1) ≡ part f from (k + 2)
@@ -42,7 +42,7 @@ abbrev decreases-loop : tie.decreases-loop
 decreases-loop cols vals x from to s₀ k₀ s k = to - k
 
 loop-holds : tie.Need-loop-init invariant-loop decreases-loop
-loop-holds c = let a = c.args in (omega arith, omega arith, sym (sum-none _) ∙ none (product a.cols.now a.vals.now a.x.now) a.from)
+loop-holds c = let a = c.args in (omega arith, omega arith, sym (sum_none _) ∙ none (product a.cols.now a.vals.now a.x.now) a.from)
 
 cast-c : tie.Need-overflow-cast-c invariant-loop decreases-loop
 cast-c c = omega (arith, c.shared-slice-known.given c.before.before.loop.k)
@@ -78,7 +78,7 @@ shared-slice-read-result-2 : tie.Need-shared-slice-read-result-2 invariant-loop 
 shared-slice-read-result-2 c = let s = c.before.before.before.before.before in s.before.requires.1 s.loop.k (omega arith)
 
 returns : tie.Need-returns invariant-loop decreases-loop
-unfolding row-product
+unfolding row_product
 returns c =
     let s = c.before.before.before.before.before in
     let a = s.before.args in
@@ -87,7 +87,7 @@ returns c =
     ap neg (more f a.from s.loop.k s.loop.invariant.0 s.loop.invariant.2 ∙ ap (part f a.from) e)
 
 returns-2 : tie.Need-returns-2 invariant-loop decreases-loop
-unfolding row-product
+unfolding row_product
 returns-2 c =
     let s = c.before.before in
     let a = s.before.args in

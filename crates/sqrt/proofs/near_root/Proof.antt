@@ -2,12 +2,12 @@
 use borrow.Author.Rules.{rules}
 use native.Mathlib.Omega.{arith}
 use Rattle.doubles.proofs.Compare.{above_no_nan}
-use Rattle.doubles.proofs.Patterns.{finite-no-nan}
+use Rattle.doubles.proofs.Patterns.{finite_no_nan}
 use Rattle.sqrt.proofs.near_root.Statement.{statement}
 use Rattle.sqrt.proofs.near_root.Tie as tie
 
 float-from-bits-a : tie.Need-float-from-bits-a
-float-from-bits-a c = finite-no-nan _ (omega arith)
+float-from-bits-a c = finite_no_nan _ (omega arith)
 
 float-to-bits-r : tie.Need-float-to-bits-r
 float-to-bits-r c = above_no_nan _ c.if1.true

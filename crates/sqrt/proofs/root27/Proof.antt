@@ -2,7 +2,7 @@
 use borrow.Author.Rules.{rules}
 use Prim.Native.Nat.{◌+◌, ◌-◌, ◌*◌, ◌≤◌, ◌<◌}
 use native.Mathlib.Omega.{arith}
-use Rattle.sqrt.proofs.Parts.{square-small, root-small}
+use Rattle.sqrt.proofs.Parts.{square_small, root_small}
 use Rattle.sqrt.proofs.root27.Statement.{statement}
 use Rattle.sqrt.proofs.root27.Tie as tie
 
@@ -13,7 +13,7 @@ abbrev decreases-loop : tie.decreases-loop
 decreases-loop m r₀ r = 134217728 - r
 
 small : (c : tie.At-loop invariant-loop decreases-loop) → c.loop.r < 134217728
-small c = root-small _ _ c.before.before.before.requires c.loop.invariant
+small c = root_small _ _ c.before.before.before.requires c.loop.invariant
 
 loop-holds : tie.Need-loop-init invariant-loop decreases-loop
 loop-holds c = c.root-from-above.ensures
@@ -25,7 +25,7 @@ add-loop-2 : tie.Need-overflow-add-loop-2 invariant-loop decreases-loop
 add-loop-2 c = omega (arith, small c)
 
 mul-loop : tie.Need-overflow-mul-loop invariant-loop decreases-loop
-mul-loop c = let h = square-small (c.loop.r + 1) (omega (arith, small c)) in omega arith
+mul-loop c = let h = square_small (c.loop.r + 1) (omega (arith, small c)) in omega arith
 
 add_r : tie.Need-overflow-add-r invariant-loop decreases-loop
 add_r c = omega (arith, small c.before)

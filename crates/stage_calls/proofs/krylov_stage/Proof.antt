@@ -5,13 +5,13 @@ use mathlib.Core.Path.{◌≡◌, ap, ◌∙◌}
 use mathlib.Core.List.{◌++◌}
 use Prim.Native.Nat.{ℕ, ◌+◌, ◌-◌}
 use lib.ListN.{length}
-use Rattle.lists.proofs.Window.{length-splice}
+use Rattle.lists.proofs.Window.{length_splice}
 use Rattle.checks.specs.First.{first}
-use Rattle.checks.proofs.First.{passed-up}
-use Rattle.combination.specs.Checks.{finite-checks}
-use Rattle.krylov_job.specs.KrylovCall.{dimension, option-checks}
+use Rattle.checks.proofs.First.{passed_up}
+use Rattle.combination.specs.Checks.{finite_checks}
+use Rattle.krylov_job.specs.KrylovCall.{dimension, option_checks}
 use Rattle.schedule_checks.specs.Inner.{field_of}
-use Rattle.stage_calls.proofs.OneStage.{dimension-small, krylov-fits, krylov-runs, krylov-refused, krylov-not-admitted, krylov-is}
+use Rattle.stage_calls.proofs.OneStage.{dimension_small, krylov_fits, krylov_runs, krylov_refused, krylov_not_admitted, krylov_is}
 use Rattle.stage_calls.proofs.krylov_stage.Statement.{statement}
 use Rattle.stage_calls.proofs.krylov_stage.Tie as tie
 
@@ -19,19 +19,19 @@ use Rattle.stage_calls.proofs.krylov_stage.Tie as tie
 abbrev joined : tie.After-and-then → tie.Start
 joined t = t.before.before.before.before.before.before.before.before.before.before.before.before.before.before
 
-told : (t : tie.After-and-then) → let a = (joined t).args in t.and_then.result ≡ first (finite-checks ((field_of a.initial a.start.now a.out.now) ++ a.vectors.now) ++ option-checks a.o (dimension a.g.n (a.count - 1) a.o.m))
+told : (t : tie.After-and-then) → let a = (joined t).args in t.and_then.result ≡ first (finite_checks ((field_of a.initial a.start.now a.out.now) ++ a.vectors.now) ++ option_checks a.o (dimension a.g.n (a.count - 1) a.o.m))
 unfolding dimension
 told t =
     let a = (joined t).args in
-    t.and_then.ensures _ _ t.before.before.check-field.ensures (t.before.check-options.ensures ∙ ap (λ (m : ℕ). first (option-checks a.o m)) t.before.before.before.before.clamp-m.ensures)
+    t.and_then.ensures _ _ t.before.before.check-field.ensures (t.before.check-options.ensures ∙ ap (λ (m : ℕ). first (option_checks a.o m)) t.before.before.before.before.clamp_m.ensures)
 
 returns : tie.Need-returns
 returns c gs sound =
     let v = c.before.before.before.before in
     let s = joined v in
     let a = s.args in
-    let refusal = passed-up c.before.before.enum-told2.given.1 c.before.number.ensures c.reported.ensures in
-    krylov-refused a.mass.now s.pre.0 a.tau a.count (field_of a.initial a.start.now a.out.now) a.vectors.now a.out.now a.work.now s.pre.1.0 a.o s.pre.1.1 (told v) gs sound refusal
+    let refusal = passed_up c.before.before.enum-told2.given.1 c.before.number.ensures c.reported.ensures in
+    krylov_refused a.mass.now s.pre.0 a.tau a.count (field_of a.initial a.start.now a.out.now) a.vectors.now a.out.now a.work.now s.pre.1.0 a.o s.pre.1.1 (told v) gs sound refusal
 
 admit-run-requires : tie.Need-admit-run-requires
 unfolding dimension
@@ -39,9 +39,9 @@ admit-run-requires c κs =
     let v = c.before.before in
     let s = joined v in
     let a = s.args in
-    let small = dimension-small a.mass.now s.pre.0 a.tau a.count (field_of a.initial a.start.now a.out.now) a.vectors.now a.out.now a.work.now s.pre.1.0 a.o s.pre.1.1 (told v) c.enum_told.given.1 in
+    let small = dimension_small a.mass.now s.pre.0 a.tau a.count (field_of a.initial a.start.now a.out.now) a.vectors.now a.out.now a.work.now s.pre.1.0 a.o s.pre.1.1 (told v) c.enum_told.given.1 in
     let h = s.pre.1.0 in
-    (omega (arith, h.rest), s.pre.0.valid.few, omega (arith, h.most), rw v.before.before.before.before.clamp-m.ensures small, s.pre.0.light)
+    (omega (arith, h.rest), s.pre.0.valid.few, omega (arith, h.most), rw v.before.before.before.before.clamp_m.ensures small, s.pre.0.light)
 
 returns-2 : tie.Need-returns-2
 unfolding dimension
@@ -50,8 +50,8 @@ returns-2 c gs sound =
     let v = j.before.before.before in
     let s = joined v in
     let a = s.args in
-    let refusal = passed-up c.before.before.enum-told4.given.1 c.before.number2.ensures c.reported2.ensures in
-    krylov-not-admitted a.mass.now s.pre.0 a.tau a.count (field_of a.initial a.start.now a.out.now) a.vectors.now a.out.now a.work.now s.pre.1.0 a.o s.pre.1.1 (told v) j.before.enum_told.given.1 v.before.before.before.before.clamp-m.ensures j.admit-run.ensures gs sound refusal
+    let refusal = passed_up c.before.before.enum-told4.given.1 c.before.number2.ensures c.reported2.ensures in
+    krylov_not_admitted a.mass.now s.pre.0 a.tau a.count (field_of a.initial a.start.now a.out.now) a.vectors.now a.out.now a.work.now s.pre.1.0 a.o s.pre.1.1 (told v) j.before.enum_told.given.1 v.before.before.before.before.clamp_m.ensures j.admit-run.ensures gs sound refusal
 
 start-field-requires : tie.Need-start-field-requires
 unfolding dimension
@@ -60,7 +60,7 @@ start-field-requires c κs =
     let v = j.before.before.before in
     let s = joined v in
     let a = s.args in
-    (s.pre.1.0.fielded, krylov-fits a.mass.now s.pre.0 a.tau a.count (field_of a.initial a.start.now a.out.now) a.vectors.now a.out.now a.work.now s.pre.1.0 a.o s.pre.1.1 (told v) j.before.enum_told.given.1 v.before.before.before.before.clamp-m.ensures j.admit-run.ensures c.before.before.enum-told3.given.1)
+    (s.pre.1.0.fielded, krylov_fits a.mass.now s.pre.0 a.tau a.count (field_of a.initial a.start.now a.out.now) a.vectors.now a.out.now a.work.now s.pre.1.0 a.o s.pre.1.1 (told v) j.before.enum_told.given.1 v.before.before.before.before.clamp_m.ensures j.admit-run.ensures c.before.before.enum-told3.given.1)
 
 run-job-requires : tie.Need-run-job-requires
 unfolding dimension
@@ -70,7 +70,7 @@ run-job-requires c κs =
     let v = j.before.before.before in
     let s = joined v in
     let a = s.args in
-    krylov-runs a.mass.now s.pre.0 a.tau a.count (field_of a.initial a.start.now a.out.now) a.vectors.now a.out.now a.work.now s.pre.1.0 a.o s.pre.1.1 (told v) j.before.enum_told.given.1 v.before.before.before.before.clamp-m.ensures j.admit-run.ensures st.before.before.before.enum-told3.given.1 (ap length st.start-field.ensures ∙ length-splice _ _ a.work.now)
+    krylov_runs a.mass.now s.pre.0 a.tau a.count (field_of a.initial a.start.now a.out.now) a.vectors.now a.out.now a.work.now s.pre.1.0 a.o s.pre.1.1 (told v) j.before.enum_told.given.1 v.before.before.before.before.clamp_m.ensures j.admit-run.ensures st.before.before.before.enum-told3.given.1 (ap length st.start-field.ensures ∙ length_splice _ _ a.work.now)
 
 returns-3 : tie.Need-returns-3
 unfolding dimension
@@ -81,7 +81,7 @@ returns-3 c gs sound =
     let v = j.before.before.before in
     let s = joined v in
     let a = s.args in
-    krylov-is a.mass.now s.pre.0 a.tau a.count (field_of a.initial a.start.now a.out.now) a.vectors.now a.out.now a.work.now s.pre.1.0 a.o s.pre.1.1 (told v) j.before.enum_told.given.1 v.before.before.before.before.clamp-m.ensures j.admit-run.ensures gs sound st.before.before.before.enum-told3.given.1 st.start-field.ensures r.run-job.ensures
+    krylov_is a.mass.now s.pre.0 a.tau a.count (field_of a.initial a.start.now a.out.now) a.vectors.now a.out.now a.work.now s.pre.1.0 a.o s.pre.1.1 (told v) j.before.enum_told.given.1 v.before.before.before.before.clamp_m.ensures j.admit-run.ensures gs sound st.before.before.before.enum-told3.given.1 st.start-field.ensures r.run-job.ensures
 
 pub krylov-stage-spec : {M : Type 1} → statement M
 krylov-stage-spec =

@@ -1,6 +1,6 @@
 -- `stage_calls::stage_call` meets its contract. Assumes nothing.
 use borrow.Author.Rules.{rules}
-use Rattle.phi_solver.proofs.Dispatch.{by-taylor, by-krylov}
+use Rattle.phi_solver.proofs.Dispatch.{by_taylor, by_krylov}
 use Rattle.schedule_checks.specs.Inner.{field_of}
 use mathlib.Core.List.{◌++◌}
 use Rattle.stage_calls.proofs.stage_call.Statement.{statement}
@@ -19,12 +19,12 @@ krylov-stage-requires c κs =
 returns : tie.Need-returns
 returns c gs sound =
     let a = c.before.before.before.before.before.before.before.before.before.before.before.before.before.before.before.before.before.before.before.args in
-    by-taylor _ a.s.tau a.s.count ((field_of a.initial a.start.now a.out.now) ++ a.vectors.now) a.out.now a.work.now c.before.before.before.before.before.before.before.before.before.solver.given.1 c.of-taylor.ensures (c.before.before.before.before.before.taylor-stage.ensures gs sound)
+    by_taylor _ a.s.tau a.s.count ((field_of a.initial a.start.now a.out.now) ++ a.vectors.now) a.out.now a.work.now c.before.before.before.before.before.before.before.before.before.solver.given.1 c.of_taylor.ensures (c.before.before.before.before.before.taylor-stage.ensures gs sound)
 
 returns-2 : tie.Need-returns-2
 returns-2 c gs sound =
     let a = c.before.before.before.before.before.before.before.before.before.before.before.before.before.before.before.before.before.before.before.args in
-    by-krylov _ a.s.tau a.s.count ((field_of a.initial a.start.now a.out.now) ++ a.vectors.now) a.out.now a.work.now c.before.before.before.before.before.before.before.before.before.solver2.given.1 c.of-krylov.ensures (c.before.before.before.before.before.krylov-stage.ensures gs sound)
+    by_krylov _ a.s.tau a.s.count ((field_of a.initial a.start.now a.out.now) ++ a.vectors.now) a.out.now a.work.now c.before.before.before.before.before.before.before.before.before.solver2.given.1 c.of_krylov.ensures (c.before.before.before.before.before.krylov-stage.ensures gs sound)
 
 pub stage-call-spec : {M : Type 1} → statement M
 stage-call-spec =

@@ -7,7 +7,7 @@ use Rattle.stage_checks.proofs.stage_at.Tie as tie
 
 returns : tie.Need-returns
 unfolding stage
-returns c = rw c.before.before.solver-of.ensures refl
+returns c = rw c.before.before.solver_of.ensures refl
 
 pub stage-at-spec : {M : Type 1} → statement M
 stage-at-spec =

@@ -9,7 +9,7 @@ use lib.ListN.{replicate, set}
 use lib.Ieee.{Float}
 use Rattle.lists.specs.Window.{splice}
 use Rattle.doubles.specs.F64.{+0}
-use Rattle.start_vectors.proofs.Starts.{no-chain, chained}
+use Rattle.start_vectors.proofs.Starts.{no_chain, chained}
 use Rattle.start_vectors.proofs.combination_start.Statement.{statement}
 use Rattle.start_vectors.proofs.combination_start.Tie as tie
 
@@ -31,7 +31,7 @@ returns-2 c =
     let k = c.before.before.before in
     let f = k.before.before.before.before in
     let a = f.before.before.before.before.args in
-    k.Clear-in.ensures ∙ ap (splice a.n (replicate a.d +0)) f.copy-from.ensures ∙ no-chain a.n a.w.now a.work.now a.inv f.before.before.before.before.requires.0 a.d (omega arith)
+    k.Clear-in.ensures ∙ ap (splice a.n (replicate a.d +0)) f.copy-from.ensures ∙ no_chain a.n a.w.now a.work.now a.inv f.before.before.before.before.requires.0 a.d (omega arith)
 
 pub combination-start-spec : {M : Type 1} → statement M
 combination-start-spec =

@@ -4,9 +4,9 @@ use Prim.Native.Nat.{◌+◌, ◌-◌, ◌≤◌}
 use lib.ListN.{get_or}
 use Rattle.lists.proofs.Loop.{Filled, started, finished}
 use Rattle.general_operator.specs.Csr.{csr}
-use Rattle.general_operator.proofs.Rows.{rises, start-le, row_within}
+use Rattle.general_operator.proofs.Rows.{rises, start_le, row_within}
 use Rattle.generator_action.specs.Mass.{normalise}
-use Rattle.generator_action.proofs.Quotients.{quotient, row-filled}
+use Rattle.generator_action.proofs.Quotients.{quotient, row_filled}
 use Rattle.stored_quotients.proofs.normalise_rows.Statement.{statement}
 use Rattle.stored_quotients.proofs.normalise_rows.Tie as tie
 
@@ -39,7 +39,7 @@ loop-again : tie.Need-loop-preserved invariant-loop decreases-loop
 loop-again c =
     let l = c.before.before.before.before.before.before.before.before in
     let a = l.before.before.before.before.before.before in
-    (omega arith, row-filled a.requires.0 a.args.mass.now (omega arith) l.loop.invariant.1 c.before.before.divide-row.ensures)
+    (omega arith, row_filled a.requires.0 a.args.mass.now (omega arith) l.loop.invariant.1 c.before.before.divide-row.ensures)
 
 returns : tie.Need-returns invariant-loop decreases-loop
 unfolding normalise
@@ -47,7 +47,7 @@ returns c =
     let l = c.before.loop in
     let s = c.before.before.before.before.before.before.before in
     let v = s.requires.0 in
-    finished l.invariant.1 _ (start-le v l.i l.invariant.0) (omega (arith, v.last, rises v s.args.n l.i (omega arith) l.invariant.0))
+    finished l.invariant.1 _ (start_le v l.i l.invariant.0) (omega (arith, v.last, rises v s.args.n l.i (omega arith) l.invariant.0))
 
 pub normalise-rows-spec : {M : Type 1} → statement M
 normalise-rows-spec =

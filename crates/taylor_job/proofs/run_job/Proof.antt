@@ -1,7 +1,7 @@
 -- `taylor_job::run_job` meets its contract. Assumes nothing.
 use borrow.Author.Rules.{rules}
 use native.Mathlib.Omega.{arith}
-use Rattle.taylor_job.proofs.Jobs.{ready, lined, bounded, still-enough, done}
+use Rattle.taylor_job.proofs.Jobs.{ready, lined, bounded, still_enough, done}
 use Rattle.taylor_job.proofs.run_job.Statement.{statement}
 use Rattle.taylor_job.proofs.run_job.Tie as tie
 
@@ -12,14 +12,14 @@ swept-out-requires c κs =
     let s = l.before.before.before.before.before.before.before.before.before in
     let el = l.layout.ensures in
     let e = k.prepare.ensures in
-    (ready s.requires.0 el e.1 s.args.vectors.now s.requires.1.0, (lined s.requires.0 el, (bounded s.requires.0 _ e.0).m-most, rw el (omega (arith, s.requires.1.1))))
+    (ready s.requires.0 el e.1 s.args.vectors.now s.requires.1.0, (lined s.requires.0 el, (bounded s.requires.0 _ e.0).m_most, rw el (omega (arith, s.requires.1.1))))
 
 finish-requires : tie.Need-finish-requires
 finish-requires c κs =
     let r = c.before.before.before.before.before in
     let k = r.before.before.before.before.before in
     let l = k.before.before.before in
-    still-enough l.before.before.before.before.before.before.before.before.before.requires.0 l.layout.ensures k.prepare.ensures.1 r.swept-out.ensures.1.1
+    still_enough l.before.before.before.before.before.before.before.before.before.requires.0 l.layout.ensures k.prepare.ensures.1 r.swept-out.ensures.1.1
 
 returns : tie.Need-returns
 returns c =

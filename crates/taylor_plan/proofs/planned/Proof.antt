@@ -2,9 +2,9 @@
 use borrow.Author.Rules.{rules}
 use mathlib.Core.Path.{ap, ◌∙◌}
 use lib.ListN.{length}
-use Rattle.lists.proofs.Window.{length-splice}
-use Rattle.checks.proofs.First.{passed-up}
-use Rattle.taylor_plan.proofs.Plans.{admitted-known, refused-is, planned-is}
+use Rattle.lists.proofs.Window.{length_splice}
+use Rattle.checks.proofs.First.{passed_up}
+use Rattle.taylor_plan.proofs.Plans.{admitted_known, refused_is, planned_is}
 use Rattle.taylor_plan.proofs.planned.Statement.{statement}
 use Rattle.taylor_plan.proofs.planned.Tie as tie
 
@@ -12,22 +12,22 @@ returns : tie.Need-returns
 returns c gs sound =
     let r = c.before.before.before.before in
     let s = r.before.before.before.before.before.before in
-    let refusal = passed-up c.before.before.enum-told2.given.1 c.before.number.ensures c.reported.ensures in
-    refused-is s.args.mass.now s.requires s.args.work.now gs sound s.args.tau s.args.cap r.admit-plan.ensures refusal
+    let refusal = passed_up c.before.before.enum-told2.given.1 c.before.number.ensures c.reported.ensures in
+    refused_is s.args.mass.now s.requires s.args.work.now gs sound s.args.tau s.args.cap r.admit-plan.ensures refusal
 
 from-row-requires : tie.Need-from-row-requires
 from-row-requires c κs =
     let r = c.before.before.before in
     let s = r.before.before.before.before.before.before in
-    (s.requires, (admitted-known s.args.g s.args.tau s.args.cap _ r.admit-plan.ensures c.before.enum_told.given.1).room)
+    (s.requires, (admitted_known s.args.g s.args.tau s.args.cap _ r.admit-plan.ensures c.before.enum_told.given.1).room)
 
 finish-requires : tie.Need-finish-requires
 finish-requires c κs =
     let f = c.before.before.before.before in
     let r = f.before.before.before.before in
     let s = r.before.before.before.before.before.before in
-    let room = (admitted-known s.args.g s.args.tau s.args.cap _ r.admit-plan.ensures f.before.before.enum_told.given.1).room in
-    rw (ap length f.from_row.ensures.1 ∙ length-splice 0 _ s.args.work.now) room
+    let room = (admitted_known s.args.g s.args.tau s.args.cap _ r.admit-plan.ensures f.before.before.enum_told.given.1).room in
+    rw (ap length f.from_row.ensures.1 ∙ length_splice 0 _ s.args.work.now) room
 
 returns-2 : tie.Need-returns-2
 returns-2 c gs sound =
@@ -35,7 +35,7 @@ returns-2 c gs sound =
     let f = d.before.before.before.before.before in
     let r = f.before.before.before.before in
     let s = r.before.before.before.before.before.before in
-    planned-is s.args.mass.now s.requires s.args.work.now gs sound s.args.tau s.args.cap r.admit-plan.ensures f.before.before.enum_told.given.1 f.from_row.ensures.0 d.before.before.cost.ensures f.from_row.ensures.1 d.finish.ensures.0 d.finish.ensures.1
+    planned_is s.args.mass.now s.requires s.args.work.now gs sound s.args.tau s.args.cap r.admit-plan.ensures f.before.before.enum_told.given.1 f.from_row.ensures.0 d.before.before.cost.ensures f.from_row.ensures.1 d.finish.ensures.0 d.finish.ensures.1
 
 pub planned-spec : {M : Type 1} → statement M
 planned-spec =

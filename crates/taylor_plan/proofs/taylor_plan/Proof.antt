@@ -2,10 +2,10 @@
 use borrow.Author.Rules.{rules}
 use mathlib.Core.Path.{refl}
 use Rattle.general_operator.specs.Csr.{csr}
-use Rattle.generator_action.specs.Mass.{given, generator-checks}
+use Rattle.generator_action.specs.Mass.{given, generator_checks}
 use Rattle.generator_action.specs.Generator.{forward}
-use Rattle.generator_action.proofs.Answered.{passed-up, refusal-told, norm-told, passed}
-use Rattle.taylor_plan.proofs.Plans.{generator-refused}
+use Rattle.generator_action.proofs.Answered.{passed_up, refusal_told, norm_told, passed}
+use Rattle.taylor_plan.proofs.Plans.{generator_refused}
 use Rattle.taylor_plan.proofs.taylor_plan.Statement.{statement}
 use Rattle.taylor_plan.proofs.taylor_plan.Tie as tie
 
@@ -15,15 +15,15 @@ returns c =
     let a = m.before.before.before.before.before.before.args in
     let matrix = csr a.n a.starts.now a.cols.now a.vals.now in
     let mass = given a.with-mass a.mass.now in
-    let refusal = passed-up c.before.before.enum_told.given.1 c.before.number.ensures c.value.ensures in
-    generator-refused (forward matrix mass) a.tau a.cap a.work.now (refusal-told matrix mass m.check-generator.ensures refusal)
+    let refusal = passed_up c.before.before.enum_told.given.1 c.before.number.ensures c.value.ensures in
+    generator_refused (forward matrix mass) a.tau a.cap a.work.now (refusal_told matrix mass m.check-generator.ensures refusal)
 
 planned-requires : tie.Need-planned-requires
 planned-requires c κs =
     let g = c.before in
     let m = g.before.before.before.before in
     let a = m.before.before.before.before.before.before.args in
-    let told = norm-told (csr a.n a.starts.now a.cols.now a.vals.now) (given a.with-mass a.mass.now) m.check-generator.ensures g.before.before.matrix.given.1 in
+    let told = norm_told (csr a.n a.starts.now a.cols.now a.vals.now) (given a.with-mass a.mass.now) m.check-generator.ensures g.before.before.matrix.given.1 in
     rw (g.generator-shape.ensures a.starts.now a.cols.now a.vals.now a.mass.now refl) (passed _ a.with-mass a.mass.now told)
 
 returns-2 : tie.Need-returns-2
@@ -32,8 +32,8 @@ returns-2 c =
     let g = r.before.before in
     let m = g.before.before.before.before in
     let a = m.before.before.before.before.before.before.args in
-    let told = norm-told (csr a.n a.starts.now a.cols.now a.vals.now) (given a.with-mass a.mass.now) m.check-generator.ensures g.before.before.matrix.given.1 in
-    rw (g.generator-shape.ensures a.starts.now a.cols.now a.vals.now a.mass.now refl) at (r.planned.ensures (generator-checks (csr a.n a.starts.now a.cols.now a.vals.now) (given a.with-mass a.mass.now)) told.sound)
+    let told = norm_told (csr a.n a.starts.now a.cols.now a.vals.now) (given a.with-mass a.mass.now) m.check-generator.ensures g.before.before.matrix.given.1 in
+    rw (g.generator-shape.ensures a.starts.now a.cols.now a.vals.now a.mass.now refl) at (r.planned.ensures (generator_checks (csr a.n a.starts.now a.cols.now a.vals.now) (given a.with-mass a.mass.now)) told.sound)
 
 pub taylor-plan-spec : {M : Type 1} → statement M
 taylor-plan-spec =

@@ -8,7 +8,7 @@ use Rattle.taylor_schedule.proofs.plan_job.Tie as tie
 returns : tie.Need-returns
 returns c xs e =
     let s = c.before.before.before.before.check-schedule.ensures in
-    let need = c.before.before.before.taylor-need.ensures in
+    let need = c.before.before.before.taylor_need.ensures in
     let host = c.before.and_then.ensures _ _ (ap (λ (x : Schedule). x.checked) s) c.before.before.check-memory.ensures in
     rw (c.and-then2.ensures xs _ e host, s, need) refl
 

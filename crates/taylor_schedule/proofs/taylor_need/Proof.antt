@@ -1,11 +1,11 @@
 -- `taylor_schedule::taylor_need` meets its contract. Assumes nothing.
 use borrow.Author.Rules.{rules}
-use Rattle.combination.specs.Checks.{taylor-need}
+use Rattle.combination.specs.Checks.{taylor_need}
 use Rattle.taylor_schedule.proofs.taylor_need.Statement.{statement}
 use Rattle.taylor_schedule.proofs.taylor_need.Tie as tie
 
 returns : tie.Need-returns
-unfolding taylor-need
+unfolding taylor_need
 returns c = search rules
 
 pub taylor-need-spec : {M : Type 1} → statement M

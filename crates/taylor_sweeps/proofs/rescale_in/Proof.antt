@@ -3,7 +3,7 @@ use native.Mathlib.Omega.{arith}
 use mathlib.Core.Path.{sym}
 use borrow.Author.Rules.{rules}
 use lib.Ieee.{ne}
-use Rattle.lists.proofs.Window.{part-back, splice-window}
+use Rattle.lists.proofs.Window.{part_back, splice_window}
 use Rattle.vectors.specs.Vectors.{scale}
 use Rattle.taylor_sweeps.proofs.rescale_in.Statement.{statement}
 use Rattle.taylor_sweeps.proofs.rescale_in.Tie as tie
@@ -13,11 +13,11 @@ unfolding ne
 returns c =
     let a = c.before.before.before.before.before.before.before.args in
     rw c.before.before.before.before.if1.true
-    (part-back a.y a.len (scale a.f) _ a.work.now (omega arith) c.before.before.scale.auto.0 c.before.before.scale.ensures)
+    (part_back a.y a.len (scale a.f) _ a.work.now (omega arith) c.before.before.scale.auto.0 c.before.before.scale.ensures)
 
 returns-2 : tie.Need-returns-2
 unfolding ne
-returns-2 c = rw c.if1.false (sym (splice-window _ _ _))
+returns-2 c = rw c.if1.false (sym (splice_window _ _ _))
 
 pub rescale-in-spec : {M : Type 1} → statement M
 rescale-in-spec =

@@ -2,7 +2,7 @@
 use native.Mathlib.Omega.{arith}
 use Prim.Native.Nat.{◌-◌, ◌≤◌}
 use mathlib.Core.Path.{◌≡◌}
-use Rattle.phi_action_helpers.proofs.Sweeps.{State, began, turn, state-counted, ready-kept}
+use Rattle.phi_action_helpers.proofs.Sweeps.{State, began, turn, state_counted, ready_kept}
 use Rattle.taylor_sweeps.proofs.terms.Statement.{statement}
 use Rattle.taylor_sweeps.proofs.terms.Tie as tie
 
@@ -19,11 +19,11 @@ horner-step-requires : tie.Need-horner-step-requires invariant-loop decreases-lo
 horner-step-requires c κs =
     let s = c.before.before in
     let start = s.before.before.before.before.before.before in
-    (ready-kept _ _ _ start.args.vectors.now s.loop.invariant.1.kept start.requires.0, (start.requires.1, c.before.loop-test.true, omega (arith, state-counted s.loop.invariant.1)))
+    (ready_kept _ _ _ start.args.vectors.now s.loop.invariant.1.kept start.requires.0, (start.requires.1, c.before.loop-test.true, omega (arith, state_counted s.loop.invariant.1)))
 
 loop-again : tie.Need-loop-preserved invariant-loop decreases-loop
 loop-again c =
-    let h = c.before.before.horner-step in
+    let h = c.before.before.horner_step in
     (omega arith, turn c.before.before.before.before.before.loop.invariant.1 h.ensures.0 h.ensures.1)
 
 returns : tie.Need-returns invariant-loop decreases-loop

@@ -10,7 +10,7 @@ returns c =
     let m = c.before.before in
     let start = m.before.before.before.before.before.before.before.before.before.before.before in
     let a = start.args in
-    term_made a.x.l a.x.b _ _ _ _ a.x.tau a.x.p a.k a.applied _ a.work.now _ _ start.requires.1.0 start.requires.0.av-in m.before.before.scales-of.ensures refl m.term_in.ensures
+    term_made a.x.l a.x.b _ _ _ _ a.x.tau a.x.p a.k a.applied _ a.work.now _ _ start.requires.1.0 start.requires.0.av_in m.before.before.scales-of.ensures refl m.term_in.ensures
 
 pub horner-step-spec : {M : Type 1} → statement M
 horner-step-spec =

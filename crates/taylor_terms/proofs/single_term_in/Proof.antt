@@ -3,10 +3,10 @@ use borrow.Author.Rules.{rules}
 use native.Mathlib.Omega.{arith}
 use lib.ListN.{length-take, length-drop}
 use Rattle.lists.proofs.Bounds.{part_apart}
-use Rattle.lists.proofs.Window.{part-window}
-use Rattle.csr_matvec.proofs.Values.{not-scaled}
-use Rattle.phi_action_helpers.specs.Laid.{operator-at}
-use Rattle.phi_action_helpers.proofs.SingleTerm.{single-term}
+use Rattle.lists.proofs.Window.{part_window}
+use Rattle.csr_matvec.proofs.Values.{not_scaled}
+use Rattle.phi_action_helpers.specs.Laid.{operator_at}
+use Rattle.phi_action_helpers.proofs.SingleTerm.{single_term}
 use Rattle.taylor_terms.proofs.single_term_in.Statement.{statement}
 use Rattle.taylor_terms.proofs.single_term_in.Tie as tie
 
@@ -25,7 +25,7 @@ term-rows-in-requires c κs =
 
 add-in-requires : tie.Need-add-in-requires
 add-in-requires c κs =
-    let first = c.before.before.before.before.before.before.before.before.before.before.before.before.before.before.before.before.before.before.before.before.before.before.before.requires.1.0.field-first in
+    let first = c.before.before.before.before.before.before.before.before.before.before.before.before.before.before.before.before.before.before.before.before.before.before.before.requires.1.0.field_first in
     ((omega arith, omega arith), (λ h. omega (arith, first)))
 
 returns : tie.Need-returns
@@ -33,9 +33,9 @@ returns c =
     let start = c.before.before.before.before.before.before.before.before.before.before.before.before.before.before.before.before.before.before.before.before.before.before.before.before.before.before in
     let a = start.args in
     let p = start.requires in
-    single-term (operator-at a.l a.t7 a.starts.now a.cols.now a.vals.now a.vectors.now a.work.now) a.k a.l.w a.l.av _ a.work.now _ _ _ _ p.1.0.field-first p.1.0.then-term p.0.av-in p.1.1
-    (rw not-scaled at c.before.before.before.before.before.before.before.before.before.before.before.before.before.before.before.before.before.apply-generator.ensures)
-    (rw part-window at c.before.before.before.before.before.before.before.before.before.before.before.before.scalars.ensures)
+    single_term (operator_at a.l a.t7 a.starts.now a.cols.now a.vals.now a.vectors.now a.work.now) a.k a.l.w a.l.av _ a.work.now _ _ _ _ p.1.0.field_first p.1.0.then_term p.0.av_in p.1.1
+    (rw not_scaled at c.before.before.before.before.before.before.before.before.before.before.before.before.before.before.before.before.before.apply_generator.ensures)
+    (rw part_window at c.before.before.before.before.before.before.before.before.before.before.before.before.scalars.ensures)
     c.before.before.before.before.before.before.before.before.before.before.term-rows-in.ensures
     c.before.before.before.before.before.before.chain-in.ensures
     c.before.before.add-in.ensures

@@ -11,7 +11,7 @@ returns : tie.Need-returns
 returns c = c.before.before.single-term-in.ensures
 
 returns-2 : tie.Need-returns-2
-returns-2 c = rw c.before.before.before.before.before.before.before.aug-matvec.ensures at c.before.before.add-in.ensures
+returns-2 c = rw c.before.before.before.before.before.before.before.aug_matvec.ensures at c.before.before.add-in.ensures
 
 pub term-in-spec : {M : Type 1} → statement M
 term-in-spec =

@@ -7,19 +7,19 @@ use lib.ListN.{length, length-set}
 use Rattle.lists.specs.Loop.{tabulate}
 use Rattle.lists.specs.Window.{splice}
 use Rattle.doubles.specs.F64.{◌⊕◌, ◌⊗◌, at}
-use Rattle.phi_action_helpers.specs.Augmented.{generator-term}
-use Rattle.phi_action_helpers.proofs.SingleTerm.{unread, unread-front, both-turn, both-started}
+use Rattle.phi_action_helpers.specs.Augmented.{generator_term}
+use Rattle.phi_action_helpers.proofs.SingleTerm.{unread, unread_front, both_turn, both_started}
 use Rattle.taylor_terms.proofs.term_rows_in.Statement.{statement}
 use Rattle.taylor_terms.proofs.term_rows_in.Tie as tie
 
 abbrev invariant-loop : tie.invariant-loop
-invariant-loop k vectors p s work₀ w av n i₀ work i = (i ≤ n) × (length work ≡ length work₀) × (work ≡ splice 0 (tabulate i (λ m. at work₀ m ⊕ (generator-term k (at work₀ (av + m)) (at work₀ (w + m)) ⊕ s ⊗ at vectors (p + m)))) (splice w (tabulate i (λ m. generator-term k (at work₀ (av + m)) (at work₀ (w + m)) ⊕ s ⊗ at vectors (p + m))) work₀))
+invariant-loop k vectors p s work₀ w av n i₀ work i = (i ≤ n) × (length work ≡ length work₀) × (work ≡ splice 0 (tabulate i (λ m. at work₀ m ⊕ (generator_term k (at work₀ (av + m)) (at work₀ (w + m)) ⊕ s ⊗ at vectors (p + m)))) (splice w (tabulate i (λ m. generator_term k (at work₀ (av + m)) (at work₀ (w + m)) ⊕ s ⊗ at vectors (p + m))) work₀))
 
 abbrev decreases-loop : tie.decreases-loop
 decreases-loop k vectors p s work₀ w av n i₀ work i = n - i
 
 loop-holds : tie.Need-loop-init invariant-loop decreases-loop
-loop-holds c = (omega arith, refl, both-started _ _ _ _)
+loop-holds c = (omega arith, refl, both_started _ _ _ _)
 
 slice-write-work-2 : tie.Need-slice-write-work-2 invariant-loop decreases-loop
 slice-write-work-2 c = simp length-set (omega (arith, c.before.before.before.before.before.before.loop.invariant.1))
@@ -31,10 +31,10 @@ loop-again c =
     let i = s.i in
     let there = unread a.w i _ _ a.work.now s.invariant.2 (a.av + i) (omega arith) (omega arith) in
     let here = unread a.w i _ _ a.work.now s.invariant.2 (a.w + i) (omega arith) (omega arith) in
-    let field = unread-front a.w i _ _ a.work.now s.invariant.2 i (omega arith) (omega arith) in
-    let made : c.before.before.generator-term.result ≡ generator-term a.k (at a.work.now (a.av + i)) (at a.work.now (a.w + i)) = c.before.before.generator-term.ensures ∙ rw (there, here) in
+    let field = unread_front a.w i _ _ a.work.now s.invariant.2 i (omega arith) (omega arith) in
+    let made : c.before.before.generator_term.result ≡ generator_term a.k (at a.work.now (a.av + i)) (at a.work.now (a.w + i)) = c.before.before.generator_term.ensures ∙ rw (there, here) in
     let term = ap (λ x. x ⊕ a.s ⊗ at a.vectors.now (a.p + i)) made in
-    (omega arith, simp length-set s.invariant.1, both-turn a.w i _ _ a.work.now s.invariant.2 _ _ term (λ j. field j ⊕ term j))
+    (omega arith, simp length-set s.invariant.1, both_turn a.w i _ _ a.work.now s.invariant.2 _ _ term (λ j. field j ⊕ term j))
 
 returns : tie.Need-returns invariant-loop decreases-loop
 returns c =

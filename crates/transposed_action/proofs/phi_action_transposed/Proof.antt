@@ -3,14 +3,14 @@ use borrow.Author.Rules.{rules}
 use mathlib.Core.Path.{sym}
 use native.Mathlib.Omega.{arith}
 use lib.Seq.{length-take-le}
-use Rattle.taylor_job.specs.Calls.{phi-action}
-use Rattle.phi_combination.proofs.Calls.{action-refused}
+use Rattle.taylor_job.specs.Calls.{phi_action}
+use Rattle.phi_combination.proofs.Calls.{action_refused}
 use Rattle.general_operator.specs.Csr.{Csr, csr}
 use Rattle.generator_action.specs.Mass.{Mass, given}
 use Rattle.generator_action.specs.Generator.{Generator}
 use Rattle.transpose.specs.Transpose.{Buffers, buffers, lengths, transposed}
-use Rattle.transposed.specs.Transposed.{phi-action-transposed}
-use Rattle.transposed.proofs.Fronts.{over-refusal, Handed, handed, rows_few, starts_fit, columns-fit, values-fit, front-passed, over-fronts}
+use Rattle.transposed.specs.Transposed.{phi_action_transposed}
+use Rattle.transposed.proofs.Fronts.{over_refusal, Handed, handed, rows_few, starts_fit, columns_fit, values_fit, front_passed, over_fronts}
 use Rattle.transposed_action.proofs.phi_action_transposed.Statement.{statement}
 use Rattle.transposed_action.proofs.phi_action_transposed.Tie as tie
 
@@ -25,19 +25,19 @@ abbrev b : tie.Start → Buffers
 b s = buffers s.args.t-starts.now s.args.t-cols.now s.args.t-vals.now
 
 returns : tie.Need-returns
-unfolding phi-action-transposed
+unfolding phi_action_transposed
 returns c =
     let s = c.before.before.before.before.before.before.before.before.before.before.before.before.before.before.before.before.before.before.before.before.before.before.before in
     let g = transposed (a s) (m s) (lengths (b s)) in
     let x = s.args in
-    over-refusal (a s) (m s) (b s) c.before.before.before.before.before.before.before.before.before.transposed-shape.ensures c.before.shape.given.1 (λ e. action-refused g x.tau x.cap x.out.now x.work.now e x.k x.v.now)
+    over_refusal (a s) (m s) (b s) c.before.before.before.before.before.before.before.before.before.transposed_shape.ensures c.before.shape.given.1 (λ e. action_refused g x.tau x.cap x.out.now x.work.now e x.k x.v.now)
 
 -- where the checks passed: the entry, and what is known
 abbrev entered : tie.After-known-told2 → tie.Start
 entered t = t.before.before.before.before.before.before.before.before.before.before.before.before.before.before.before.before.before.before.before.before.before.before.before
 
-known : (t : tie.After-known-told2) → Handed (a (entered t)) (m (entered t)) (b (entered t)) t.before.before.before.before.before.before.before.before.before.transposed-shape.new.1.1.1.1.1.1.0 t.before.before.before.before.before.before.before.before.before.transposed-shape.new.1.1.1.1.1.1.1.0 t.before.before.before.before.before.before.before.before.before.transposed-shape.new.1.1.1.1.1.1.1.1.0 t.before.shape2.given.0.0
-known t = handed (a (entered t)) (m (entered t)) (b (entered t)) t.before.before.before.before.before.before.before.before.before.transposed-shape.ensures t.before.shape2.given.1
+known : (t : tie.After-known-told2) → Handed (a (entered t)) (m (entered t)) (b (entered t)) t.before.before.before.before.before.before.before.before.before.transposed_shape.new.1.1.1.1.1.1.0 t.before.before.before.before.before.before.before.before.before.transposed_shape.new.1.1.1.1.1.1.1.0 t.before.before.before.before.before.before.before.before.before.transposed_shape.new.1.1.1.1.1.1.1.1.0 t.before.shape2.given.0.0
+known t = handed (a (entered t)) (m (entered t)) (b (entered t)) t.before.before.before.before.before.before.before.before.before.transposed_shape.ensures t.before.shape2.given.1
 
 rows : tie.Need-overflow-add-q-rows
 rows c = omega (arith, rows_few (known c))
@@ -48,27 +48,27 @@ starts-part c = starts_fit (known c)
 starts-long : tie.Need-slice-aggregate-q-rows
 starts-long c = sym (length-take-le _ _ (starts_fit (known c.before)))
 
-columns-part : tie.Need-slice-reshare-prefix-q-cols
-columns-part c = columns-fit (known c.before)
+columns_part : tie.Need-slice-reshare-prefix-q-cols
+columns_part c = columns_fit (known c.before)
 
-columns-long : tie.Need-slice-aggregate-q-cols
-columns-long c = sym (length-take-le _ _ (columns-fit (known c.before.before)))
+columns_long : tie.Need-slice-aggregate-q-cols
+columns_long c = sym (length-take-le _ _ (columns_fit (known c.before.before)))
 
 values-part : tie.Need-slice-reshare-prefix-q-vals
-values-part c = values-fit (known c.before.before)
+values-part c = values_fit (known c.before.before)
 
-values-long : tie.Need-slice-aggregate-q-vals
-values-long c = sym (length-take-le _ _ (values-fit (known c.before.before.before)))
+values_long : tie.Need-slice-aggregate-q-vals
+values_long c = sym (length-take-le _ _ (values_fit (known c.before.before.before)))
 
 acted-requires : tie.Need-acted-requires
-acted-requires c κs = front-passed (known c.before.before.before.before.before.before) _
+acted-requires c κs = front_passed (known c.before.before.before.before.before.before) _
 
 returns-2 : tie.Need-returns-2
-unfolding phi-action-transposed
+unfolding phi_action_transposed
 returns-2 c =
     let t = c.before.before.before.before.before.before.before.before.before.before.before in
     let x = (entered t).args in
-    over-fronts (known t) (λ (g : Generator). phi-action g x.tau x.cap x.k x.v.now x.out.now x.work.now) _ (c.before.before.before.before.acted.ensures _ (known t).sound)
+    over_fronts (known t) (λ (g : Generator). phi_action g x.tau x.cap x.k x.v.now x.out.now x.work.now) _ (c.before.before.before.before.acted.ensures _ (known t).sound)
 
 pub phi-action-transposed-spec : {M : Type 1} → statement M
 phi-action-transposed-spec =
@@ -80,10 +80,10 @@ phi-action-transposed-spec =
     rows
     starts-part
     starts-long
-    columns-part
-    columns-long
+    columns_part
+    columns_long
     values-part
-    values-long
+    values_long
     (λ c. search rules)
     acted-requires
     (λ c. search rules)

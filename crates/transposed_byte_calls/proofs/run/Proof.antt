@@ -5,7 +5,7 @@ use Rattle.general_operator.specs.Csr.{csr}
 use Rattle.generator_action.specs.Mass.{given}
 use Rattle.transpose.specs.Transpose.{buffers}
 use Rattle.transposed_byte_calls.specs.Replies.{lent}
-use Rattle.transposed_byte_calls.specs.Inner.{called-transposed}
+use Rattle.transposed_byte_calls.specs.Inner.{called_transposed}
 use Rattle.transposed_byte_calls.proofs.Reply.{packing}
 use Rattle.transposed_byte_calls.proofs.run.Statement.{statement}
 use Rattle.transposed_byte_calls.proofs.run.Tie as tie
@@ -29,7 +29,7 @@ returns : tie.Need-returns
 returns c =
     let a = c.before.before.before.before.before.before.before.before.before.before.before.before.before.before.before.before.before.before.before.before.before.before.before.before.before.before.before.before.before.before.before.before.before.before.before.before.before.before.before.before.before.before.before.before.before.before.before.before.before.before.before.before.before.before.before.before.args in
     packing _ _ _ _ _ _ a.out.now a.work.now (lent a.t-starts.now a.t-cols.now a.t-vals.now)
-    (called-transposed a.call (csr a.n a.starts.now a.cols.now a.vals.now) (given a.with-mass a.mass.now) (buffers a.starts-array.now a.cols-array.now a.vals-array.now) a.tau a.k a.v.now a.out-array.now a.work-array.now)
+    (called_transposed a.call (csr a.n a.starts.now a.cols.now a.vals.now) (given a.with-mass a.mass.now) (buffers a.starts-array.now a.cols-array.now a.vals-array.now) a.tau a.k a.v.now a.out-array.now a.work-array.now)
     c.before.before.before.before.before.before.before.before.before.before.before.before.before.before.before.before.before.before.before.before.before.before.before.before.before.before.before.before.before.before.before.before.before.before.before.solve.ensures c.before.before.before.before.before.before.before.pack-doubles2.ensures c.before.before.pack-doubles3.ensures c.before.before.before.before.before.before.before.before.before.before.before.before.before.before.before.before.before.before.before.before.before.before.pack-numbers.ensures c.before.before.before.before.before.before.before.before.before.before.before.before.before.before.before.before.before.pack-numbers2.ensures c.before.before.before.before.before.before.before.before.before.before.before.before.pack-doubles.ensures
 
 pub run_spec : {M : Type 1} → statement M

@@ -5,11 +5,11 @@ use mathlib.Core.Path.{ap}
 use Rattle.general_operator.specs.Csr.{csr}
 use Rattle.generator_action.specs.Mass.{given}
 use Rattle.transpose.specs.Transpose.{buffers}
-use Rattle.answers.specs.Told.{matrix-numbers}
-use Rattle.transposed_told.proofs.Telling.{matrix-told-of}
+use Rattle.answers.specs.Told.{matrix_numbers}
+use Rattle.transposed_told.proofs.Telling.{matrix_told_of}
 use Rattle.transposed_byte_calls.specs.Replies.{lent}
-use Rattle.transposed_byte_calls.specs.Inner.{checked-transposed}
-use Rattle.transposed_byte_calls.proofs.Reply.{packing-matrix}
+use Rattle.transposed_byte_calls.specs.Inner.{checked_transposed}
+use Rattle.transposed_byte_calls.proofs.Reply.{packing_matrix}
 use Rattle.transposed_byte_calls.proofs.run_check.Statement.{statement}
 use Rattle.transposed_byte_calls.proofs.run_check.Tie as tie
 
@@ -23,12 +23,12 @@ pack-doubles-requires : tie.Need-pack-doubles-requires
 pack-doubles-requires c κs = omega (arith, c.before.before.before.before.before.before.before.before.before.before.before.before.before.before.before.before.before.before.before.before.before.before.before.before.before.before.before.before.before.before.before.before.requires.2, c.before.before.before.before.before.before.before.before.before.before.before.before.before.before.before.before.before.before.check-transposed.auto.1.1.1.1.1.1.1.1.0)
 
 returns : tie.Need-returns
-unfolding checked-transposed
+unfolding checked_transposed
 returns c =
     let a = c.before.before.before.before.before.before.before.before.before.before.before.before.before.before.before.before.before.before.before.before.before.before.before.before.before.before.before.before.before.before.before.before.before.before.before.args in
-    packing-matrix (matrix-numbers c.before.before.before.before.before.before.before.before.before.before.before.before.before.before.before.before.before.before.before.before.before.check-transposed.result) _ _ _ (lent a.t-starts.now a.t-cols.now a.t-vals.now)
-    (checked-transposed (csr a.n a.starts.now a.cols.now a.vals.now) (given a.with-mass a.mass.now) (buffers a.starts-array.now a.cols-array.now a.vals-array.now))
-    (matrix-told-of (ap matrix-numbers c.before.before.before.before.before.before.before.before.before.before.before.before.before.before.before.before.before.before.before.before.before.check-transposed.ensures.0) c.before.before.before.before.before.before.before.before.before.before.before.before.before.before.before.before.before.before.before.before.before.check-transposed.ensures.1) c.before.before.before.before.before.before.before.before.before.before.before.before.pack-numbers.ensures c.before.before.before.before.before.before.before.pack-numbers2.ensures c.before.before.pack-doubles.ensures
+    packing_matrix (matrix_numbers c.before.before.before.before.before.before.before.before.before.before.before.before.before.before.before.before.before.before.before.before.before.check-transposed.result) _ _ _ (lent a.t-starts.now a.t-cols.now a.t-vals.now)
+    (checked_transposed (csr a.n a.starts.now a.cols.now a.vals.now) (given a.with-mass a.mass.now) (buffers a.starts-array.now a.cols-array.now a.vals-array.now))
+    (matrix_told_of (ap matrix_numbers c.before.before.before.before.before.before.before.before.before.before.before.before.before.before.before.before.before.before.before.before.before.check-transposed.ensures.0) c.before.before.before.before.before.before.before.before.before.before.before.before.before.before.before.before.before.before.before.before.before.check-transposed.ensures.1) c.before.before.before.before.before.before.before.before.before.before.before.before.pack-numbers.ensures c.before.before.before.before.before.before.before.pack-numbers2.ensures c.before.before.pack-doubles.ensures
 
 pub run-check-spec : {M : Type 1} → statement M
 run-check-spec =

@@ -5,8 +5,8 @@ use Rattle.general_operator.specs.Csr.{Csr, csr}
 use Rattle.generator_action.specs.Mass.{Mass, given}
 use Rattle.generator_action.specs.declared.Shape.{Shape}
 use Rattle.transpose.specs.Transpose.{Buffers, buffers, lengths}
-use Rattle.transpose.proofs.Passed.{transposed-refusal-told, transposed-norm-told}
-use Rattle.transposed_shape.proofs.Answers.{refused-shape, passed-shape}
+use Rattle.transpose.proofs.Passed.{transposed_refusal_told, transposed_norm_told}
+use Rattle.transposed_shape.proofs.Answers.{refused_shape, passed_shape}
 use Rattle.transposed_shape.proofs.transposed_shape.Statement.{statement}
 use Rattle.transposed_shape.proofs.transposed_shape.Tie as tie
 
@@ -24,15 +24,15 @@ returns : tie.Need-returns
 returns c =
     let s = c.before.before.before.before.before.before.before.before.before.before.before.before.before.before.before.before.before.before.before.before in
     let checked = c.before.before.before.before.before.before.before.before.before.check-transposed.ensures in
-    (refused-shape (a s) (m s) (transposed-refusal-told (a s) (m s) (lengths (b s)) checked.0 c.before.matrix.given.1), checked.1)
+    (refused_shape (a s) (m s) (transposed_refusal_told (a s) (m s) (lengths (b s)) checked.0 c.before.matrix.given.1), checked.1)
 
 returns-2 : tie.Need-returns-2
 returns-2 c =
     let s = c.before.before.before.before.before.before.before.before.before.before.before.before.before.before.before.before.before.before.before.before.before in
     let checked = c.before.before.before.before.before.before.before.before.before.before.check-transposed.ensures in
-    let told = transposed-norm-told (a s) (m s) (lengths (b s)) checked.0 c.before.before.matrix2.given.1 in
+    let told = transposed_norm_told (a s) (m s) (lengths (b s)) checked.0 c.before.before.matrix2.given.1 in
     let forward = c.generator-shape.ensures (a s).starts (a s).columns (a s).entries s.args.mass.now refl in
-    (passed-shape (a s) (m s) told.0 (ap (λ (g : Shape). g.stored) forward) told.1, checked.1)
+    (passed_shape (a s) (m s) told.0 (ap (λ (g : Shape). g.stored) forward) told.1, checked.1)
 
 pub transposed-shape-spec : {M : Type 1} → statement M
 transposed-shape-spec =

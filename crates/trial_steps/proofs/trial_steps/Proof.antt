@@ -9,8 +9,8 @@ use lib.ListN.{length}
 use lib.Ieee.{Float}
 use Rattle.hess_rows.specs.Parts.{Leading}
 use Rattle.gram_schmidt.specs.Memory.{Counted}
-use Rattle.trial_steps.specs.Memory.{Modest, columns-in}
-use Rattle.trial_steps.proofs.Tries.{on-breakdown, on-full}
+use Rattle.trial_steps.specs.Memory.{Modest, columns_in}
+use Rattle.trial_steps.proofs.Tries.{on_breakdown, on_full}
 use Rattle.trial_steps.proofs.trial_steps.Statement.{statement}
 use Rattle.trial_steps.proofs.trial_steps.Tie as tie
 
@@ -26,14 +26,14 @@ exact-step-requires c κs =
 returns : tie.Need-returns
 returns c =
     let e = c.before.before.before.basis.given.1 in
-    let g = c.exact-step.ensures in
-    ((λ l b q vectors work s. on-breakdown l b c.before.before.before.before.before.before.args.k q vectors _ _ _ work _ _ _ s _ _ _ e g.0), subst (λ x. Modest 11 (columns-in c.before.before.before.before.before.before.args.k x) c.exact-step.result) (sym e) g.1)
+    let g = c.exact_step.ensures in
+    ((λ l b q vectors work s. on_breakdown l b c.before.before.before.before.before.before.args.k q vectors _ _ _ work _ _ _ s _ _ _ e g.0), subst (λ x. Modest 11 (columns_in c.before.before.before.before.before.before.args.k x) c.exact_step.result) (sym e) g.1)
 
 returns-2 : tie.Need-returns-2
 returns-2 c =
     let e = c.before.before.before.basis2.given.1 in
     let g = c.try-lengths.ensures in
-    ((λ l b q vectors work s. on-full l b c.before.before.before.before.before.before.args.k q vectors _ _ _ work _ _ _ s _ _ _ e c.before.min.ensures (g.0 l b q vectors)), subst (λ x. Modest 11 (columns-in c.before.before.before.before.before.before.args.k x) c.try-lengths.result) (sym e) g.1)
+    ((λ l b q vectors work s. on_full l b c.before.before.before.before.before.before.args.k q vectors _ _ _ work _ _ _ s _ _ _ e c.before.min.ensures (g.0 l b q vectors)), subst (λ x. Modest 11 (columns_in c.before.before.before.before.before.before.args.k x) c.try-lengths.result) (sym e) g.1)
 
 pub trial-steps-spec : {M : Type 1} → statement M
 trial-steps-spec =

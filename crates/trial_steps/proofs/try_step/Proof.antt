@@ -7,7 +7,7 @@ use mathlib.Core.List.{List}
 use lib.Ieee.{Float}
 use lib.ListN.{length, take}
 use lib.Seq.{length-take-le}
-use Rattle.trial_steps.proofs.Tries.{no-plan, taken, left}
+use Rattle.trial_steps.proofs.Tries.{no_plan, taken, left}
 use Rattle.trial_steps.proofs.try_step.Statement.{statement}
 use Rattle.trial_steps.proofs.try_step.Tie as tie
 
@@ -19,22 +19,22 @@ hess-exp-e1-requires : tie.Need-hess-exp-e1-requires
 hess-exp-e1-requires c κs = (omega arith, record { across = omega arith; down = omega arith })
 
 array-share-prefix-f : tie.Need-array-share-prefix-f
-array-share-prefix-f c = omega (arith, c.before.before.hess-exp-e1.ensures.1)
+array-share-prefix-f c = omega (arith, c.before.before.hess_exp_e1.ensures.1)
 
 slice-aggregate-local-error : tie.Need-slice-aggregate-local-error
-slice-aggregate-local-error c = sym (front c.before.before.before.before.before.args.k.m c.before.before.before.hess-exp-e1.result.column c.before.before.before.before.before.requires.0.0 c.before.before.before.hess-exp-e1.ensures.1)
+slice-aggregate-local-error c = sym (front c.before.before.before.before.before.args.k.m c.before.before.before.hess_exp_e1.result.column c.before.before.before.before.before.requires.0.0 c.before.before.before.hess_exp_e1.ensures.1)
 
 local-error-requires : tie.Need-local-error-requires
-local-error-requires c κs = omega (arith, front c.before.before.before.before.before.args.k.m c.before.before.before.hess-exp-e1.result.column c.before.before.before.before.before.requires.0.0 c.before.before.before.hess-exp-e1.ensures.1)
+local-error-requires c κs = omega (arith, front c.before.before.before.before.before.args.k.m c.before.before.before.hess_exp_e1.result.column c.before.before.before.before.before.requires.0.0 c.before.before.before.hess_exp_e1.ensures.1)
 
 returns : tie.Need-returns
-returns c = ((λ l b q vectors i. taken l b c.before.before.before.before.before.before.before.before.args.k q vectors _ _ _ i _ _ _ c.before.before.before.before.before.before.hess-exp-e1.ensures.0 _ c.before.before.before.before.if1.true c.before.before.local-error.ensures _ c.before.accepts.ensures c.if2.true), record { long = c.before.before.before.before.before.before.hess-exp-e1.ensures.1; within = (c.before.before.before.before.before.before.before.before.requires.0.1, refl) })
+returns c = ((λ l b q vectors i. taken l b c.before.before.before.before.before.before.before.before.args.k q vectors _ _ _ i _ _ _ c.before.before.before.before.before.before.hess_exp_e1.ensures.0 _ c.before.before.before.before.if1.true c.before.before.local_error.ensures _ c.before.accepts.ensures c.if2.true), record { long = c.before.before.before.before.before.before.hess_exp_e1.ensures.1; within = (c.before.before.before.before.before.before.before.before.requires.0.1, refl) })
 
 returns-2 : tie.Need-returns-2
-returns-2 c = ((λ l b q vectors i. left l b c.before.before.before.before.before.before.before.before.before.args.k q vectors _ _ _ i _ _ _ c.before.before.before.before.before.before.before.hess-exp-e1.ensures.0 _ c.before.before.before.before.before.if1.true c.before.before.before.local-error.ensures _ c.before.before.accepts.ensures _ _ c.before.if2.false c.retry.ensures), record { long = c.before.before.before.before.before.before.before.hess-exp-e1.ensures.1; within = omega arith })
+returns-2 c = ((λ l b q vectors i. left l b c.before.before.before.before.before.before.before.before.before.args.k q vectors _ _ _ i _ _ _ c.before.before.before.before.before.before.before.hess_exp_e1.ensures.0 _ c.before.before.before.before.before.if1.true c.before.before.before.local_error.ensures _ c.before.before.accepts.ensures _ _ c.before.if2.false c.retry.ensures), record { long = c.before.before.before.before.before.before.before.hess_exp_e1.ensures.1; within = omega arith })
 
 returns-3 : tie.Need-returns-3
-returns-3 c = ((λ l b q vectors i. no-plan l b c.before.before.before.before.args.k q vectors _ _ _ i _ _ _ c.before.before.hess-exp-e1.ensures.0 _ c.if1.false), record { long = c.before.before.hess-exp-e1.ensures.1; within = tt })
+returns-3 c = ((λ l b q vectors i. no_plan l b c.before.before.before.before.args.k q vectors _ _ _ i _ _ _ c.before.before.hess_exp_e1.ensures.0 _ c.if1.false), record { long = c.before.before.hess_exp_e1.ensures.1; within = tt })
 
 pub try-step-spec : {M : Type 1} → statement M
 try-step-spec =

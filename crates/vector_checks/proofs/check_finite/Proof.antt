@@ -1,16 +1,16 @@
 -- `vector_checks::check_finite` meets its contract. Assumes nothing.
 use borrow.Author.Rules.{rules}
 use Rattle.checks.proofs.First.{chain}
-use Rattle.combination.specs.Checks.{finite-checks}
+use Rattle.combination.specs.Checks.{finite_checks}
 use Rattle.vector_checks.proofs.check_finite.Statement.{statement}
 use Rattle.vector_checks.proofs.check_finite.Tie as tie
 
 returns : tie.Need-returns
-unfolding finite-checks
+unfolding finite_checks
 returns c = search chain
 
 returns-2 : tie.Need-returns-2
-unfolding finite-checks
+unfolding finite_checks
 returns-2 c = search chain
 
 pub check-finite-spec : {M : Type 1} → statement M

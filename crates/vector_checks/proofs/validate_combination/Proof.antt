@@ -2,37 +2,37 @@
 use borrow.Author.Rules.{rules}
 use native.Mathlib.Omega.{arith}
 use Prim.Native.Nat.{◌*◌, ◌≤◌}
-use Rattle.checks.proofs.First.{refused-up, sound-on}
-use Rattle.combination.proofs.Counts.{vectors-fit}
-use Rattle.combination.specs.Checks.{vector-checks-by}
+use Rattle.checks.proofs.First.{refused_up, sound_on}
+use Rattle.combination.proofs.Counts.{vectors_fit}
+use Rattle.combination.specs.Checks.{vector_checks_by}
 use Rattle.vector_checks.proofs.validate_combination.Statement.{statement}
 use Rattle.vector_checks.proofs.validate_combination.Tie as tie
 
 returns : tie.Need-returns
-unfolding vector-checks-by
-returns c ts os e h = search refused-up
+unfolding vector_checks_by
+returns c ts os e h = search refused_up
 
 returns-2 : tie.Need-returns-2
-unfolding vector-checks-by
-returns-2 c ts os e h = search (sound-on, refused-up)
+unfolding vector_checks_by
+returns-2 c ts os e h = search (sound_on, refused_up)
 
 mul-check-lengths : tie.Need-overflow-mul-check-lengths
 mul-check-lengths c =
     let s = c.before.before.before.before.before.before in
-    let h : s.args.count * s.args.n ≤ 4000000 = search vectors-fit in
+    let h : s.args.count * s.args.n ≤ 4000000 = search vectors_fit in
     omega (arith, h)
 
 returns-3 : tie.Need-returns-3
-unfolding vector-checks-by
+unfolding vector_checks_by
 returns-3 c ts os e h =
     let lengths = c.before.before.and_then.ensures _ os c.before.before.before.check-lengths.ensures h in
-    search (sound-on, refused-up)
+    search (sound_on, refused_up)
 
 returns-4 : tie.Need-returns-4
-unfolding vector-checks-by
+unfolding vector_checks_by
 returns-4 c ts os e h =
     let lengths = c.before.before.before.and_then.ensures _ os c.before.before.before.before.check-lengths.ensures h in
-    search sound-on
+    search sound_on
 
 pub validate-combination-spec : {M : Type 1} → statement M
 validate-combination-spec =

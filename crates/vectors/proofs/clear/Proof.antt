@@ -2,7 +2,7 @@
 use native.Mathlib.Omega.{arith}
 use mathlib.Core.Path.{refl, ◌∙◌}
 use Prim.Native.Nat.{◌-◌, ◌≤◌}
-use Rattle.lists.proofs.Loop.{Filled, started, turned₀, finished₀, replicate-tabulate}
+use Rattle.lists.proofs.Loop.{Filled, started, turned₀, finished₀, replicate_tabulate}
 use Rattle.doubles.specs.F64.{+0}
 use Rattle.vectors.proofs.clear.Statement.{statement}
 use Rattle.vectors.proofs.clear.Tie as tie
@@ -20,7 +20,7 @@ loop-again : tie.Need-loop-preserved invariant-loop decreases-loop
 loop-again c = (omega arith, turned₀ c.before.loop.invariant.1 refl)
 
 returns : tie.Need-returns invariant-loop decreases-loop
-returns c = finished₀ c.before.loop.invariant.1 (omega arith) (omega arith) ∙ simp replicate-tabulate
+returns c = finished₀ c.before.loop.invariant.1 (omega arith) (omega arith) ∙ simp replicate_tabulate
 
 pub clear_spec : {M : Type 1} → statement M
 clear_spec =

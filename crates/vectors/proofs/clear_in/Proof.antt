@@ -2,7 +2,7 @@
 use native.Mathlib.Omega.{arith}
 use Prim.Native.Nat.{◌-◌, ◌≤◌}
 use mathlib.Core.Path.{refl, ◌∙◌}
-use Rattle.lists.proofs.Loop.{Filled, started, turned, finished, replicate-tabulate}
+use Rattle.lists.proofs.Loop.{Filled, started, turned, finished, replicate_tabulate}
 use Rattle.doubles.specs.F64.{+0}
 use Rattle.vectors.proofs.clear_in.Statement.{statement}
 use Rattle.vectors.proofs.clear_in.Tie as tie
@@ -21,7 +21,7 @@ loop-again c = (omega arith, turned c.before.loop.invariant.1 refl)
 
 returns : tie.Need-returns invariant-loop decreases-loop
 returns c = let a = c.before.before.args in
-    finished c.before.loop.invariant.1 a.len (omega arith) (omega arith) ∙ rw (replicate-tabulate a.len +0)
+    finished c.before.loop.invariant.1 a.len (omega arith) (omega arith) ∙ rw (replicate_tabulate a.len +0)
 
 pub clear-in-spec : {M : Type 1} → statement M
 clear-in-spec =

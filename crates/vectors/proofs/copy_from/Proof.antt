@@ -3,7 +3,7 @@ use native.Mathlib.Omega.{arith}
 use Prim.Native.Nat.{◌+◌, ◌-◌, ◌≤◌}
 use mathlib.Core.Path.{refl, ◌∙◌}
 use lib.Ieee.{nan}
-use Rattle.lists.proofs.Loop.{Filled, started, turned, finished, window-tabulate}
+use Rattle.lists.proofs.Loop.{Filled, started, turned, finished, window_tabulate}
 use Rattle.doubles.specs.F64.{at}
 use Rattle.vectors.proofs.copy_from.Statement.{statement}
 use Rattle.vectors.proofs.copy_from.Tie as tie
@@ -22,7 +22,7 @@ loop-again c = (omega arith, turned c.before.before.loop.invariant.1 refl)
 
 returns : tie.Need-returns invariant-loop decreases-loop
 returns c = let a = c.before.before.args in
-    finished c.before.loop.invariant.1 a.len (omega arith) (omega arith) ∙ rw (window-tabulate a.from a.len a.src.now nan (omega arith))
+    finished c.before.loop.invariant.1 a.len (omega arith) (omega arith) ∙ rw (window_tabulate a.from a.len a.src.now nan (omega arith))
 
 pub copy-from-spec : {M : Type 1} → statement M
 copy-from-spec =

@@ -3,7 +3,7 @@ use native.Mathlib.Omega.{arith}
 use mathlib.Core.Path.{◌∙◌}
 use Prim.Native.Nat.{◌-◌, ◌≤◌}
 use lib.Ieee.{nan}
-use Rattle.lists.proofs.Loop.{Filled, started, turned₀, finished₀, read-after, map-tabulate}
+use Rattle.lists.proofs.Loop.{Filled, started, turned₀, finished₀, read_after, map_tabulate}
 use Rattle.doubles.specs.F64.{◌⊗◌, at}
 use Rattle.vectors.specs.Vectors.{scale}
 use Rattle.vectors.proofs.scale.Statement.{statement}
@@ -20,11 +20,11 @@ loop-holds c = (omega arith, started _ _ _)
 
 loop-again : tie.Need-loop-preserved invariant-loop decreases-loop
 loop-again c = let inv = c.before.before.loop.invariant in
-    (omega arith, turned₀ inv.1 (rw (read-after inv.1 c.before.before.loop.i nan (omega arith))))
+    (omega arith, turned₀ inv.1 (rw (read_after inv.1 c.before.before.loop.i nan (omega arith))))
 
 returns : tie.Need-returns invariant-loop decreases-loop
 unfolding scale
-returns c = finished₀ c.before.loop.invariant.1 (omega arith) (omega arith) ∙ rw (map-tabulate _ _ nan)
+returns c = finished₀ c.before.loop.invariant.1 (omega arith) (omega arith) ∙ rw (map_tabulate _ _ nan)
 
 pub scale-spec : {M : Type 1} → statement M
 scale-spec =

@@ -2,9 +2,9 @@
 use native.Mathlib.Omega.{arith}
 use Prim.Native.Nat.{ℕ, ◌-◌, ◌*◌, ◌≤◌}
 use mathlib.Core.Path.{refl, ◌∙◌}
-use Rattle.lists.proofs.Loop.{Filled, started, turned₀, finished, front-filled}
-use Rattle.lists.proofs.Bounds.{product-within}
-use Rattle.combination.specs.Combination.{column-places}
+use Rattle.lists.proofs.Loop.{Filled, started, turned₀, finished, front_filled}
+use Rattle.lists.proofs.Bounds.{product_within}
+use Rattle.combination.specs.Combination.{column_places}
 use Rattle.weighted_columns.proofs.column_places.Statement.{statement}
 use Rattle.weighted_columns.proofs.column_places.Tie as tie
 
@@ -18,16 +18,16 @@ loop-holds : tie.Need-loop-init invariant-loop decreases-loop
 loop-holds c = (omega arith, started _ _ _)
 
 mul-places : tie.Need-overflow-mul-places invariant-loop decreases-loop
-mul-places c = omega (arith, product-within {a = c.before.before.args.d - c.before.loop.j - 1} 3 1000000 (omega arith) c.before.before.requires.0)
+mul-places c = omega (arith, product_within {a = c.before.before.args.d - c.before.loop.j - 1} 3 1000000 (omega arith) c.before.before.requires.0)
 
 loop-again : tie.Need-loop-preserved invariant-loop decreases-loop
 loop-again c = (omega arith, turned₀ c.before.loop.invariant.1 refl)
 
 returns : tie.Need-returns invariant-loop decreases-loop
-unfolding column-places
+unfolding column_places
 returns c =
     let a = c.before.before.args in
-    finished c.before.loop.invariant.1 a.d (omega arith) (omega arith) ∙ front-filled 3 a.d (λ (k : ℕ). (a.d - k - 1) * a.n) 0 (omega arith)
+    finished c.before.loop.invariant.1 a.d (omega arith) (omega arith) ∙ front_filled 3 a.d (λ (k : ℕ). (a.d - k - 1) * a.n) 0 (omega arith)
 
 pub column-places-spec : {M : Type 1} → statement M
 column-places-spec =

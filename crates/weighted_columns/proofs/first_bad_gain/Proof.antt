@@ -3,13 +3,13 @@ use native.Mathlib.Omega.{arith}
 use Prim.Native.Nat.{◌-◌, ◌≤◌}
 use mathlib.Core.Path.{sym, ap, ◌∙◌}
 use mathlib.Core.Bool.{not}
-use Rattle.lists.proofs.Find.{Passed, passed_start, passed-next, found_at, found_none}
-use Rattle.weighted_columns.specs.Inner.{not-finite-by}
+use Rattle.lists.proofs.Find.{Passed, passed_start, passed_next, found_at, found_none}
+use Rattle.weighted_columns.specs.Inner.{not_finite_by}
 use Rattle.weighted_columns.proofs.first_bad_gain.Statement.{statement}
 use Rattle.weighted_columns.proofs.first_bad_gain.Tie as tie
 
 abbrev invariant-loop : tie.invariant-loop
-invariant-loop d eta gains j₀ j = (j ≤ d) × Passed (not-finite-by gains eta) j
+invariant-loop d eta gains j₀ j = (j ≤ d) × Passed (not_finite_by gains eta) j
 
 abbrev decreases-loop : tie.decreases-loop
 decreases-loop d eta gains j₀ j = d - j
@@ -21,7 +21,7 @@ returns : tie.Need-returns invariant-loop decreases-loop
 returns c = found_at c.before.before.before.loop.invariant.1 _ (omega arith) (sym (ap not c.before.is_finite.ensures) ∙ c.if1.true)
 
 loop-again : tie.Need-loop-preserved invariant-loop decreases-loop
-loop-again c = (omega arith, passed-next c.before.before.before.loop.invariant.1 (sym (ap not c.before.is_finite.ensures) ∙ c.if1.false))
+loop-again c = (omega arith, passed_next c.before.before.before.loop.invariant.1 (sym (ap not c.before.is_finite.ensures) ∙ c.if1.false))
 
 returns-2 : tie.Need-returns-2 invariant-loop decreases-loop
 returns-2 c = found_none c.before.loop.invariant.1 _ (omega arith)

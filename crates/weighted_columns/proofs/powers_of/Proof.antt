@@ -2,8 +2,8 @@
 use native.Mathlib.Omega.{arith}
 use Prim.Native.Nat.{◌-◌, ◌≤◌}
 use mathlib.Core.Path.{◌≡◌, sym, ap, ◌∙◌}
-use Rattle.lists.proofs.Loop.{iter-none, iter_turn, Filled, started, turned₀, finished, front-filled}
-use Rattle.lists.proofs.Bounds.{column-within}
+use Rattle.lists.proofs.Loop.{iter_none, iter_turn, Filled, started, turned₀, finished, front_filled}
+use Rattle.lists.proofs.Bounds.{column_within}
 use Rattle.doubles.specs.F64.{+0}
 use Rattle.combination.specs.Combination.{gain, magnitude}
 use Rattle.weighted_columns.specs.declared.Share.{Share}
@@ -18,17 +18,17 @@ decreases-loop n further tau d gains₀ sum₀ j₀ gains sum j = d - j
 
 loop-holds : tie.Need-loop-init invariant-loop decreases-loop
 unfolding magnitude
-loop-holds c = (omega arith, started _ _ _, sym (iter-none _ _))
+loop-holds c = (omega arith, started _ _ _, sym (iter_none _ _))
 
 share-of-requires : tie.Need-share-of-requires invariant-loop decreases-loop
 share-of-requires c κs =
     let a = c.before.before.before.args in
-    (omega (arith, column-within c.before.loop.j a.d a.n (omega arith)), omega arith)
+    (omega (arith, column_within c.before.loop.j a.d a.n (omega arith)), omega arith)
 
 loop-again : tie.Need-loop-preserved invariant-loop decreases-loop
 unfolding magnitude
 loop-again c =
-    let e = c.share-of.ensures in
+    let e = c.share_of.ensures in
     let i = c.before.before.loop.invariant in
     (omega arith, turned₀ i.1 (ap (λ (x : Share). x.gain) e), iter_turn _ _ _ _ _ i.2 (ap (λ (x : Share). x.sum) e))
 
@@ -37,7 +37,7 @@ returns c =
     let a = c.before.before.before.args in
     let l = c.before.loop in
     let e : l.j ≡ a.d = omega arith in
-    let gains = finished l.invariant.1 a.d (omega arith) (omega arith) ∙ front-filled 3 a.d (gain a.n a.further.now a.tau) +0 (omega arith) in
+    let gains = finished l.invariant.1 a.d (omega arith) (omega arith) ∙ front_filled 3 a.d (gain a.n a.further.now a.tau) +0 (omega arith) in
     let sum = rw e at l.invariant.2 in
     λ i. record { gains = gains i; sum = sum i }
 

@@ -2,7 +2,7 @@
 use native.Mathlib.Omega.{arith}
 use Prim.Native.Nat.{◌-◌, ◌≤◌}
 use mathlib.Core.Path.{refl, ◌∙◌}
-use Rattle.lists.proofs.Loop.{Filled, started, turned₀, finished, front-filled}
+use Rattle.lists.proofs.Loop.{Filled, started, turned₀, finished, front_filled}
 use Rattle.doubles.specs.F64.{◌⊗◌, 1f, at}
 use Rattle.weighted_columns.proofs.scaled_gains.Statement.{statement}
 use Rattle.weighted_columns.proofs.scaled_gains.Tie as tie
@@ -22,7 +22,7 @@ loop-again c = (omega arith, turned₀ c.before.loop.invariant.1 refl)
 returns : tie.Need-returns invariant-loop decreases-loop
 returns c =
     let a = c.before.before.args in
-    finished c.before.loop.invariant.1 a.d (omega arith) (omega arith) ∙ front-filled 3 a.d _ 1f (omega arith)
+    finished c.before.loop.invariant.1 a.d (omega arith) (omega arith) ∙ front_filled 3 a.d _ 1f (omega arith)
 
 pub scaled-gains-spec : {M : Type 1} → statement M
 scaled-gains-spec =
