@@ -1,4 +1,6 @@
 // Exact functions of a double, each total: NaN, infinities, zeros of both signs and subnormals included.
+#![tactic(auto)]
+
 ghost use Rattle.std.specs.Prelude.{◌≡◌, ◌*◌, ◌/◌, ◌^◌, ◌<◌, ◌≤◌};
 ghost use Rattle.std.specs.Float.{nan};
 ghost use Rattle.doubles.specs.F64.{INF_BITS, abs, is_finite, max_num, min_num, nat};
