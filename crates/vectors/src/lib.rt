@@ -1,4 +1,6 @@
 // Kernels on dense vectors of doubles. Those that end in `_in` read and write windows of one slice.
+#![tactic(auto)]
+
 ghost use Rattle.std.specs.Prelude.{◌≡◌, ◌+◌, ◌*◌, ◌≤◌, length, replicate};
 ghost use Rattle.lists.specs.Window.{window, splice};
 ghost use Rattle.lists.specs.Bounds.{Apart};

@@ -1,0 +1,12 @@
+-- `sqrt::root27` meets its contract. Assumes nothing.
+use borrow.Author.Rules.{rules}
+use Prim.Native.Nat.{◌+◌, ◌-◌, ◌*◌, ◌≤◌, ◌<◌}
+use native.Mathlib.Omega.{arith}
+use Rattle.sqrt.proofs.Parts.{square_small, root_small}
+use Rattle.sqrt.proofs.root27.Given as goal
+
+abbrev pub invariant-loop-r : goal.invariant-loop-r
+invariant-loop-r l = l.r * l.r ≤ l.m
+
+abbrev pub decreases-loop-r : goal.decreases-loop-r
+decreases-loop-r l = 134217728 - l.r

@@ -1,0 +1,15 @@
+-- `vectors::axpy_in` meets its contract. After i turns the first i elements of the window are written. Assumes nothing.
+use native.Mathlib.Omega.{arith}
+use mathlib.Core.Path.{◌∙◌}
+use Prim.Native.Nat.{◌+◌, ◌-◌, ◌≤◌}
+use lib.Ieee.{nan}
+use Rattle.lists.proofs.Loop.{Filled, started, turned, finished, read_here, read_apart, zip_with_windows}
+use Rattle.doubles.specs.F64.{◌⊕◌, ◌⊗◌, at}
+use Rattle.vectors.specs.Vectors.{axpy}
+use Rattle.vectors.proofs.axpy_in.Given as goal
+
+abbrev pub invariant-loop-i : goal.invariant-loop-i
+invariant-loop-i l = (l.i ≤ l.len) × Filled l.y_at l.i (λ k. at l.initial.work (l.y_at + k) ⊕ l.a ⊗ at l.initial.work (l.x_at + k)) l.initial.work l.work
+
+abbrev pub decreases-loop-i : goal.decreases-loop-i
+decreases-loop-i l = l.len - l.i

@@ -1,0 +1,18 @@
+-- `vectors::clear_in` meets its contract. Assumes nothing.
+use native.Mathlib.Omega.{arith}
+use Prim.Native.Nat.{◌-◌, ◌≤◌}
+use mathlib.Core.Path.{refl, ◌∙◌}
+use Rattle.lists.proofs.Loop.{Filled, started, turned, finished, replicate_tabulate}
+use Rattle.doubles.specs.F64.{+0}
+use Rattle.vectors.proofs.clear_in.Goals as goal
+
+pub loop-i-init : goal.loop-i-init
+loop-i-init c = (omega arith, started _ _ _)
+
+pub loop-i-preserved : goal.loop-i-preserved
+loop-i-preserved c = (omega arith, turned c.loop-i.invariant.1 refl)
+
+pub returns : goal.returns
+returns c =
+    let a = c.args in
+    finished c.loop-i.invariant.1 a.len (omega arith) (omega arith) ∙ rw (replicate_tabulate a.len +0)

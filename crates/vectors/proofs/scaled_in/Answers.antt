@@ -1,0 +1,21 @@
+-- `vectors::scaled_in` meets its contract. After i turns the first i elements of the window are written. Assumes nothing.
+use native.Mathlib.Omega.{arith}
+use mathlib.Core.Path.{◌∙◌}
+use Prim.Native.Nat.{◌+◌, ◌-◌, ◌≤◌}
+use lib.Ieee.{nan}
+use Rattle.lists.proofs.Loop.{Filled, started, turned, finished, read_apart}
+use Rattle.doubles.specs.F64.{◌⊗◌, at}
+use Rattle.vectors.proofs.Laws.{scaled_window}
+use Rattle.vectors.proofs.scaled_in.Goals as goal
+
+pub loop-i-init : goal.loop-i-init
+loop-i-init c = (omega arith, started _ _ _)
+
+pub loop-i-preserved : goal.loop-i-preserved
+loop-i-preserved c =
+    (omega arith, turned c.loop-i.invariant.1 (rw (read_apart c.loop-i.invariant.1 c.args.src_at c.args.len c.loop-i.i nan c.requires.apart c.loop-i.invariant.0 (omega arith))))
+
+pub returns : goal.returns
+returns c =
+    let a = c.args in
+    finished c.loop-i.invariant.1 a.len (omega arith) (omega arith) ∙ rw (scaled_window a.src_at a.len a.work.now a.s (omega arith))

@@ -1,0 +1,15 @@
+-- `vectors::scaled_in` meets its contract. After i turns the first i elements of the window are written. Assumes nothing.
+use native.Mathlib.Omega.{arith}
+use mathlib.Core.Path.{◌∙◌}
+use Prim.Native.Nat.{◌+◌, ◌-◌, ◌≤◌}
+use lib.Ieee.{nan}
+use Rattle.lists.proofs.Loop.{Filled, started, turned, finished, read_apart}
+use Rattle.doubles.specs.F64.{◌⊗◌, at}
+use Rattle.vectors.proofs.Laws.{scaled_window}
+use Rattle.vectors.proofs.scaled_in.Given as goal
+
+abbrev pub invariant-loop-i : goal.invariant-loop-i
+invariant-loop-i l = (l.i ≤ l.len) × Filled l.dst_at l.i (λ k. at l.initial.work (l.src_at + k) ⊗ l.s) l.initial.work l.work
+
+abbrev pub decreases-loop-i : goal.decreases-loop-i
+decreases-loop-i l = l.len - l.i
