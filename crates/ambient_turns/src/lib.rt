@@ -8,7 +8,7 @@ ghost use Rattle.ambient_turns.specs.Inner.{turn_at, results_of, shown_in};
 use taylor_job::TaylorAnswer;
 
 // A refusal's number and double with the record that met it, from 1 (0: before any record); the record after which the temperature is NaN; or all done.
-#[derive(Drop)]
+#[derive(Clone, Copy)]
 pub enum AmbientAnswer {
     Refusal(u32, f64, u32),
     NotANumber(u32),

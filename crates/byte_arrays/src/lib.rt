@@ -1,4 +1,6 @@
 // What the exports on bytes share: which jobs are large, slices cut to the local arrays, and the arrays.
+#![tactic(auto)]
+
 ghost use Rattle.std.specs.Prelude.{◌≡◌, false, cond, ◌/◌, ◌≤◌, length, take};
 ghost use Rattle.le_bytes.specs.Bytes.{numbers_of, doubles_of, words_of};
 ghost use Rattle.byte_arrays.specs.Large.{large};

@@ -8,7 +8,7 @@ use krylov_job::KrylovAnswer;
 use taylor_job::TaylorAnswer;
 
 // Which call; of Taylor with the highest degree, of Krylov with tol, m and max_substeps.
-#[derive(Drop)]
+#[derive(Clone, Copy)]
 pub enum PhiCall {
     Combination(u32),
     Action(u32),
@@ -17,7 +17,7 @@ pub enum PhiCall {
 }
 
 // What is handed back as numbers: the counts of a Taylor call, or those of a Krylov call.
-#[derive(Drop)]
+#[derive(Clone, Copy)]
 pub struct Told {
     pub number: u32,
     pub value: f64,

@@ -1,9 +1,11 @@
 // The answer of a function that makes some of the numbered checks.
+#![tactic(auto)]
+
 ghost use Rattle.std.specs.Prelude.{◌≡◌};
 ghost use Rattle.checks.specs.First.{number, reported};
 
 // No check holds, or the first that does: its number and the double that is reported with it.
-#[derive(Drop)]
+#[derive(Clone, Copy)]
 pub enum Checked {
     Sound,
     Refused(u32, f64),

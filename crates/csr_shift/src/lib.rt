@@ -7,14 +7,14 @@ ghost use Rattle.csr_shift.specs.Shift.{csr_row, generator_row, bad_row, midpoin
 use doubles::INF_BITS;
 
 // The diagonal of a row, and the sum of its other entries' sizes.
-#[derive(Drop)]
+#[derive(Clone, Copy)]
 pub struct Row {
     pub diagonal: f64,
     pub rest: f64,
 }
 
 // The shift and the norm of the shifted generator, or none.
-#[derive(Drop)]
+#[derive(Clone, Copy)]
 pub enum Shift {
     Unshifted,
     By(f64, f64),

@@ -21,7 +21,7 @@ fn norm(c: f64) -> f64
 }
 
 // How often the scale is halved, and what it is then.
-#[derive(Drop)]
+#[derive(Clone, Copy)]
 struct Scaling {
     squarings: u32,
     scale: f64,

@@ -1,4 +1,6 @@
 // Inner products of dense vectors of doubles.
+#![tactic(auto)]
+
 ghost use Rattle.std.specs.Prelude.{◌≡◌, [], ◌+◌, ◌*◌, ◌/◌, ◌<◌, ◌≤◌, length};
 ghost use Rattle.doubles.specs.F64.{◌⊗◌, at};
 ghost use Rattle.dot.specs.Dot.{tail, lanes, dot};
@@ -24,7 +26,7 @@ fn tail(x: &[f64], y: &[f64], b: usize, n: usize) -> f64
 }
 
 // The four partial sums of an inner product.
-#[derive(Drop)]
+#[derive(Clone, Copy)]
 pub struct Lanes {
     pub acc0: f64,
     pub acc1: f64,
@@ -88,7 +90,7 @@ pub fn dot(x: &[f64], y: &[f64]) -> f64
 }
 
 // Two partial sums.
-#[derive(Drop)]
+#[derive(Clone, Copy)]
 pub struct Pair {
     pub first: f64,
     pub second: f64,

@@ -6,7 +6,7 @@ ghost use Rattle.doubles.specs.Whole.{ceil};
 ghost use Rattle.expmv.specs.Select.{M_MAX, thetas, degree, cheaper, consider, select_s_m};
 
 // No admissible row, or s sweeps of degree m.
-#[derive(Drop)]
+#[derive(Clone, Copy)]
 pub enum Selected {
     NoRow,
     Row(u32, u32),

@@ -263,7 +263,7 @@ pub extern "C" fn hazhendu_phi_combination_krylov_transposed_bytes(
 }
 
 // What is told of a matrix: 0 or the refusal's number, the norm or the refusal's double, and the row.
-#[derive(Drop)]
+#[derive(Clone, Copy)]
 struct RowTold {
     number: u32,
     value: f64,

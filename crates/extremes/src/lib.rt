@@ -1,4 +1,6 @@
 // The largest and the smallest among the last W numbers: a window that moves along a slice.
+#![tactic(auto)]
+
 ghost use Rattle.std.specs.Prelude.{◌≡◌, ◌≤◌, ◌<◌, length};
 ghost use Rattle.lists.specs.Loop.{tabulate};
 ghost use Rattle.lists.specs.Window.{splice};
@@ -27,7 +29,7 @@ fn window_start(width: usize, i: usize) -> usize
 }
 
 // The largest and the smallest number of a window.
-#[derive(Drop)]
+#[derive(Clone, Copy)]
 struct Extremes {
     largest: f64,
     smallest: f64,

@@ -1,4 +1,6 @@
 // The checks 1 to 6 of a sparse matrix, on any input.
+#![tactic(auto)]
+
 ghost use Rattle.std.specs.Prelude.{◌≡◌, ◌+◌, ◌<◌, length};
 ghost use Rattle.lists.specs.Find.{find};
 ghost use Rattle.checks.specs.First.{first};

@@ -1,4 +1,6 @@
 // The answer to a matrix, and the shape of a generator that passed its checks; definitions and laws of the mass, the quotients and the norm.
+#![tactic(auto)]
+
 ghost use Rattle.std.specs.Prelude.{◌≡◌, true, List, ℕ, ◌-◌, length, Float};
 ghost use Rattle.doubles.specs.Sum.{sum};
 ghost use Rattle.checks.specs.First.{first};
@@ -8,7 +10,7 @@ ghost use Rattle.generator_action.specs.Answer.{number, value};
 ghost use Rattle.generator_action.specs.Known.{shape_of};
 
 // A refusal's number and double, or the norm and the first row whose sum equals it.
-#[derive(Drop)]
+#[derive(Clone, Copy)]
 pub enum MatrixAnswer {
     Refusal(u32, f64),
     Norm(f64, usize),
@@ -35,7 +37,7 @@ pub fn value(answer: MatrixAnswer) -> f64
 }
 
 // A generator that passed its checks: its rows, whether its quotients are stored, the places that they take, and its norm.
-#[derive(Drop)]
+#[derive(Clone, Copy)]
 pub struct Shape {
     pub n: usize,
     pub with_mass: bool,
@@ -64,7 +66,7 @@ pub fn generator_shape(n: usize, with_mass: bool, entries: usize, norm: f64) -> 
 }
 
 // The largest row sum so far, and the first row that has it.
-#[derive(Drop)]
+#[derive(Clone, Copy)]
 pub struct Largest {
     pub norm: f64,
     pub row: usize,

@@ -12,7 +12,7 @@ use phi_action_helpers::{Coupling, Layout, Scales};
 
 // A run's memory and what stays the same during it: M + 1 columns of n + d values from place 0, the product from the Layout's w,
 // the small matrix of (M + 2) squared from h, column by column, the field of n + d from y, then the Layout's av and q.
-#[derive(Drop)]
+#[derive(Clone, Copy)]
 pub struct Krylov {
     pub m: usize,
     pub h: usize,
@@ -23,14 +23,14 @@ pub struct Krylov {
 }
 
 // The products made; on a breakdown also how many columns count, and the size left out.
-#[derive(Drop)]
+#[derive(Clone, Copy)]
 pub enum Grown {
     On(usize),
     Broken(usize, usize, f64),
 }
 
 // A breakdown as above; or M + 1 columns: the products made, and the norm of the last one.
-#[derive(Drop)]
+#[derive(Clone, Copy)]
 pub enum BasisAnswer {
     Breakdown(usize, usize, f64),
     Full(usize, f64),

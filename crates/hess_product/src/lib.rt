@@ -7,7 +7,7 @@ ghost use Rattle.hess_rows.specs.Parts.{four_parts, put, Leading};
 use hess_rows::Four;
 
 // The sums of eight rows.
-#[derive(Drop)]
+#[derive(Clone, Copy)]
 struct Eight {
     upper: Four,
     lower: Four,

@@ -1,4 +1,6 @@
 // One row, and four rows side by side, of the product with a small Hessenberg matrix that is stored by columns.
+#![tactic(auto)]
+
 ghost use Rattle.std.specs.Prelude.{◌≡◌, ◌+◌, ◌-◌, ◌*◌, ◌<◌, ◌≤◌, length};
 ghost use Rattle.doubles.specs.F64.{at};
 ghost use Rattle.hess_rows.specs.Parts.{left_product, row_part, four_parts, added, Leading};
@@ -28,7 +30,7 @@ pub fn row_part(h: &[f64], dim: usize, w: &[f64], r: usize, x: f64, to: usize) -
 }
 
 // The sums of four rows.
-#[derive(Drop)]
+#[derive(Clone, Copy)]
 pub struct Four {
     pub s0: f64,
     pub s1: f64,

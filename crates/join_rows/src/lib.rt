@@ -1,4 +1,6 @@
 // Rows of the two matrices of a join: whether their columns rise, how many entries they have together, and whether each sum is finite.
+#![tactic(auto)]
+
 ghost use Rattle.std.specs.Prelude.{◌≡◌, List, true, ◌+◌, ◌-◌, ◌≤◌, ◌<◌, length, Float};
 ghost use Rattle.lists.specs.Find.{exists};
 ghost use Rattle.lists.specs.Loop.{stack};
@@ -11,14 +13,14 @@ ghost use Rattle.row_merge.specs.Merge.{advance};
 use checks::Checked;
 
 // A refusal's number and double, or the number of entries of the result.
-#[derive(Drop)]
+#[derive(Clone, Copy)]
 pub enum JoinAnswer {
     Refusal(u32, f64),
     Joined(usize),
 }
 
 // The lengths of the slices that the result is written to.
-#[derive(Drop)]
+#[derive(Clone, Copy)]
 pub struct Lengths {
     pub starts: usize,
     pub columns: usize,

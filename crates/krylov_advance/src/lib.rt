@@ -22,7 +22,7 @@ const EPSILON: f64 = 2.220446049250313e-16;
 
 // Of a run: products with the generator, accepted substeps, rejected lengths, the accumulated error estimate, and the shortest and the
 // last accepted length, both 0 where there is none.
-#[derive(Drop)]
+#[derive(Clone, Copy)]
 pub struct KrylovPhiReport {
     pub matvecs: usize,
     pub substeps: usize,
@@ -33,7 +33,7 @@ pub struct KrylovPhiReport {
 }
 
 // The time reached, the length proposed next, and the field's norm.
-#[derive(Drop)]
+#[derive(Clone, Copy)]
 pub struct Control {
     pub time: f64,
     pub next: f64,
@@ -41,7 +41,7 @@ pub struct Control {
 }
 
 // After a substep: the run goes on, or has ended as a RunAnswer says.
-#[derive(Drop)]
+#[derive(Clone, Copy)]
 pub enum Progress {
     On(Control, KrylovPhiReport),
     Finished(Control, KrylovPhiReport),
@@ -49,7 +49,7 @@ pub enum Progress {
 }
 
 // A result, or a refusal's number and double; the field is the last accepted one.
-#[derive(Drop)]
+#[derive(Clone, Copy)]
 pub enum RunAnswer {
     Finished(Control, KrylovPhiReport),
     Refused(u32, f64, Control, KrylovPhiReport),

@@ -20,7 +20,7 @@ use pow2::Scaling;
 use weighted_columns::Weights;
 
 // The accuracy wanted relative to the start's norm, the Krylov dimension, and the limit of substeps.
-#[derive(Drop)]
+#[derive(Clone, Copy)]
 pub struct KrylovPhiOptions {
     pub tol: f64,
     pub m: usize,
@@ -28,7 +28,7 @@ pub struct KrylovPhiOptions {
 }
 
 // A refusal's number and double, or a report.
-#[derive(Drop)]
+#[derive(Clone, Copy)]
 pub enum KrylovAnswer {
     Refusal(u32, f64),
     Result(KrylovPhiReport),
@@ -164,7 +164,7 @@ pub fn krylov(n: usize, d: usize, m: usize, tau: f64, anorm: f64, tol: f64) -> K
 }
 
 // A run as its checks leave it: what they found, with the numbers of its generator.
-#[derive(Drop)]
+#[derive(Clone, Copy)]
 pub struct RunJob {
     pub checked: Checked,
     pub g: Shape,
@@ -177,7 +177,7 @@ pub struct RunJob {
 }
 
 // What scales the gains: the job's own eta, or the one that a run began with.
-#[derive(Drop)]
+#[derive(Clone, Copy)]
 pub enum Eta {
     Own,
     Began(f64),

@@ -8,14 +8,14 @@ ghost use Rattle.paused_byte_calls.specs.Replies.{slices, replies, packs};
 ghost use Rattle.paused_byte_calls.specs.Inner.{job, called_run};
 
 // Which of the two; a start with tol, m and max_substeps, a step with a new tol or none.
-#[derive(Drop)]
+#[derive(Clone, Copy)]
 pub enum RunCall {
     Start(f64, usize, usize),
     Step(bool, f64),
 }
 
 // 0 or the refusal's number, and the double reported.
-#[derive(Drop)]
+#[derive(Clone, Copy)]
 pub struct Reported {
     pub number: u32,
     pub value: f64,

@@ -13,7 +13,7 @@ use krylov_job::{KrylovPhiOptions, RunJob};
 use pow2::Scale;
 
 // A run between two calls; its scaled field lies in a lent slice of n + count - 1 doubles.
-#[derive(Drop)]
+#[derive(Clone, Copy)]
 pub struct PausedRun {
     pub time: f64,
     pub next: f64,
@@ -30,21 +30,21 @@ pub struct PausedRun {
 }
 
 // Whether a step brings a new tolerance.
-#[derive(Drop)]
+#[derive(Clone, Copy)]
 pub enum Tolerance {
     Same,
     New(f64),
 }
 
 // A refusal's number and double, or the run that was started.
-#[derive(Drop)]
+#[derive(Clone, Copy)]
 pub enum StartAnswer {
     Refusal(u32, f64),
     Started(PausedRun),
 }
 
 // The run after a step, and the refusal's number and double where there is one.
-#[derive(Drop)]
+#[derive(Clone, Copy)]
 pub enum StepAnswer {
     Refusal(u32, f64, PausedRun),
     Stepped(PausedRun),

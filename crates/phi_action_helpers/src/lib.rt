@@ -10,7 +10,7 @@ ghost use Rattle.phi_action_helpers.specs.Sweeps.{shifted};
 ghost use Rattle.phi_action_helpers.specs.Laid.{matrix_at, operator_at, Ready, added};
 
 // The schedule: s sweeps of degree m, and the shift mu, 0 for none.
-#[derive(Drop)]
+#[derive(Clone, Copy)]
 pub struct SweepPlan {
     pub s: u32,
     pub m: u32,
@@ -18,7 +18,7 @@ pub struct SweepPlan {
 }
 
 // The scalars of one term, each divided by j s: tau, 1 and, where there is a shift, mu.
-#[derive(Drop)]
+#[derive(Clone, Copy)]
 pub struct Scales {
     pub shifted: bool,
     pub tau: f64,
@@ -27,7 +27,7 @@ pub struct Scales {
 }
 
 // The columns of W: at most three, column j gains[j] times the n values of the vectors from places[j].
-#[derive(Drop)]
+#[derive(Clone, Copy)]
 pub struct Coupling {
     pub places: [usize; 3],
     pub gains: [f64; 3],
@@ -35,7 +35,7 @@ pub struct Coupling {
 }
 
 // Where a product's operands lie in the working memory: n + d values from w, G w of n values from av, and with a mass the quotients from q.
-#[derive(Drop)]
+#[derive(Clone, Copy)]
 pub struct Layout {
     pub n: usize,
     pub d: usize,
@@ -46,7 +46,7 @@ pub struct Layout {
 }
 
 // What the sweeps of a run are made with: the places, the columns, the time and the plan.
-#[derive(Drop)]
+#[derive(Clone, Copy)]
 pub struct SweepArgs {
     pub l: Layout,
     pub b: Coupling,

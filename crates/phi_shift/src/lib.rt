@@ -8,7 +8,7 @@ use expmv::Selected;
 use phi_action_helpers::SweepPlan;
 
 // No plan for the unshifted argument, or a plan.
-#[derive(Drop)]
+#[derive(Clone, Copy)]
 pub enum PlanAnswer {
     NoPlan,
     Plan(SweepPlan),

@@ -12,14 +12,14 @@ use krylov_job::{KrylovAnswer, KrylovPhiOptions};
 use taylor_job::{TaylorAnswer, TaylorReport};
 
 // Which evaluator a combination uses; Taylor's plan has a highest degree.
-#[derive(Drop)]
+#[derive(Clone, Copy)]
 pub enum PhiSolver {
     Taylor(u32),
     Krylov(KrylovPhiOptions),
 }
 
 // A refusal's number and double, or the report of the evaluator used.
-#[derive(Drop)]
+#[derive(Clone, Copy)]
 pub enum PhiAnswer {
     Refusal(u32, f64),
     Taylor(TaylorReport),

@@ -10,20 +10,20 @@ use float::{abs, is_finite, max};
 const ETA_EXP_CLAMP: i32 = 1000;
 
 // (eta, 1 / eta)
-#[derive(Drop)]
+#[derive(Clone, Copy)]
 pub struct Scaling {
     pub eta: f64,
     pub inv: f64,
 }
 
 // (2 ^ -e, 2 ^ e)
-#[derive(Drop)]
+#[derive(Clone, Copy)]
 pub struct Scale {
     pub down: f64,
     pub up: f64,
 }
 
-#[derive(Drop)]
+#[derive(Clone, Copy)]
 pub enum Prescale {
     By(Scale),
     None,

@@ -8,7 +8,7 @@ use le_bytes::{double_at, half_at};
 use pack_bytes::pattern;
 
 // The numbers of a job.
-#[derive(Drop)]
+#[derive(Clone, Copy)]
 struct Job {
     call: u64,
     n: usize,
@@ -22,7 +22,7 @@ struct Job {
 }
 
 // What a call hands back as numbers, each double as its bits; the steps of a Taylor call are 0.
-#[derive(Drop)]
+#[derive(Clone, Copy)]
 struct Answer {
     number: u64,
     value: u64,
@@ -34,7 +34,7 @@ struct Answer {
 }
 
 // How many answers of a section were replayed, and how many differ.
-#[derive(Drop)]
+#[derive(Clone, Copy)]
 struct Count {
     replayed: u32,
     different: u32,

@@ -9,14 +9,14 @@ use pow2::Scale;
 
 // The runs in places 0 to 15, a place being free while the run in it has ended; and the places that wait, in the order of their turns, up to the first
 // number above 15.
-#[derive(Drop)]
+#[derive(Clone, Copy)]
 pub struct Rotation {
     pub places: [PausedRun; 16],
     pub queue: [usize; 16],
 }
 
 // The unit with a new run, and the place taken (16: none).
-#[derive(Drop)]
+#[derive(Clone, Copy)]
 pub struct Seat {
     pub unit: Rotation,
     pub place: usize,

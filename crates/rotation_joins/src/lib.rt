@@ -22,7 +22,7 @@ use pow2::Prescale;
 use rotation::Rotation;
 
 // The unit after a join, the place taken (16: none) and the start's answer.
-#[derive(Drop)]
+#[derive(Clone, Copy)]
 pub struct Joined {
     pub unit: Rotation,
     pub place: usize,

@@ -10,7 +10,7 @@ use paused_run::{PausedRun, StepAnswer, Tolerance};
 use rotation::Rotation;
 
 // The unit after a turn, the place whose turn it was (16: none) and the step's answer.
-#[derive(Drop)]
+#[derive(Clone, Copy)]
 pub struct Turned {
     pub unit: Rotation,
     pub place: usize,

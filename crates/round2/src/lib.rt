@@ -1,4 +1,6 @@
 // Rounding up to two decimal digits, over a table of the powers of ten.
+#![tactic(auto)]
+
 ghost use Rattle.std.specs.Prelude.{◌≡◌, ◌<◌, ◌≤◌, T};
 ghost use Rattle.std.specs.Float.Ieee.{le};
 ghost use Rattle.round2.specs.Ten.{ten};

@@ -8,7 +8,7 @@ use checks::Checked;
 use phi_solver::PhiSolver;
 
 // Products with the generator, accepted substeps and rejected lengths of all stages.
-#[derive(Drop)]
+#[derive(Clone, Copy)]
 pub struct StagedReport {
     pub applications: u64,
     pub substeps: u64,
@@ -16,14 +16,14 @@ pub struct StagedReport {
 }
 
 // A refusal's number and double with the stage that met it, from 1 (0: before any stage), or the counts.
-#[derive(Drop)]
+#[derive(Clone, Copy)]
 pub enum StagedAnswer {
     Refusal(u32, f64, u32),
     Staged(StagedReport),
 }
 
 // A stage: its tau, its number of vectors, w_0 among them, and its solver.
-#[derive(Drop)]
+#[derive(Clone, Copy)]
 pub struct Stage {
     pub tau: f64,
     pub count: usize,
@@ -31,14 +31,14 @@ pub struct Stage {
 }
 
 // After some stages: how many numbers of the further vectors' slice are used, and the counts.
-#[derive(Drop)]
+#[derive(Clone, Copy)]
 pub struct SoFar {
     pub used: usize,
     pub report: StagedReport,
 }
 
 // The soak goes on, or a stage ended it by a refusal.
-#[derive(Drop)]
+#[derive(Clone, Copy)]
 pub enum StageTurn {
     On(SoFar),
     Ended(u32, f64, u32),

@@ -18,7 +18,7 @@ use phi_action_helpers::{Layout, SweepArgs, SweepPlan};
 use taylor_schedule::Job;
 
 // Of an accepted job: the plan, and the products with the generator made, over all sweeps of a batch.
-#[derive(Drop)]
+#[derive(Clone, Copy)]
 pub struct TaylorReport {
     pub s: u32,
     pub m: u32,
@@ -27,7 +27,7 @@ pub struct TaylorReport {
 }
 
 // A refusal's number and double, or a report.
-#[derive(Drop)]
+#[derive(Clone, Copy)]
 pub enum TaylorAnswer {
     Refusal(u32, f64),
     Result(TaylorReport),

@@ -23,7 +23,7 @@ fn check_argument(arg: f64, no_row: bool) -> Checked
 }
 
 // What 24 and 25 find: the row of the schedule.
-#[derive(Drop)]
+#[derive(Clone, Copy)]
 pub struct Schedule {
     pub checked: Checked,
     pub s: u32,
@@ -50,7 +50,7 @@ pub fn check_schedule(m_max: u32, norm: f64, tau: f64) -> Schedule
 }
 
 // A Taylor job as its checks leave it: what they found, with the numbers of its generator.
-#[derive(Drop)]
+#[derive(Clone, Copy)]
 pub struct Job {
     pub checked: Checked,
     pub g: Shape,

@@ -9,7 +9,7 @@ ghost use Rattle.transposed_shape.specs.Inner.{shape_answer};
 use generator_action::{MatrixAnswer, Shape};
 
 // A refusal's number and double, or what a job takes from its generator.
-#[derive(Drop)]
+#[derive(Clone, Copy)]
 pub enum ShapeAnswer {
     Refusal(u32, f64),
     Passed(Shape),

@@ -17,14 +17,14 @@ use gram_schmidt::{BasisAnswer, Krylov};
 const MAX_REJECT: usize = 10;
 
 // The error of a length, and the order of the root that shortens it.
-#[derive(Drop)]
+#[derive(Clone, Copy)]
 pub struct Estimate {
     pub err: f64,
     pub order: usize,
 }
 
 // A length accepted: the rejections before it, its error, and how many columns have a coefficient.
-#[derive(Drop)]
+#[derive(Clone, Copy)]
 pub struct Step {
     pub rejections: usize,
     pub t: f64,
@@ -33,7 +33,7 @@ pub struct Step {
 }
 
 // The rejections so far and the length to be tried; or the end: accepted, or no inner plan for the argument.
-#[derive(Drop)]
+#[derive(Clone, Copy)]
 pub enum Outcome {
     Next(usize, f64),
     Accepted(Step),
@@ -41,7 +41,7 @@ pub enum Outcome {
 }
 
 // Of an accepted length the coefficients stand in the first places of f.
-#[derive(Drop)]
+#[derive(Clone, Copy)]
 pub struct Trial {
     pub outcome: Outcome,
     pub f: [f64; 130],

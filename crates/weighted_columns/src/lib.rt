@@ -21,7 +21,7 @@ fn sup_of(n: usize, further: &[f64], j: usize) -> f64
 }
 
 // The gain of w_(j+1), and the sum with its share.
-#[derive(Drop)]
+#[derive(Clone, Copy)]
 struct Share {
     gain: f64,
     sum: f64,
@@ -44,7 +44,7 @@ fn share_of(n: usize, further: &[f64], tau: f64, j: usize, s: f64) -> Share
 }
 
 // gains[j] is w_(j+1)'s, and the sum of all shares.
-#[derive(Drop)]
+#[derive(Clone, Copy)]
 pub struct Powers {
     pub gains: [f64; 3],
     pub sum: f64,
@@ -120,7 +120,7 @@ fn scaled_gains(powers: [f64; 3], d: usize, eta: f64) -> [f64; 3]
 }
 
 // What 21 and 22 find: 1 / eta, and the columns with their gains.
-#[derive(Drop)]
+#[derive(Clone, Copy)]
 pub struct Weights {
     pub checked: Checked,
     pub inv: f64,

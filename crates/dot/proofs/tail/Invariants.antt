@@ -1,0 +1,13 @@
+-- `dot::tail` meets its contract. Assumes nothing.
+use native.Mathlib.Omega.{arith}
+use mathlib.Core.Path.{◌≡◌, sym}
+use Prim.Native.Nat.{◌-◌, ◌≤◌}
+use Rattle.doubles.proofs.Sum.{sum_none, sum_turn}
+use Rattle.dot.specs.Dot.{tail}
+use Rattle.dot.proofs.tail.Given as goal
+
+abbrev pub invariant-loop-j : goal.invariant-loop-j
+invariant-loop-j l = (l.j ≤ l.n) × (l.s ≡ tail l.b l.x l.y l.j)
+
+abbrev pub decreases-loop-j : goal.decreases-loop-j
+decreases-loop-j l = l.n - l.j

@@ -1,0 +1,24 @@
+-- `general_operator::validate_csr` meets its contract. Assumes nothing.
+use Rattle.checks.proofs.First.{refused_up, sound_on}
+use Rattle.general_operator.specs.Checks.{matrix_checks}
+use Rattle.general_operator.proofs.Sound.{shape_rows, shape_paired}
+use borrow.Author.Rules.{rules}
+use Rattle.general_operator.proofs.validate_csr.Goals as goal
+
+pub returns-in_default : goal.returns-in_default
+unfolding matrix_checks
+returns-in_default c = search refused_up
+
+pub check_rows-rows-requires : goal.check_rows-rows-requires
+check_rows-rows-requires c = search shape_rows
+
+pub returns-in_default-rows : goal.returns-in_default-rows
+unfolding matrix_checks
+returns-in_default-rows c = search (sound_on, refused_up)
+
+pub check_entries-requires : goal.check_entries-requires
+check_entries-requires c = search shape_paired
+
+pub returns : goal.returns
+unfolding matrix_checks
+returns c = search sound_on
