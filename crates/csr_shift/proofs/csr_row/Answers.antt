@@ -12,6 +12,7 @@ use Rattle.general_operator.proofs.Rows.{start_le}
 use Rattle.csr_shift.specs.Shift.{row, csr_entry, csr_row}
 use Rattle.csr_shift.proofs.Entry.{on_diagonal, off_diagonal}
 use Rattle.csr_shift.proofs.csr_row.Goals as goal
+use Rattle.csr_shift.proofs.csr_row.Goals.{then-c-i, else-c-i}
 
 pub overflow_sub-count : goal.overflow_sub-count
 overflow_sub-count c = omega (arith, c.requires.valid.rising c.args.i (omega arith))
@@ -22,16 +23,15 @@ loop-k-init c =
     (omega arith, omega (arith, c.requires.valid.rising i (omega arith), start_le c.requires.valid (i + 1) (omega arith)), sym (iter_none _ _))
 
 pub loop-k-preserved : goal.loop-k-preserved
-loop-k-preserved c =
-    (
-      omega arith,
-      omega arith,
-      iter_turn _ _ _ (row c.loop-k.d c.loop-k.r) _ c.loop-k.invariant.2
-          (⊎_elim
-          (λ w. on_diagonal _ _ _ _ w.0.taken w.1 w.2)
-          (λ w. off_diagonal _ _ _ _ w.0.left w.2 (w.3 ∙ rw w.1.ensures))
-          c.if-c-i.branch),
-    )
+loop-k-preserved c = (
+  omega arith,
+  omega arith,
+  iter_turn _ _ _ (row c.loop-k.d c.loop-k.r) _ c.loop-k.invariant.2
+      (elim c.if-c-i.branch [
+        | then-c-i w ↦ on_diagonal _ _ _ _ w.if-c-i.true w.d-is w.r-is
+        | else-c-i w ↦ off_diagonal _ _ _ _ w.if-c-i.false w.d-is (w.r-is ∙ rw w.abs-r.ensures)
+      ]),
+)
 
 pub returns : goal.returns
 unfolding csr_row

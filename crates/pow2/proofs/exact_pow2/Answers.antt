@@ -12,7 +12,7 @@ pub overflow_cast-result : goal.overflow_cast-result
 overflow_cast-result c = rw (biased_read c.args.e c.requires) (tt, record { fits = omega (arith, (biased c.args.e c.requires).under) })
 
 pub float_from_bits-result : goal.float_from_bits-result
-float_from_bits-result c = finite_pattern _ (returns c)
+float_from_bits-result c = finite_pattern _ (power_pattern c.args.e c.requires)
 
 pub returns : goal.returns
 returns c = power_pattern c.args.e c.requires

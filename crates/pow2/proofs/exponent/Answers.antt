@@ -15,8 +15,8 @@ field-normal-requires c = tt
 
 pub float_to_bits-mag-then-normal-eq0 : goal.float_to_bits-mag-then-normal-eq0
 float_to_bits-mag-then-normal-eq0 c =
-    let is-fit : T (fits binary64 c.args.mag) = subst T (sym c.well_formed.0.1) tt in
-    (lifted_plain _ is-fit c.requires (rw c.field-normal.ensures at c.if-normal-eq0.true)).number
+    let is_fit : T (fits binary64 c.args.mag) = subst T (sym c.well_formed.0.1) tt in
+    (lifted_plain _ is_fit c.requires (rw c.field-normal.ensures at c.if-normal-eq0.true)).number
 
 pub field-requires : goal.field-requires
 field-requires c = tt
@@ -29,3 +29,13 @@ overflow_sub-result-then-normal-eq0 c = next_fits _ _ c.field.ensures (negsuc 53
 
 pub overflow_sub-result-2 : goal.overflow_sub-result-2
 overflow_sub-result-2 c = exp_fits _ _ c.field-normal.ensures
+
+pub returns-then-normal-eq0 : goal.returns-then-normal-eq0
+returns-then-normal-eq0 c =
+    let is_fit : T (fits binary64 c.args.mag) = subst T (sym c.well_formed.0.1) tt in
+    next_is _ _ c.field.ensures (negsuc 53) (lit< tt) ∙ exponent_subnormal _ is_fit c.requires (rw c.field-normal.ensures at c.if-normal-eq0.true)
+
+pub returns : goal.returns
+returns c =
+    let is_fit : T (fits binary64 c.args.mag) = subst T (sym c.well_formed.0.1) tt in
+    exp_is _ _ c.field-normal.ensures ∙ exponent_normal _ is_fit (positive_plain c.args.mag c.requires) (rw c.field-normal.ensures at c.if-normal-eq0.false)

@@ -40,31 +40,31 @@ pub loop-pair-init : goal.loop-pair-init
 loop-pair-init c = (rw (held c.args.exp (omega arith)) (omega (arith, mag_abs c.args.exp)), refl)
 
 pub factors-f-requires : goal.factors-f-requires
-factors-f-requires c = omega (arith, mag_abs (to_z w32 c.loop-pair.e))
+factors-f-requires c = omega (arith, mag_abs (to_z w32 c.loop-pair.e-bits))
 
 pub returns-in-By : goal.returns-in-By
 returns-in-By c =
-    let ends : end (to_z w32 c.loop-pair.e) ≡ end c.args.exp = c.loop-pair.invariant.1 ∙ ap end (held c.args.exp (omega arith)) in
-    found (to_z w32 c.loop-pair.e) _ (sym c.factors-f.ensures ∙ c.in-By.is) ∙ ap scale_of ends
+    let ends : end (to_z w32 c.loop-pair.e-bits) ≡ end c.args.exp = c.loop-pair.invariant.1 ∙ ap end (held c.args.exp (omega arith)) in
+    found (to_z w32 c.loop-pair.e-bits) _ (sym c.factors-f.ensures ∙ c.in-By.is) ∙ ap scale_of ends
 
 pub returns-then-e-eq0 : goal.returns-then-e-eq0
 unfolding of_bits clamp
 returns-then-e-eq0 c =
-    let ends : end (to_z w32 c.loop-pair.e) ≡ end c.args.exp = c.loop-pair.invariant.1 ∙ ap end (held c.args.exp (omega arith)) in
+    let ends : end (to_z w32 c.loop-pair.e-bits) ≡ end c.args.exp = c.loop-pair.invariant.1 ∙ ap end (held c.args.exp (omega arith)) in
     ap (λ (b : ℕ). scale_of (end (to_z w32 b))) (sym c.if-e-eq0.true) ∙ ap scale_of ends
 
 pub signum-e-requires : goal.signum-e-requires
 signum-e-requires c = tt
 
 pub overflow_sub-e : goal.overflow_sub-e
-overflow_sub-e c = moved-fits (to_z w32 c.loop-pair.e) _ _ c.loop-pair.invariant.0 c.factors-f.ensures c.in_default.is c.signum-e.ensures
+overflow_sub-e c = moved-fits (to_z w32 c.loop-pair.e-bits) _ _ c.loop-pair.invariant.0 c.factors-f.ensures c.in_default.is c.signum-e.ensures
 
 pub loop-pair-smaller : goal.loop-pair-smaller
 loop-pair-smaller c =
-    let turned : Step (to_z w32 c.loop-pair.e) (to_z w32 (of_z w32 (to_z w32 c.loop-pair.e -ℤ to_z w32 (of_z w32 c.signum-e.result)))) = turn (to_z w32 c.loop-pair.e) _ _ c.loop-pair.invariant.0 c.factors-f.ensures c.in_default.is c.signum-e.ensures in
+    let turned : Step (to_z w32 c.loop-pair.e-bits) (to_z w32 (of_z w32 ((to_z w32 c.loop-pair.e-bits) -ℤ to_z w32 (of_z w32 c.signum-e.result)))) = turn (to_z w32 c.loop-pair.e-bits) _ _ c.loop-pair.invariant.0 c.factors-f.ensures c.in_default.is c.signum-e.ensures in
     omega (arith, turned.nearer)
 
 pub loop-pair-preserved : goal.loop-pair-preserved
 loop-pair-preserved c =
-    let turned : Step (to_z w32 c.loop-pair.e) (to_z w32 (of_z w32 (to_z w32 c.loop-pair.e -ℤ to_z w32 (of_z w32 c.signum-e.result)))) = turn (to_z w32 c.loop-pair.e) _ _ c.loop-pair.invariant.0 c.factors-f.ensures c.in_default.is c.signum-e.ensures in
+    let turned : Step (to_z w32 c.loop-pair.e-bits) (to_z w32 (of_z w32 ((to_z w32 c.loop-pair.e-bits) -ℤ to_z w32 (of_z w32 c.signum-e.result)))) = turn (to_z w32 c.loop-pair.e-bits) _ _ c.loop-pair.invariant.0 c.factors-f.ensures c.in_default.is c.signum-e.ensures in
     (omega (arith, turned.nearer, c.loop-pair.invariant.0), turned.same ∙ c.loop-pair.invariant.1)

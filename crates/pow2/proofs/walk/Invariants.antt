@@ -18,7 +18,7 @@ use Rattle.pow2.proofs.Toward.{end, found, none_outside, Step, stepped}
 use Rattle.pow2.proofs.walk.Given as goal
 
 abbrev pub invariant-loop-pair : goal.invariant-loop-pair
-invariant-loop-pair l = (nat_abs (to_z w32 l.e) < 2041) × (end (to_z w32 l.e) ≡ end (to_z w32 l.exp))
+invariant-loop-pair l = (nat_abs l.e < 2041) × (end (l.e) ≡ end l.exp)
 
 abbrev pub decreases-loop-pair : goal.decreases-loop-pair
-decreases-loop-pair l = nat_abs (to_z w32 l.e)
+decreases-loop-pair l = nat_abs l.e
