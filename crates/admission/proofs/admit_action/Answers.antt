@@ -1,5 +1,4 @@
 -- `admission::admit_action` meets its contract. Assumes nothing.
-use borrow.Author.Rules.{rules}
 use mathlib.Core.List.{append_assoc}
 use Rattle.combination.specs.Checks.{job_checks}
 use Rattle.admission.proofs.admit_action.Goals as goal

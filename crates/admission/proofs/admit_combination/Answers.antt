@@ -1,5 +1,4 @@
 -- `admission::admit_combination` meets its contract. Assumes nothing.
-use borrow.Author.Rules.{rules}
 use mathlib.Core.Path.{ap}
 use Rattle.combination.specs.Checks.{sweep_checks}
 use Rattle.weighted_columns.specs.declared.Weights.{Weights}

@@ -1,5 +1,4 @@
 -- `start_vectors::init_aug_vector` meets its contract. Assumes nothing.
-use borrow.Author.Rules.{rules}
 use native.Mathlib.Omega.{arith}
 use Prim.Native.Nat.{◌+◌, ◌-◌}
 use mathlib.Core.Path.{refl, ap, ◌∙◌}
@@ -15,7 +14,7 @@ use Rattle.start_vectors.proofs.init_aug_vector.Goals as goal
 pub returns-then-k-eq0 : goal.returns-then-k-eq0
 returns-then-k-eq0 c =
     let a = c.args in
-    c.Clear-in.ensures ∙ ap (splice a.n (replicate 3 +0)) c.copy_from.ensures ∙ at_rest a.n a.v.now a.work.now a.inv a.k (omega arith) c.requires.0
+    c.clear_in.ensures ∙ ap (splice a.n (replicate 3 +0)) c.copy_from.ensures ∙ at_rest a.n a.v.now a.work.now a.inv a.k (omega arith) c.requires.0
 
 pub shape_of-work : goal.shape_of-work
 shape_of-work c =
