@@ -1,15 +1,13 @@
 -- `ambient::run_records` meets its contract. Assumes nothing.
-use borrow.Author.Rules.{rules}
 use native.Mathlib.Omega.{arith}
 use mathlib.Core.Path.{◌≡◌, refl, sym, ap, ◌∙◌}
 use mathlib.Core.List.{List}
-use Prim.Native.Nat.{ℕ, ◌-◌, ◌≤◌, ◌<◌}
+use Prim.Native.Nat.{ℕ, ◌<◌}
 use lib.Dec.{eqb}
 use lib.ListN.{length}
 use lib.Ieee.{Float}
-use Rattle.lists.specs.Walk.{on}
-use Rattle.lists.specs.Window.{window, splice}
-use Rattle.lists.proofs.Walk.{Left, left_start, left_turn}
+use Rattle.lists.specs.Window.{window}
+use Rattle.lists.proofs.Walk.{left_start, left_turn}
 use Rattle.lists.proofs.Window.{splice_nil}
 use Rattle.doubles.specs.F64.{at}
 use Rattle.general_operator.specs.Csr.{Csr, csr}
@@ -20,9 +18,9 @@ use Rattle.taylor_schedule.proofs.Stored.{forward_is}
 use Rattle.taylor_job.specs.declared.TaylorAnswer.{TaylorAnswer}
 use Rattle.ambient_record.specs.Record.{record_call}
 use Rattle.ambient_checks.specs.Inner.{log_of, field_of}
-use Rattle.ambient_turns.specs.Ambient.{record_step, begun}
-use Rattle.ambient_turns.specs.Inner.{turn_at, results_of, shown_in}
-use Rattle.ambient_turns.proofs.Turns.{not_logged, shown_logged, step_is, turn_on, ended_early, ended_last, same_results}
+use Rattle.ambient_turns.specs.Inner.{turn_at, results_of}
+use Rattle.ambient_turns.proofs.Turns.{shown_logged, step_is, turn_on, ended_early, ended_last, same_results}
+use Rattle.ambient_turns.specs.declared.AmbientAnswer.TheVariants.{Logged}
 use Rattle.ambient.proofs.run_records.Goals as goal
 
 pub loop-i-init : goal.loop-i-init
@@ -41,7 +39,7 @@ shape_of-temperatures-in_default c = c.loop-i.invariant.3
 pub returns-in_default : goal.returns-in_default
 returns-in_default c =
     let k = length c.args.durations.now in
-    let n = not_logged c.loop-i.answer c.in-Logged.keys2 in
+    let n : c.loop-i.answer ≡ Logged → ⊥ = c.in_default.not-Logged in
     let e = same_results c.loop-i.i k c.loop-i.answer n in
     record { temperatures_after = ended_early _ c.loop-i.out c.loop-i.work c.loop-i.temperatures c.loop-i.answer n c.loop-i.invariant.6; durations_in_bounds = (omega (arith, e, c.loop-i.invariant.4, c.loop-i.invariant.0), rw (← e) c.loop-i.invariant.5) }
 
@@ -55,6 +53,12 @@ pub record_call-call-requires : goal.record_call-call-requires
 record_call-call-requires c =
     let h = c.requires.logs in
     record { passed = c.requires.passed; field_len = (h.fielded, h.loaded, c.loop-i.invariant.1 ∙ h.out) }
+
+pub settle-answer-requires : goal.settle-answer-requires
+settle-answer-requires c =
+    let t : c.loop-i.i < length c.args.durations.now = c.loop-i-test.true in
+    let h = c.requires.logs in
+    (omega (arith, t, h.most), omega (arith, h.known, h.out, c.loop-i.invariant.1, c.record_call-call.auto.out), omega (arith, t, h.room, c.loop-i.invariant.3))
 
 pub overflow_step-i : goal.overflow_step-i
 overflow_step-i c = omega (arith, c.requires.logs.most)

@@ -1,28 +1,17 @@
 -- `ambient::run_records` meets its contract. Assumes nothing.
-use borrow.Author.Rules.{rules}
-use native.Mathlib.Omega.{arith}
-use mathlib.Core.Path.{◌≡◌, refl, sym, ap, ◌∙◌}
-use mathlib.Core.List.{List}
-use Prim.Native.Nat.{ℕ, ◌-◌, ◌≤◌, ◌<◌}
+use mathlib.Core.Path.{◌≡◌}
+use Prim.Native.Nat.{◌-◌, ◌≤◌}
 use lib.Dec.{eqb}
 use lib.ListN.{length}
-use lib.Ieee.{Float}
 use Rattle.lists.specs.Walk.{on}
-use Rattle.lists.specs.Window.{window, splice}
-use Rattle.lists.proofs.Walk.{Left, left_start, left_turn}
-use Rattle.lists.proofs.Window.{splice_nil}
-use Rattle.doubles.specs.F64.{at}
-use Rattle.general_operator.specs.Csr.{Csr, csr}
-use Rattle.generator_action.specs.Mass.{Mass, given}
-use Rattle.generator_action.specs.Generator.{Generator, forward}
-use Rattle.combination.specs.Call.{Call}
-use Rattle.taylor_schedule.proofs.Stored.{forward_is}
-use Rattle.taylor_job.specs.declared.TaylorAnswer.{TaylorAnswer}
-use Rattle.ambient_record.specs.Record.{record_call}
+use Rattle.lists.specs.Window.{splice}
+use Rattle.lists.proofs.Walk.{Left}
+use Rattle.general_operator.specs.Csr.{csr}
+use Rattle.generator_action.specs.Mass.{given}
+use Rattle.generator_action.specs.Generator.{forward}
 use Rattle.ambient_checks.specs.Inner.{log_of, field_of}
 use Rattle.ambient_turns.specs.Ambient.{record_step, begun}
 use Rattle.ambient_turns.specs.Inner.{turn_at, results_of, shown_in}
-use Rattle.ambient_turns.proofs.Turns.{not_logged, shown_logged, step_is, turn_on, ended_early, ended_last, same_results}
 use Rattle.ambient.proofs.run_records.Given as goal
 
 abbrev pub invariant-loop-i : goal.invariant-loop-i
