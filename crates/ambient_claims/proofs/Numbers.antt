@@ -1,4 +1,5 @@
 -- Which refusals occur: 23 never, 26 at record 1 alone; and when 38 to 40 pass. Assumes nothing.
+use Rattle.std.specs.Prelude.{if◌then◌else◌}
 use mathlib.Core.Path.{◌≡◌, refl, sym, ap, ◌∙◌}
 use mathlib.Core.Bool.{Bool, true, false}
 use mathlib.Core.Option.{none, some}
@@ -10,7 +11,7 @@ use lib.ListN.{length}
 use lib.Ieee.{Float, nan}
 use borrow.Author.Tests.{ne_eqb, le-ltb, lt-ltb, lt-leb, ltb-true}
 use Rattle.vectors.specs.Vectors.{scale}
-use Rattle.doubles.specs.F64.{if◌then◌else◌, at}
+use Rattle.doubles.specs.F64.{at}
 use Rattle.checks.specs.First.{Check, first, before}
 use Rattle.checks.specs.declared.Checked.{Checked}
 use Rattle.checks.specs.declared.Checked.TheVariants.{Sound, Refused}

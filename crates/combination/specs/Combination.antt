@@ -1,10 +1,10 @@
 -- What a combination and an action are made of: weights, scaling, start (phi_action.rs, `weighted_columns`, `eta_scaled_columns`,
 -- `init_aug_vector`). Definitions only.
-use Rattle.std.specs.Prelude.{List, [], ◌∷◌, ◌++◌, ℕ, zero, suc, ◌+◌, ◌-◌, ◌*◌, ltb, drop, replicate, set, Float}
+use Rattle.std.specs.Prelude.{List, [], ◌∷◌, ◌++◌, ℕ, zero, suc, ◌+◌, ◌-◌, ◌*◌, ltb, drop, replicate, set, Float, if◌then◌else◌}
 use Rattle.std.specs.Float.Ieee.{eq}
 use Rattle.lists.specs.Loop.{iter, tabulate}
 use Rattle.lists.specs.Window.{window}
-use Rattle.doubles.specs.F64.{if◌then◌else◌, ◌⊕◌, ◌⊗◌, +0, 1f}
+use Rattle.doubles.specs.F64.{◌⊕◌, ◌⊗◌, +0, 1f}
 use Rattle.power.specs.Power.{power, open_power}
 use Rattle.pow2.specs.Pow2.{sup, eta_scaling, open_pow2}
 use Rattle.pow2.specs.declared.Scaling.{Scaling}

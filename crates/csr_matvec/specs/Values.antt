@@ -1,10 +1,10 @@
 -- Where the generator's values lie: with a mass the quotients stand in the lent memory, without one the entries are the caller's; and its product
 -- by a factor. Definitions only.
-use Rattle.std.specs.Prelude.{Bool, true, false, List, ℕ, ◌+◌, ◌≤◌, length, Float}
+use Rattle.std.specs.Prelude.{Bool, true, false, List, ℕ, ◌+◌, ◌≤◌, length, Float, if◌then◌else◌}
 use Rattle.lists.specs.Loop.{tabulate}
 use Rattle.lists.specs.Window.{window}
 use Rattle.lists.specs.Bounds.{Disjoint}
-use Rattle.doubles.specs.F64.{if◌then◌else◌, ◌⊗◌}
+use Rattle.doubles.specs.F64.{◌⊗◌}
 use Rattle.general_operator.specs.Csr.{Csr, start, row_product}
 
 -- with a mass, as many values as there are entries, from place `at`

@@ -1,10 +1,10 @@
 -- The diagonal shift of the generator: the midpoint of its Gershgorin hull (csr_shift.rs, `csr_row`, `midpoint_shift`; phi_shift.rs,
 -- `negated_csr_shift`). Definitions only.
-use Rattle.std.specs.Prelude.{Bool, not, ◌&&◌, ◌||◌, ℕ, ◌+◌, ◌-◌, eqb, get_or}
+use Rattle.std.specs.Prelude.{Bool, not, ◌&&◌, ◌||◌, ℕ, ◌+◌, ◌-◌, eqb, get_or, if◌then◌else◌}
 use lib.Ieee.{Float, neg, eq, is_nan}
 use Rattle.lists.specs.Loop.{iter}
 use Rattle.lists.specs.Find.{exists, open_find}
-use Rattle.doubles.specs.F64.{if◌then◌else◌, ◌⊕◌, ◌⊖◌, ◌⊗◌, ◌⋖◌, bits, +0, 1/2f, +∞, at, abs, is_finite, max_num, min_num}
+use Rattle.doubles.specs.F64.{◌⊕◌, ◌⊖◌, ◌⊗◌, ◌⋖◌, bits, +0, 1/2f, +∞, at, abs, is_finite, max_num, min_num}
 use Rattle.general_operator.specs.Csr.{Csr, start, open_csr}
 use Rattle.csr_shift.specs.declared.Row.{Row}
 use Rattle.csr_shift.specs.declared.Shift.{Shift}

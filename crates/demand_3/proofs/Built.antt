@@ -3,7 +3,7 @@ use mathlib.Core.Path.{◌≡◌, refl, sym, ap, ◌∙◌, subst}
 use mathlib.Core.Bool.{Bool, true, false}
 use mathlib.Core.Logic.{◌⊎◌, inl, inr, ⊎_elim}
 use mathlib.Core.List.{List, [], ◌∷◌, ◌++◌, map}
-use Prim.Native.Nat.{ℕ, zero, suc, ◌+◌, ◌-◌, ◌≤◌, ◌<◌}
+use Prim.Native.Nat.{ℕ, zero, suc, ◌+◌, ◌-◌, ◌<◌}
 use native.Mathlib.Nat.{not-suc-le-zero, zero-add}
 use native.Mathlib.Omega.{arith}
 use lib.ListN.{length, length-map, length-append, get_or, get_or-append}
@@ -14,10 +14,10 @@ use Rattle.lists.proofs.Walk.{Kept, walk_keeps}
 use Rattle.doubles.specs.F64.{◌⊘◌, 1f}
 use Rattle.vectors.specs.Vectors.{axpy, scale}
 use Rattle.dot.specs.Dot.{dot}
-use Rattle.gram_schmidt.specs.Basis.{Setting, dim, Columns, Rest, Breakdown, Basis, breakdown, full, norm2, apply, lessen, orthogonal, rest, extend, arnoldi_step, close, first_column, arnoldi}
+use Rattle.gram_schmidt.specs.Basis.{Setting, dim, Columns, Rest, Breakdown, norm2, apply, lessen, orthogonal, rest, extend, arnoldi_step, close, first_column, arnoldi}
 use Rattle.gram_schmidt.proofs.GramSchmidt.{orthogonal_ext}
 use Rattle.krylov_advance.specs.Run.{columns_of}
-use Rattle.demand_3.specs.Krylov.{euclidean, left_of, Built, Based, Begun}
+use Rattle.demand_3.specs.Krylov.{left_of, Built, Based, Begun}
 
 -- what is left of a product does not depend on h
 z_only : (v : ℕ → List Float) (n j i : ℕ) (r r' : Rest) → r.z ≡ r'.z → (orthogonal v n j i r).z ≡ (orthogonal v n j i r').z

@@ -12,7 +12,7 @@ use Rattle.doubles.specs.F64.{◌⊕◌, ◌⊖◌, ◌⊗◌, +0, 1f, max_num}
 use Rattle.gram_schmidt.specs.Basis.{Setting, Basis, norm2, apply, arnoldi}
 use Rattle.trial_steps.specs.Trials.{Trying, Tried, accepted, stuck, trials}
 use Rattle.trial_steps.proofs.Few.{Few, trials_few}
-use Rattle.krylov_advance.specs.Run.{State, End, finished, refused, EPSILON, applied_of, columns_of, combined, shorter, counted, advance, unfinished, standing, settle, substep, started}
+use Rattle.krylov_advance.specs.Run.{State, End, finished, refused, EPSILON, applied_of, columns_of, shorter, counted, advance, unfinished, standing, settle, substep, started}
 use Rattle.krylov_advance.proofs.Turns.{applied_few, each_once}
 use Rattle.demand_3.specs.Trace.{Accepted, accepted_in, made, runs, trace, total, time_after, last_after, field_after, estimate_after, Run, status_of, accepted_by}
 use Rattle.demand_3.specs.Krylov.{Each}

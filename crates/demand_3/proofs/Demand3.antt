@@ -1,5 +1,5 @@
 -- Demand 3, one claim on whole runs of the four calls (document 01, 'What demand 3 counts'). Assumes nothing.
-use mathlib.Core.Path.{◌≡◌, refl, sym, ap, ◌∙◌, subst}
+use mathlib.Core.Path.{◌≡◌, refl, ap, ◌∙◌, subst}
 use mathlib.Core.Bool.{Bool, true, false}
 use mathlib.Core.List.{List, []}
 use mathlib.Core.Option.{none, some}
@@ -34,7 +34,7 @@ use Rattle.taylor_schedule.proofs.Admitted.{vectors_known, first_within, length_
 use Rattle.gram_schmidt.specs.Basis.{norm2}
 use Rattle.krylov_advance.specs.Run.{State, End, finished, refused, clamp_m, idle}
 use Rattle.krylov_advance.specs.declared.KrylovPhiReport.{KrylovPhiReport}
-use Rattle.krylov_job.specs.KrylovCall.{bound, dimension, option_checks, bound_checks, run_checks, krylov_need, krylov_checks_by, krylov_checks, after_run, combination_run_krylov, phi_combination_krylov}
+use Rattle.krylov_job.specs.KrylovCall.{dimension, option_checks, bound_checks, run_checks, krylov_need, krylov_checks_by, krylov_checks, after_run, combination_run_krylov, phi_combination_krylov}
 use Rattle.krylov_job.specs.declared.KrylovPhiOptions.{KrylovPhiOptions}
 use Rattle.krylov_job.specs.declared.KrylovAnswer.{KrylovAnswer}
 use Rattle.krylov_job.specs.declared.KrylovAnswer.TheVariants.{Refusal, Result}

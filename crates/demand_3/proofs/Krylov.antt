@@ -1,4 +1,5 @@
 -- The Krylov half of demand 3 for `expv`: what a run that gave a result did, and 27 exactly at the limit. Assumes nothing.
+use Rattle.std.specs.Prelude.{if◌then◌else◌}
 use mathlib.Core.Path.{◌≡◌, refl, sym, ap, ◌∙◌, subst}
 use mathlib.Core.Logic.{◌⊎◌, inl, inr}
 use mathlib.Core.Bool.{Bool, true, false}
@@ -11,7 +12,7 @@ use lib.ListN.{length, replicate, length-replicate}
 use lib.Ieee.{Float, eq}
 use Rattle.lists.specs.Walk.{Turn, on, out}
 use Rattle.lists.specs.Window.{window}
-use Rattle.doubles.specs.F64.{if◌then◌else◌, ◌⋖◌, +0, 1f, at, is_finite}
+use Rattle.doubles.specs.F64.{◌⋖◌, +0, 1f, at, is_finite}
 use Rattle.pow2.specs.Pow2.{sup, pow2_scale}
 use Rattle.pow2.specs.declared.Scale.{Scale}
 use Rattle.pow2.specs.declared.Prescale.{Prescale}

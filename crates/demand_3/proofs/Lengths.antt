@@ -3,10 +3,7 @@ use mathlib.Core.Path.{◌≡◌, refl, sym, ap, ◌∙◌, subst}
 use mathlib.Core.Logic.{◌⊎◌, inl, inr}
 use mathlib.Core.Bool.{Bool, true, false, not, ◌&&◌, cond, true≢false}
 use mathlib.Core.List.{List, [], ◌∷◌, ◌++◌, map}
-use Prim.Native.Nat.{ℕ, zero, suc, ◌+◌, ◌-◌, ◌≤◌, ◌<◌}
-use native.Mathlib.Nat.{not-suc-le-zero}
-use native.Mathlib.Omega.{arith}
-use lib.ListN.{length, length-map, get_or}
+use Prim.Native.Nat.{ℕ, zero, suc, ◌+◌, ◌≤◌}
 use lib.Dec.{T}
 use lib.Ieee.{Float, nan, inf, fin, binary64, mul, le, lt, eq, fits, of_bits}
 use lib.Ieee.Fits.{add-fits, sub-fits, and_r}
@@ -23,7 +20,7 @@ use Rattle.retry.specs.Retry.{accepts, retry}
 use Rattle.retry.proofs.Length.{retry_above, retry_fits, retry_nan, retry_at_most}
 use Rattle.trial_steps.proofs.Error.{error_clear}
 use Rattle.hess_exp.specs.HessExp.{Small, unplanned, column, hess_exp_e1}
-use Rattle.gram_schmidt.specs.Basis.{Setting, dim, Basis, breakdown, full, norm2, apply, arnoldi}
+use Rattle.gram_schmidt.specs.Basis.{Setting, dim, Basis, breakdown, full, norm2, apply}
 use Rattle.trial_steps.specs.declared.Estimate.{Estimate}
 use Rattle.trial_steps.specs.Trials.{Trying, Tried, accepted, stuck, local_error, verdict, judge, try_step, exact_step, trials}
 use Rattle.krylov_advance.specs.Run.{State, End, finished, refused, applied_of, columns_of, advance, unfinished, standing, settle, substep, first_length, started}
@@ -290,7 +287,7 @@ walk_lands : (step : ℕ → Trying → Turn Trying Tried) (time : Float) → ((
     → (k i : ℕ) (o : Turn Trying Tried) (x : Attempt) → x.time ≡ time → Says x.t o → Lands time (x ∷ lengths step time k i o) (walk step k i o)
 unfolding walk lengths
 walk_lands step time one zero i (on s) x e h = tt
-walk_lands step time one (suc k) i (on s) x e h = lands_more time x _ (walk step k (i + 1) (step i s)) e (walk_lands step time one k (i + 1) (step i s) (record { time = time; t = s.t }) refl (one i s))
+walk_lands step time one (suc k) i (on s) x e h = lands_more time x (record { time = time; t = s.t } ∷ lengths step time k (i + 1) (step i s)) (walk step k (i + 1) (step i s)) e (walk_lands step time one k (i + 1) (step i s) (record { time = time; t = s.t }) refl (one i s))
 walk_lands step time one zero i (out (stuck arg)) x e h = tt
 walk_lands step time one (suc k) i (out (stuck arg)) x e h = tt
 walk_lands step time one zero i (out (accepted r t f err)) x e h = (e, h)

@@ -1,15 +1,16 @@
 -- The sweeps of a plan make the products that are named, s × m from each start, and give the fields that these make. Assumes nothing.
+use Rattle.std.specs.Prelude.{if◌then◌else◌}
 use mathlib.Core.Path.{◌≡◌, refl, sym, ap, ◌∙◌}
 use mathlib.Core.List.{List, ◌++◌}
-use Prim.Native.Nat.{ℕ, zero, suc, ◌+◌, ◌*◌}
+use Prim.Native.Nat.{ℕ, zero, suc, ◌*◌}
 use native.Mathlib.Omega.{arith}
 use native.Mathlib.Nat.{zero-mul, suc-mul, one-mul}
 use lib.ListN.{length, length-append}
 use lib.Ieee.{Float}
-use Rattle.lists.specs.Loop.{iter, tabulate, zip_with, stack}
+use Rattle.lists.specs.Loop.{iter, zip_with, stack}
 use Rattle.lists.specs.Window.{window}
 use Rattle.lists.proofs.Loop.{length_tabulate}
-use Rattle.doubles.specs.F64.{if◌then◌else◌, ◌⊕◌}
+use Rattle.doubles.specs.F64.{◌⊕◌}
 use Rattle.vectors.specs.Vectors.{scale}
 use Rattle.phi_action_helpers.specs.Augmented.{Augmented}
 use Rattle.phi_action_helpers.specs.Sweeps.{shifted, rescale, Horner, horner_step, aug_horner_outer, Swept, sweep, run_sweeps}

@@ -1,5 +1,6 @@
 -- The n + d values from which an accepted combination starts are finite. Assumes nothing.
-use mathlib.Core.Path.{◌≡◌, refl, sym, ap, ◌∙◌, subst}
+use Rattle.std.specs.Prelude.{if◌then◌else◌}
+use mathlib.Core.Path.{◌≡◌, refl, sym, ap, subst}
 use mathlib.Core.Bool.{Bool, true, false, not, ◌&&◌}
 use mathlib.Core.List.{List, [], ◌∷◌, ◌++◌}
 use Prim.Native.Nat.{ℕ, zero, suc, ◌+◌, ◌*◌, ◌≤◌, ◌<◌}
@@ -9,17 +10,16 @@ use lib.IntN.{ℤ, pos, negsuc}
 use lib.ListN.{length, replicate, length-replicate, get_or-replicate}
 use lib.Ieee.{Float, nan, of_bits}
 use borrow.Author.Tests.{not-false}
-use Rattle.lists.specs.Find.{find, exists}
 use Rattle.lists.proofs.Find.{none_below}
 use Rattle.lists.proofs.Window.{length_window, get_d_window}
-use Rattle.doubles.specs.F64.{if◌then◌else◌, ◌⋖◌, +0, 1f, at, is_finite}
+use Rattle.doubles.specs.F64.{◌⋖◌, +0, 1f, at, is_finite}
 use Rattle.checks.specs.First.{Check, first}
 use Rattle.checks.specs.declared.Checked.TheVariants.{Sound}
 use Rattle.checks.proofs.First.{sound_cons, sound_append}
 use Rattle.pow2.specs.Pow2.{eta_scaling}
 use Rattle.pow2.specs.Pow2 as pow2
 use Rattle.combination.specs.Combination.{vector, eta_of, combination_start}
-use Rattle.combination.specs.Checks.{not_finite_at, count_checks, time_checks, length_checks, finite_checks, vector_checks_by, vector_checks}
+use Rattle.combination.specs.Checks.{not_finite_at, count_checks, length_checks, finite_checks, vector_checks_by, vector_checks}
 
 abbrev Finite : List Float → Type 0
 Finite y = (i : ℕ) → i < length y → is_finite (at y i) ≡ true

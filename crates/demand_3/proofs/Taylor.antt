@@ -43,7 +43,7 @@ use Rattle.taylor_job.specs.declared.TaylorReport.{TaylorReport}
 use Rattle.taylor_job.specs.declared.TaylorAnswer.{TaylorAnswer}
 use Rattle.taylor_job.specs.declared.TaylorAnswer.TheVariants.{Refusal, Result}
 use Rattle.taylor_job.specs.Calls.{Fields, after_plan, combination_checks, combination_run, phi_combination, action_checks, phi_action, phi_action_batched}
-use Rattle.demand_3.specs.Taylor.{norm_of, row_fits, TaylorCost, NoRowFits, Exactly25, DegreeRefused, Exactly33, ValueRefused, Exactly17, TaylorClaim}
+use Rattle.demand_3.specs.Taylor.{norm_of, row_fits, TaylorCost, NoRowFits, Exactly25, Exactly33, ValueRefused, Exactly17, TaylorClaim}
 use Rattle.demand_3.specs.Demand3.{start_of, operator_of, action_start, action_of}
 use Rattle.demand_3.proofs.Products.{Made, one_made, batch_made}
 

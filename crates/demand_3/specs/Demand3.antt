@@ -1,12 +1,12 @@
 -- Demand 3, one claim on whole runs of the four calls (document 01, 'What demand 3 counts'). Definitions only.
-use Rattle.std.specs.Prelude.{◌≡◌, List, ◌++◌, ℕ, suc, ◌+◌, ◌-◌, ◌*◌, min, ltb, length, Float}
+use Rattle.std.specs.Prelude.{◌≡◌, List, ◌++◌, ℕ, suc, ◌+◌, ◌-◌, ◌*◌, min, ltb, length, Float, if◌then◌else◌}
 use Rattle.general_operator.specs.Csr.{row_sum_norm, apply_generator}
 use Rattle.generator_action.specs.Generator.{Generator}
 use Rattle.pow2.specs.Pow2.{sup, eta_scaling}
 use Rattle.phi_action_helpers.specs.Augmented.{Augmented, top, bottom, aug_matvec}
 use Rattle.phi_action_helpers.specs.declared.Scales.{Scales}
 use Rattle.lists.specs.Window.{window}
-use Rattle.doubles.specs.F64.{if◌then◌else◌, +0}
+use Rattle.doubles.specs.F64.{+0}
 use Rattle.checks.specs.First.{first}
 use Rattle.checks.specs.declared.Checked.TheVariants.{Sound}
 use Rattle.combination.specs.Combination.{further, eta_of, combination_operator, combination_start, action_operator, init_aug_vector}

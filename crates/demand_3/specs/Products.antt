@@ -1,7 +1,7 @@
 -- What Taylor sweeps make, product by product (phi_action_helpers.rs, `run_sweeps`; Al-Mohy and Higham 2011, Algorithm 3.2 without its early stop). Definitions only.
-use Rattle.std.specs.Prelude.{List, ℕ, zero, suc, ◌+◌, Float}
+use Rattle.std.specs.Prelude.{List, ℕ, zero, suc, ◌+◌, Float, if◌then◌else◌}
 use Rattle.lists.specs.Loop.{iter, tabulate, zip_with, stack}
-use Rattle.doubles.specs.F64.{if◌then◌else◌, ◌⊕◌}
+use Rattle.doubles.specs.F64.{◌⊕◌}
 use Rattle.vectors.specs.Vectors.{scale}
 use Rattle.phi_action_helpers.specs.Augmented.{Augmented, aug_matvec}
 use Rattle.phi_action_helpers.specs.Sweeps.{shifted, scales, rescale}

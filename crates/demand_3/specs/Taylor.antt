@@ -1,5 +1,5 @@
 -- The Taylor half of demand 3: what an accepted job did, and when 25 refuses (document 01, 'What demand 3 counts'). Definitions only.
-use Rattle.std.specs.Prelude.{◌≡◌, ◌⊎◌, Bool, true, false, ◌&&◌, List, [], ◌∷◌, ℕ, ◌*◌, ◌^◌, ◌≤◌, ◌<◌, leb, length, get_or, Float}
+use Rattle.std.specs.Prelude.{◌≡◌, ◌⊎◌, Bool, true, false, ◌&&◌, List, [], ◌∷◌, ℕ, ◌*◌, ◌^◌, ◌≤◌, ◌<◌, leb, length, get_or, Float, if◌then◌else◌}
 use Rattle.std.specs.Float.{nan, binary64}
 use Rattle.std.specs.Float.Ieee.{round, to_unsigned}
 use Rattle.lists.specs.Loop.{stack}
@@ -7,7 +7,7 @@ use Rattle.lists.specs.Window.{window}
 use Rattle.checks.specs.First.{Check, first, before}
 use Rattle.checks.specs.declared.Checked.TheVariants.{Sound}
 use Rattle.general_operator.specs.Csr.{row_sum_norm}
-use Rattle.doubles.specs.F64.{if◌then◌else◌, ◌⊕◌, ◌⊗◌, ◌⊘◌, ◌⩽◌, ◌⋖◌, 1f, 2f, nat, at, is_finite}
+use Rattle.doubles.specs.F64.{◌⊕◌, ◌⊗◌, ◌⊘◌, ◌⩽◌, ◌⋖◌, 1f, 2f, nat, at, is_finite}
 use Rattle.doubles.specs.Whole.{ceil}
 use Rattle.expmv.specs.Select.{degrees, thetas, admissible, sweeps, cost}
 use Rattle.phi_action_helpers.specs.Augmented.{Augmented}

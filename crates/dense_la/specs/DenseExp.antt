@@ -1,7 +1,7 @@
 -- The Rust's `dense_exp` (dense_la.rs) with k = 1 and h = 1: scaling, 18 terms of the series, squarings. Definitions only.
-use Rattle.std.specs.Prelude.{Bool, true, false, ℕ, zero, suc, ◌+◌, Float}
+use Rattle.std.specs.Prelude.{Bool, true, false, ℕ, zero, suc, ◌+◌, Float, if◌then◌else◌}
 use Rattle.lists.specs.Loop.{iter}
-use Rattle.doubles.specs.F64.{if◌then◌else◌, ◌⊕◌, ◌⊗◌, ◌⊘◌, ◌⋖◌, nat, +0, 1f, 1/2f, abs}
+use Rattle.doubles.specs.F64.{◌⊕◌, ◌⊗◌, ◌⊘◌, ◌⋖◌, nat, +0, 1f, 1/2f, abs}
 
 -- `matmul` of 1 × 1 matrices: the product is added to an entry that starts at +0
 abbrev pub matmul : Float → Float → Float

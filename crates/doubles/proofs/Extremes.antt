@@ -1,4 +1,5 @@
 -- `replaced`, of which the maximum and the minimum are made. Assumes nothing.
+use Rattle.std.specs.Prelude.{if◌then◌else◌}
 use mathlib.Core.Path.{◌≡◌, refl, sym, ap, ◌∙◌, subst}
 use mathlib.Core.Bool.{Bool, true, false, not, true≢false}
 use mathlib.Core.Logic.{◌⊎◌, inl, inr}
@@ -6,7 +7,7 @@ use lib.Dec.{T}
 use lib.Ieee.{Float, nan, inf, fin, ne, lt, is_nan}
 use lib.Ieee.Bits.{is_true}
 use lib.Ieee.Compare.{nan_differs}
-use Rattle.doubles.specs.F64.{if◌then◌else◌, ◌⩽◌, ◌⋖◌, abs, is_finite, nonneg, replaced, min_num, max_num}
+use Rattle.doubles.specs.F64.{◌⩽◌, ◌⋖◌, abs, is_finite, nonneg, replaced, min_num, max_num}
 use Rattle.doubles.proofs.Magnitude.{nan_of_ne}
 use Rattle.doubles.proofs.Total.{⩽_or_⋖, ⋖_⩽}
 

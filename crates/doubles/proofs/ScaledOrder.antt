@@ -1,4 +1,5 @@
 -- A common power of two changes no comparison, and goes through sizes and maxima. Assumes nothing.
+use Rattle.std.specs.Prelude.{if◌then◌else◌}
 use mathlib.Core.Path.{◌≡◌, refl, sym, ap, ◌∙◌, subst}
 use Prim.Native.Nat.{ℕ, ◌+◌, ◌*◌, ◌^◌, ◌<◌}
 use native.Mathlib.Nat.{mul_comm, mul_assoc, mul_right_comm, mul-pos, zero-mul, add-mul, eq_of_mul-eq-mul_right}
@@ -8,7 +9,7 @@ use lib.Pow.{pow_pos}
 use lib.Ieee.{Float, nan, inf, fin, up, down, below, level, lt, eq}
 use lib.Ieee.Fits.{down_pos, eq→eqb}
 use lib.Ieee.Exact.{HasValue}
-use Rattle.doubles.specs.F64.{if◌then◌else◌, ◌⋖◌, abs, replaced, max_num}
+use Rattle.doubles.specs.F64.{◌⋖◌, abs, replaced, max_num}
 use Rattle.doubles.proofs.Total.{bool_eq}
 use Rattle.doubles.proofs.Magnitude.{abs_fits}
 use Rattle.doubles.proofs.OneRounding.{ltb_times}

@@ -1,17 +1,13 @@
 -- Doubles: Rust's operators under short signs, each the operation of `lib.Ieee` at binary64, rounded once. Definitions only.
-use Rattle.std.specs.Prelude.{Bool, true, false, not, cond, List, ℕ, pos, get_or}
+use Rattle.std.specs.Prelude.{Bool, true, false, not, List, ℕ, pos, get_or, if◌then◌else◌}
 use lib.Ieee.{Float, nan, inf, fin, binary64, add, sub, mul, div, lt, le, of_int, of_bits}
 
-infix 20 if◌then◌else◌
 infixl 65 ◌⊕◌
 infixl 65 ◌⊖◌
 infixl 70 ◌⊗◌
 infixl 70 ◌⊘◌
 infix 50 ◌⋖◌
 infix 50 ◌⩽◌
-abbrev pub if◌then◌else◌ : {A : Type 0} → Bool → A → A → A
-if◌then◌else◌ b x y = cond b x y
-
 abbrev pub ◌⊕◌ : Float → Float → Float
 ◌⊕◌ x y = add binary64 x y
 

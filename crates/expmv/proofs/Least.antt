@@ -1,4 +1,5 @@
 -- `select_s_m` takes the first admissible row of least cost, and none exactly where it may take none. Assumes nothing.
+use Rattle.std.specs.Prelude.{if◌then◌else◌}
 use mathlib.Core.Path.{◌≡◌, refl, sym, ◌∙◌, subst}
 use mathlib.Core.Bool.{Bool, true, false, ◌&&◌, cond, true≢false}
 use mathlib.Core.Logic.{⊎_elim}
@@ -9,7 +10,7 @@ use lib.Dec.{ltb}
 use lib.Ieee.{Float}
 use borrow.Author.Tests.{ltb-true, ltb-false}
 use Rattle.lists.specs.Loop.{iter}
-use Rattle.doubles.specs.F64.{if◌then◌else◌, ◌⋖◌, +0, is_finite}
+use Rattle.doubles.specs.F64.{◌⋖◌, +0, is_finite}
 use Rattle.expmv.specs.declared.Selected.{Selected}
 use Rattle.expmv.specs.declared.Selected.TheVariants.{NoRow, Row}
 use Rattle.expmv.specs.Select.{degree, admissible, sweeps, cost, cheaper, consider, select_s_m, Bounds, Least}

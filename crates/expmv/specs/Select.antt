@@ -1,9 +1,9 @@
 -- `select_s_m` over `THETA_M` (expmv.rs; Al-Mohy and Higham 2011, Table 3.1 and Algorithm 3.2). Definitions only.
-use Rattle.std.specs.Prelude.{Bool, true, false, not, ◌&&◌, ◌≡◌, List, [], ◌∷◌, ℕ, ◌*◌, ◌^◌, ◌≤◌, ◌<◌, leb, ltb, get_or, Float}
+use Rattle.std.specs.Prelude.{Bool, true, false, not, ◌&&◌, ◌≡◌, List, [], ◌∷◌, ℕ, ◌*◌, ◌^◌, ◌≤◌, ◌<◌, leb, ltb, get_or, Float, if◌then◌else◌}
 use Rattle.std.specs.Float.{nan, binary64}
 use Rattle.std.specs.Float.Ieee.{round, to_unsigned}
 use Rattle.lists.specs.Loop.{iter, open_loop}
-use Rattle.doubles.specs.F64.{if◌then◌else◌, ◌⊘◌, ◌⋖◌, ◌⩽◌, nat, +0, 1f, is_finite, open_f64}
+use Rattle.doubles.specs.F64.{◌⊘◌, ◌⋖◌, ◌⩽◌, nat, +0, 1f, is_finite, open_f64}
 use Rattle.doubles.specs.Whole.{ceil, open_whole}
 use Rattle.expmv.specs.declared.Selected.{Selected}
 use Rattle.expmv.specs.declared.Selected.TheVariants.{NoRow, Row}

@@ -1,4 +1,6 @@
 // A soak under a changing ambient level for programs in other languages: straight on slices, with no copy and no memory of its own.
+#![tactic(auto)]
+
 ghost use Rattle.std.specs.Prelude.{◌≡◌};
 ghost use Rattle.general_operator.specs.Csr.{csr};
 ghost use Rattle.generator_action.specs.Mass.{given};

@@ -1,4 +1,5 @@
 -- A start and a step as they are told. Assumes nothing.
+use Rattle.std.specs.Prelude.{if◌then◌else◌}
 use mathlib.Core.Path.{◌≡◌, refl, sym, ap, ◌∙◌}
 use mathlib.Core.Bool.{Bool, true, false, not}
 use mathlib.Core.List.{List, [], ◌∷◌, ◌++◌, append_assoc}
@@ -11,7 +12,6 @@ use lib.Ieee.{Float, nan}
 use borrow.Author.Tests.{ne_eqb}
 use Rattle.lists.specs.Window.{window, splice}
 use Rattle.lists.proofs.Window.{length_window, splice_whole, splice_nil, splice_parts}
-use Rattle.doubles.specs.F64.{if◌then◌else◌}
 use Rattle.checks.specs.First.{Check, refuse, first}
 use Rattle.checks.proofs.First.{and_then, first_append, sound_append}
 use Rattle.checks.specs.declared.Checked.{Checked}

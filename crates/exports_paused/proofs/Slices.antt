@@ -1,4 +1,5 @@
 -- A run in two slices. Assumes nothing.
+use Rattle.std.specs.Prelude.{if◌then◌else◌}
 use mathlib.Core.Path.{◌≡◌, refl, sym, ap, ◌∙◌}
 use mathlib.Core.Bool.{Bool, true, false, ◌&&◌}
 use mathlib.Core.List.{List, [], ◌∷◌}
@@ -11,7 +12,6 @@ use borrow.Author.Tests.{eqb-true, eq-eqb}
 use Rattle.lists.specs.Window.{splice}
 use Rattle.lists.proofs.Tests.{and_both}
 use Rattle.lists.proofs.Window.{set_splice, splice_snoc, splice_whole}
-use Rattle.doubles.specs.F64.{if◌then◌else◌}
 use Rattle.paused_run.specs.declared.PausedRun.{PausedRun}
 use Rattle.exports_paused.specs.Told.{numbers_of, counts_of, fits, state, written}
 

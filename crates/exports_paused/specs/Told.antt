@@ -1,7 +1,7 @@
 -- A paused run as ten doubles and eight numbers, and a start and a step as an exported function hands them back (document 02, N5). Definitions only.
-use Rattle.std.specs.Prelude.{Bool, true, false, not, ◌&&◌, List, [], ◌∷◌, ◌++◌, ℕ, eqb, ltb, length, get_or, Float}
+use Rattle.std.specs.Prelude.{Bool, true, false, not, ◌&&◌, List, [], ◌∷◌, ◌++◌, ℕ, eqb, ltb, length, get_or, Float, if◌then◌else◌}
 use Rattle.std.specs.Float.{nan}
-use Rattle.doubles.specs.F64.{if◌then◌else◌, +0, 1f, at}
+use Rattle.doubles.specs.F64.{+0, 1f, at}
 use Rattle.checks.specs.First.{Check, refuse, first}
 use Rattle.krylov_advance.specs.Run.{empty_report}
 use Rattle.krylov_job.specs.declared.KrylovPhiOptions.{KrylovPhiOptions}

@@ -1,6 +1,5 @@
 // Paused runs for programs in other languages, straight on slices: a run crosses as ten doubles and eight numbers.
-ghost use Rattle.std.specs.Prelude.{◌≡◌, ℕ, zero, length, Float};
-ghost use Rattle.doubles.specs.F64.{if◌then◌else◌};
+ghost use Rattle.std.specs.Prelude.{◌≡◌, ℕ, zero, length, Float, if◌then◌else◌};
 ghost use Rattle.general_operator.specs.Csr.{csr};
 ghost use Rattle.generator_action.specs.Mass.{given};
 ghost use Rattle.generator_action.specs.Generator.{forward};

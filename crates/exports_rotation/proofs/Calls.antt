@@ -1,4 +1,5 @@
 -- A join and a turn as they are told. Assumes nothing.
+use Rattle.std.specs.Prelude.{if◌then◌else◌}
 use mathlib.Core.Path.{◌≡◌, refl, sym, ap, ◌∙◌}
 use mathlib.Core.Bool.{Bool, true, false, ◌&&◌, true≢false}
 use mathlib.Core.List.{List, [], ◌∷◌, ◌++◌}
@@ -13,7 +14,6 @@ use Rattle.lists.specs.Find.{find}
 use Rattle.lists.specs.Loop.{tabulate}
 use Rattle.lists.specs.Window.{window, splice}
 use Rattle.lists.proofs.Window.{splice_whole, splice_nil}
-use Rattle.doubles.specs.F64.{if◌then◌else◌}
 use Rattle.checks.specs.First.{first}
 use Rattle.checks.specs.declared.Checked.{Checked}
 use Rattle.checks.specs.declared.Checked.TheVariants.{Sound, Refused}

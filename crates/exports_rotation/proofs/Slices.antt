@@ -1,4 +1,5 @@
 -- A unit comes back from its slices as it was left (document 02, N6). Assumes nothing.
+use Rattle.std.specs.Prelude.{if◌then◌else◌}
 use mathlib.Core.Path.{◌≡◌, refl, sym, ap, ◌∙◌}
 use mathlib.Core.Logic.{inl, inr}
 use mathlib.Core.Bool.{Bool, true, false, not, true≢false}
@@ -14,7 +15,6 @@ use borrow.Author.Tests.{eqb-true, eqb-false, lt-ltb}
 use Rattle.lists.specs.Loop.{tabulate, stack}
 use Rattle.lists.specs.Window.{window}
 use Rattle.lists.proofs.Loop.{length_tabulate, tabulate_ext, tabulate_get_or}
-use Rattle.doubles.specs.F64.{if◌then◌else◌}
 use Rattle.krylov_job.specs.declared.KrylovPhiOptions.{KrylovPhiOptions}
 use Rattle.paused_run.specs.Paused.{Job, Input, PausedCall, leaves, start_unless, start}
 use Rattle.paused_run.specs.declared.PausedRun.{PausedRun}

@@ -1,4 +1,5 @@
 -- A unit in two slices, place by place. Assumes nothing.
+use Rattle.std.specs.Prelude.{if◌then◌else◌}
 use mathlib.Core.Path.{◌≡◌, refl, sym, ap, ◌∙◌}
 use mathlib.Core.Bool.{Bool, true, false, ◌&&◌}
 use mathlib.Core.List.{List, ◌++◌}
@@ -14,7 +15,6 @@ use Rattle.lists.specs.Window.{window, splice}
 use Rattle.lists.proofs.Loop.{length_tabulate}
 use Rattle.lists.proofs.Stack.{Stacked, stack_turn}
 use Rattle.lists.proofs.Window.{part_window, length_window, part_back, splice_more, splice_whole}
-use Rattle.doubles.specs.F64.{if◌then◌else◌}
 use Rattle.paused_run.specs.declared.PausedRun.{PausedRun}
 use Rattle.rotation.specs.Unit.{run_at}
 use Rattle.rotation.specs.declared.Rotation.{Rotation}

@@ -1,9 +1,8 @@
 -- A unit as 160 doubles and 144 numbers, and its calls as an exported function hands them back (document 02, N6). Definitions only.
-use Rattle.std.specs.Prelude.{Bool, true, false, ◌&&◌, List, [], ◌++◌, ℕ, ◌*◌, eqb, ltb, length, get_or, replicate, Float}
+use Rattle.std.specs.Prelude.{Bool, true, false, ◌&&◌, List, [], ◌++◌, ℕ, ◌*◌, eqb, ltb, length, get_or, replicate, Float, if◌then◌else◌}
 use Rattle.std.specs.Float.{nan}
 use Rattle.lists.specs.Loop.{tabulate, stack}
 use Rattle.lists.specs.Window.{window}
-use Rattle.doubles.specs.F64.{if◌then◌else◌}
 use Rattle.checks.specs.First.{first}
 use Rattle.krylov_job.specs.declared.KrylovPhiOptions.{KrylovPhiOptions}
 use Rattle.paused_run.specs.Paused.{Job, Input, leaves, start_checks, start_unless}

@@ -1,4 +1,5 @@
 -- An extreme is one of the numbers of its window, or +0 for a zero, and none of them lies beyond it. Assumes nothing.
+use Rattle.std.specs.Prelude.{if◌then◌else◌}
 use mathlib.Core.Path.{◌≡◌, refl, sym, ◌∙◌, subst}
 use mathlib.Core.Bool.{Bool, true, false, not, ◌||◌, true≢false}
 use mathlib.Core.Logic.{◌⊎◌, inl, inr, ⊎_elim}
@@ -10,7 +11,7 @@ use lib.Ieee.{Float, nan, inf, fin, eq, lt, le, is_nan}
 use lib.Ieee.Bits.{is_true}
 use Rattle.lists.specs.Loop.{iter}
 use Rattle.lists.proofs.Bounds.{lt_or_le}
-use Rattle.doubles.specs.F64.{if◌then◌else◌, ◌⩽◌, ◌⋖◌, +0, at, replaced, max_num, min_num}
+use Rattle.doubles.specs.F64.{◌⩽◌, ◌⋖◌, +0, at, replaced, max_num, min_num}
 use Rattle.doubles.proofs.Total.{⩽_refl, ⩽_trans, ⩽_or_⋖, ⋖_⩽, ⋖_apart, le_number_right}
 use Rattle.doubles.proofs.Extremes.{replaced_number, min_of_two}
 use Rattle.extremes.specs.Extremes.{unsigned_zero, window_start, extreme, largest, smallest}

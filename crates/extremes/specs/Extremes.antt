@@ -1,8 +1,8 @@
 -- The largest and the smallest among the last W numbers (document 02, N12). Definitions only.
-use Rattle.std.specs.Prelude.{List, ℕ, ◌+◌, ◌-◌, Float}
+use Rattle.std.specs.Prelude.{List, ℕ, ◌+◌, ◌-◌, Float, if◌then◌else◌}
 use Rattle.std.specs.Float.Ieee.{eq}
 use Rattle.lists.specs.Loop.{iter, open_loop}
-use Rattle.doubles.specs.F64.{if◌then◌else◌, +0, at, max_num, min_num, open_f64}
+use Rattle.doubles.specs.F64.{+0, at, max_num, min_num, open_f64}
 
 -- an extreme of 0 is given as +0
 unfoldable pub unsigned_zero : Float → Float

@@ -1,7 +1,7 @@
 -- The parts of `hess_exp_e1` that functions of their own give, and what a SmallExp stands for. Definitions only.
-use Rattle.std.specs.Prelude.{List, ℕ, ◌+◌, ◌*◌, Float}
+use Rattle.std.specs.Prelude.{List, ℕ, ◌+◌, ◌*◌, Float, if◌then◌else◌}
 use Rattle.lists.specs.Window.{window}
-use Rattle.doubles.specs.F64.{if◌then◌else◌, at, abs}
+use Rattle.doubles.specs.F64.{at, abs}
 use Rattle.doubles.specs.Sum.{sum}
 use Rattle.hess_rows.specs.HessProduct.{place}
 use Rattle.hess_exp.specs.declared.SmallExp.{SmallExp}

@@ -1,7 +1,7 @@
 -- The rows of the product by parts, as functions of their own give them. Definitions only.
-use Rattle.std.specs.Prelude.{List, ℕ, ◌+◌, ◌-◌, ◌*◌, ◌≤◌, eqb, length, set, Float}
+use Rattle.std.specs.Prelude.{List, ℕ, ◌+◌, ◌-◌, ◌*◌, ◌≤◌, eqb, length, set, Float, if◌then◌else◌}
 use Rattle.lists.specs.Loop.{iter}
-use Rattle.doubles.specs.F64.{if◌then◌else◌, ◌⊕◌, ◌⊗◌, +0, at}
+use Rattle.doubles.specs.F64.{◌⊕◌, ◌⊗◌, +0, at}
 use Rattle.doubles.specs.Sum.{sum}
 use Rattle.hess_rows.specs.declared.Four.{Four}
 use Rattle.hess_rows.specs.HessProduct.{place}

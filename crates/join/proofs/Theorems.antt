@@ -1,4 +1,5 @@
 -- What is so of every join that is accepted (document 02, N8). Assumes nothing.
+use Rattle.std.specs.Prelude.{if◌then◌else◌}
 use mathlib.Core.Bool.{Bool, true, false, not, ◌&&◌, ◌||◌, true≢false}
 use mathlib.Core.List.{List, ◌++◌}
 use mathlib.Core.Logic.{◌⊎◌, ⊎_elim}
@@ -19,7 +20,7 @@ use Rattle.lists.proofs.Find.{none_below, exists_none}
 use Rattle.lists.proofs.Loop.{length_tabulate}
 use Rattle.lists.proofs.Places.{places_found, spot}
 use Rattle.lists.proofs.Window.{window_splice_same}
-use Rattle.doubles.specs.F64.{if◌then◌else◌, ◌⊕◌, at, is_finite}
+use Rattle.doubles.specs.F64.{◌⊕◌, at, is_finite}
 use Rattle.checks.specs.First.{first}
 use Rattle.checks.proofs.First.{passes, sound_cons, sound_append}
 use Rattle.checks.specs.declared.Checked.{Checked}

@@ -1,4 +1,5 @@
 -- The state after an accepted length, as the memory holds it. Assumes nothing.
+use Rattle.std.specs.Prelude.{if◌then◌else◌}
 use mathlib.Core.Path.{◌≡◌, refl, sym, ap, ◌∙◌}
 use mathlib.Core.Bool.{true, false}
 use mathlib.Core.List.{List}
@@ -11,7 +12,7 @@ use Rattle.lists.specs.Window.{window, splice}
 use Rattle.lists.specs.Frame.{Kept}
 use Rattle.lists.proofs.Frame.{wrote, kept_all, kept_by}
 use Rattle.lists.proofs.Window.{length_window, window_splice_same}
-use Rattle.doubles.specs.F64.{if◌then◌else◌, ◌⊕◌, ◌⊖◌, ◌⊗◌, ◌⋖◌, +0, 1f, max_num}
+use Rattle.doubles.specs.F64.{◌⊕◌, ◌⊖◌, ◌⊗◌, ◌⋖◌, +0, 1f, max_num}
 use Rattle.retry.specs.Retry.{retry}
 use Rattle.phi_action_helpers.specs.declared.Layout.{Layout}
 use Rattle.gram_schmidt.specs.Basis.{Setting, norm2}

@@ -1,9 +1,9 @@
 -- The run over unit time: state, substep, limit (phi_krylov_arnoldi.rs, `substeps`, `expv`; Sidje 1998). Definitions only.
-use Rattle.std.specs.Prelude.{Bool, true, false, not, ◌&&◌, List, ℕ, suc, ◌+◌, min, eqb, ltb, length, replicate, get_or, [], Float}
+use Rattle.std.specs.Prelude.{Bool, true, false, not, ◌&&◌, List, ℕ, suc, ◌+◌, min, eqb, ltb, length, replicate, get_or, [], Float, if◌then◌else◌}
 use Rattle.std.specs.Float.Ieee.{eq}
 use Rattle.lists.specs.Loop.{iter}
 use Rattle.lists.specs.Walk.{Turn, on, out, walk}
-use Rattle.doubles.specs.F64.{if◌then◌else◌, ◌⊕◌, ◌⊖◌, ◌⊗◌, ◌⊘◌, ◌⋖◌, bits, nat, +0, 1f, at, min_num, max_num}
+use Rattle.doubles.specs.F64.{◌⊕◌, ◌⊖◌, ◌⊗◌, ◌⊘◌, ◌⋖◌, bits, nat, +0, 1f, at, min_num, max_num}
 use Rattle.sqrt.specs.Sqrt.{sqrt}
 use Rattle.power.specs.Power.{power, root}
 use Rattle.round2.specs.Rounded.{round2}

@@ -1,12 +1,12 @@
 // The end of a substep: the field at the accepted length, the counts, and the length proposed next.
 #![tactic(auto)]
 
-ghost use Rattle.std.specs.Prelude.{◌≡◌, List, ◌+◌, ◌*◌, ◌≤◌, ◌<◌, length, Float};
+ghost use Rattle.std.specs.Prelude.{◌≡◌, List, ◌+◌, ◌*◌, ◌≤◌, ◌<◌, length, Float, if◌then◌else◌};
 ghost use Rattle.lists.specs.Loop.{tabulate};
 ghost use Rattle.lists.specs.Walk.{on};
 ghost use Rattle.lists.specs.Window.{window, splice};
 ghost use Rattle.lists.specs.Frame.{Kept};
-ghost use Rattle.doubles.specs.F64.{if◌then◌else◌, ◌⊖◌, ◌⋖◌, +0, 1f};
+ghost use Rattle.doubles.specs.F64.{◌⊖◌, ◌⋖◌, +0, 1f};
 ghost use Rattle.retry.specs.Retry.{retry};
 ghost use Rattle.general_operator.specs.Csr.{Csr};
 ghost use Rattle.phi_action_helpers.specs.declared.Coupling.{Coupling};

@@ -1,4 +1,6 @@
 // The run of a Krylov job that passed its checks: the start, the substeps, and what is handed out.
+#![tactic(auto)]
+
 ghost use Rattle.std.specs.Prelude.{◌≡◌, ◌+◌, ◌≤◌, length};
 ghost use Rattle.lists.specs.Window.{window, splice};
 ghost use Rattle.checks.specs.First.{first};

@@ -12,7 +12,6 @@ use Rattle.checks.specs.declared.Checked.TheVariants.{Sound, Refused}
 use Rattle.combination.specs.Checks.{count_checks, index_checks, time_checks, degree_checks, memory_checks, taylor_need, open_checks}
 use Rattle.krylov_advance.specs.Run.{clamp_m}
 use Rattle.krylov_job.specs.KrylovCall.{option_checks, krylov_need, open_krylov_call}
-use Rattle.krylov_job.specs.declared.KrylovPhiOptions.{KrylovPhiOptions}
 
 -- the smallest double, its negative, and the doubles below 1 and of the largest size
 abbrev tiny : Float

@@ -9,7 +9,7 @@ use lib.ListN.{length, replicate}
 use lib.Ieee.{Float, nan}
 use borrow.Author.Tests.{ltb-false, leb-false}
 use Rattle.lists.specs.Window.{window, splice}
-use Rattle.lists.specs.Walk.{Turn, on, out}
+use Rattle.lists.specs.Walk.{Turn}
 use Rattle.lists.specs.Frame.{Kept}
 use Rattle.lists.proofs.Window.{length_window, length_splice, splice_whole, window_splice_same, window_whole}
 use Rattle.doubles.specs.F64.{+0}
@@ -35,7 +35,7 @@ use Rattle.taylor_schedule.proofs.Stored.{quotients_rows}
 use Rattle.gram_schmidt.specs.Basis.{norm2}
 use Rattle.gram_schmidt.specs.Memory.{setting_at, Room}
 use Rattle.gram_schmidt.specs.declared.Krylov.{Krylov}
-use Rattle.krylov_advance.specs.Run.{State, End, refused, substep}
+use Rattle.krylov_advance.specs.Run.{State, End, substep}
 use Rattle.krylov_advance.specs.Memory.{state_at, progress_at}
 use Rattle.krylov_advance.specs.declared.Progress.{Progress}
 use Rattle.krylov_advance.specs.declared.Progress.TheVariants as progress

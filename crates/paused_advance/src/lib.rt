@@ -1,4 +1,6 @@
 // One substep of a paused run, on its own field.
+#![tactic(auto)]
+
 ghost use Rattle.std.specs.Prelude.{◌≡◌, ◌+◌, ◌≤◌, length};
 ghost use Rattle.combination.specs.Call.{cleared};
 ghost use Rattle.taylor_schedule.specs.Inner.{matrix_of};

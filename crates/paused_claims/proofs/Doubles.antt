@@ -1,4 +1,5 @@
 -- The n + d values from which a run starts are doubles where the vectors' are. Assumes nothing.
+use Rattle.std.specs.Prelude.{if◌then◌else◌}
 use mathlib.Core.Path.{sym, subst}
 use mathlib.Core.Bool.{Bool, true, false, ◌&&◌}
 use mathlib.Core.List.{List, [], ◌∷◌, ◌++◌}
@@ -11,7 +12,7 @@ use lib.ListN.{length, replicate, length-replicate, get_or-replicate}
 use lib.Ieee.{Float, nan, binary64, fits, of_bits}
 use lib.Ieee.Fits.{round-fits}
 use Rattle.lists.proofs.Window.{length_window, get_d_window}
-use Rattle.doubles.specs.F64.{if◌then◌else◌, ◌⋖◌, +0, 1f, is_finite}
+use Rattle.doubles.specs.F64.{◌⋖◌, +0, 1f, is_finite}
 use Rattle.pow2.specs.Pow2.{eta_scaling, clamp, ceil_log2, pow2_f64}
 use Rattle.pow2.specs.Pow2 as pow2
 use Rattle.pow2.proofs.Integers.{clamp_mag}

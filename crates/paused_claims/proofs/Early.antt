@@ -1,4 +1,5 @@
 -- When a step on a run as it was left is refused early (document 02, N5). Assumes nothing.
+use Rattle.std.specs.Prelude.{if◌then◌else◌}
 use mathlib.Core.Path.{◌≡◌, refl, sym, ap, ◌∙◌, subst}
 use mathlib.Core.Logic.{◌⊎◌, inl, inr}
 use mathlib.Core.Bool.{Bool, true, false, not, ◌||◌, ◌&&◌, true≢false}
@@ -14,7 +15,7 @@ use lib.Ieee.{Float, nan, eq, of_bits}
 use Rattle.lists.specs.Walk.{Turn, on, out}
 use Rattle.lists.specs.Find.{find, exists}
 use Rattle.lists.proofs.Find.{find_holds, none_below, find_ext}
-use Rattle.doubles.specs.F64.{if◌then◌else◌, ◌⊗◌, ◌⋖◌, +0, 1f, nat, is_finite}
+use Rattle.doubles.specs.F64.{◌⊗◌, ◌⋖◌, +0, 1f, nat, is_finite}
 use Rattle.power.specs.Power.{power}
 use Rattle.pow2.specs.Pow2.{sup, eta_scaling, pow2_scale}
 use Rattle.pow2.specs.Pow2 as pow2

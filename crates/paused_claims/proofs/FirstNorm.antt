@@ -1,4 +1,5 @@
 -- The norm of a start that is not all zeros is not 0: its largest value, scaled, is at least 2 ^ -52. Its values are doubles. Assumes nothing.
+use Rattle.std.specs.Prelude.{if◌then◌else◌}
 use mathlib.Core.Path.{◌≡◌, refl, sym, ap, ◌∙◌, subst}
 use mathlib.Core.Logic.{◌⊎◌, inl, inr}
 use mathlib.Core.Bool.{Bool, true, false, not, ◌||◌, true≢false}
@@ -18,7 +19,7 @@ use lib.Ieee.Order.{le_of_values}
 use lib.Ieee.Digits.{size-lt, size_reaches}
 use Rattle.lists.specs.Loop.{iter}
 use Rattle.lists.proofs.Bounds.{lt_or_le}
-use Rattle.doubles.specs.F64.{if◌then◌else◌, ◌⊕◌, ◌⊗◌, ◌⩽◌, ◌⋖◌, +0, at, abs, is_finite, nonneg, replaced, max_num, open_f64}
+use Rattle.doubles.specs.F64.{◌⊕◌, ◌⊗◌, ◌⩽◌, ◌⋖◌, +0, at, abs, is_finite, nonneg, replaced, max_num, open_f64}
 use Rattle.doubles.specs.Sum.{sum}
 use Rattle.doubles.specs.Value.{val}
 use Rattle.doubles.proofs.Unique.{pattern_value}

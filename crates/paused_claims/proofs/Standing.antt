@@ -1,4 +1,5 @@
 -- A paused run as it was left is where its substeps so far stand, each with its own setting. Assumes nothing.
+use Rattle.std.specs.Prelude.{if◌then◌else◌}
 use mathlib.Core.Path.{◌≡◌, refl, sym, ap, ◌∙◌, subst}
 use mathlib.Core.Logic.{◌⊎◌, inl, inr}
 use mathlib.Core.Bool.{Bool, true, false, not, true≢false}
@@ -11,7 +12,7 @@ use lib.ListN.{length, replicate, length-append}
 use lib.Ieee.{Float}
 use Rattle.lists.specs.Walk.{Turn, on, out}
 use Rattle.lists.proofs.Walk.{Kept}
-use Rattle.doubles.specs.F64.{if◌then◌else◌, ◌⊗◌, +0}
+use Rattle.doubles.specs.F64.{◌⊗◌, +0}
 use Rattle.vectors.specs.Vectors.{scale}
 use Rattle.pow2.specs.Pow2.{pow2_scale}
 use Rattle.pow2.specs.declared.Scale.{Scale}

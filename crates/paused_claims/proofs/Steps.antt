@@ -1,4 +1,5 @@
 -- What a step that is not refused early does: one substep more (document 02, N5). Assumes nothing.
+use Rattle.std.specs.Prelude.{if◌then◌else◌}
 use mathlib.Core.Path.{◌≡◌, refl, sym, ap, ◌∙◌, subst}
 use mathlib.Core.Logic.{inl, inr}
 use mathlib.Core.Bool.{Bool, true, false, not, true≢false}
@@ -11,7 +12,7 @@ use lib.ListN.{length, length-append}
 use lib.Ieee.{Float}
 use Rattle.lists.specs.Walk.{Turn, on, out}
 use Rattle.lists.specs.Window.{window}
-use Rattle.doubles.specs.F64.{if◌then◌else◌, ◌⊖◌, ◌⊘◌, 1f}
+use Rattle.doubles.specs.F64.{◌⊖◌, ◌⊘◌, 1f}
 use Rattle.vectors.specs.Vectors.{scale}
 use Rattle.pow2.specs.declared.Scale.{Scale}
 use Rattle.checks.specs.declared.Checked.{Checked}

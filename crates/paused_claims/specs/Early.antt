@@ -1,9 +1,9 @@
 -- When a step on a run as it was left is refused early, and that it then changes nothing (document 02, N5: 'Early refusals leave the run unchanged'). Definitions only.
-use Rattle.std.specs.Prelude.{◌≡◌, Bool, true, false, not, ◌&&◌, List, [], ◌∷◌, ◌++◌, map, ℕ, ◌+◌, ◌-◌, ◌<◌, eqb, length, Float}
+use Rattle.std.specs.Prelude.{◌≡◌, Bool, true, false, not, ◌&&◌, List, [], ◌∷◌, ◌++◌, map, ℕ, ◌+◌, ◌-◌, ◌<◌, eqb, length, Float, if◌then◌else◌}
 use Rattle.std.specs.Float.{nan}
 use Rattle.std.specs.Float.Ieee.{eq}
 use Rattle.lists.specs.Find.{exists}
-use Rattle.doubles.specs.F64.{if◌then◌else◌, ◌⊗◌, +0, nat, is_finite}
+use Rattle.doubles.specs.F64.{◌⊗◌, +0, nat, is_finite}
 use Rattle.power.specs.Power.{power}
 use Rattle.pow2.specs.Pow2.{sup}
 use Rattle.checks.specs.First.{Check, refuse, first, before}

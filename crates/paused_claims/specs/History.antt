@@ -1,7 +1,7 @@
 -- Paused runs as the last call left them, and what each substep so far was made with (document 02, N5: 'State and field come back at each step as the last one
 -- left them: what is claimed here and in N6 is claimed of such runs'). Definitions only.
-use Rattle.std.specs.Prelude.{◌≡◌, List, [], ◌∷◌, ◌++◌, ℕ, ◌+◌, ◌-◌, eqb, length, Float}
-use Rattle.doubles.specs.F64.{if◌then◌else◌, ◌⊗◌}
+use Rattle.std.specs.Prelude.{◌≡◌, List, [], ◌∷◌, ◌++◌, ℕ, ◌+◌, ◌-◌, eqb, length, Float, if◌then◌else◌}
+use Rattle.doubles.specs.F64.{◌⊗◌}
 use Rattle.checks.specs.First.{first}
 use Rattle.checks.specs.declared.Checked.{Checked}
 use Rattle.checks.specs.declared.Checked.TheVariants.{Sound, Refused}

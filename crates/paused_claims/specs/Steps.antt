@@ -1,10 +1,10 @@
 -- What a step that is not refused early does, on a run as it was left: one substep more (document 02, N5: 'Any other is defined substep by substep, its counts bounded
 -- alike'). Definitions only.
-use Rattle.std.specs.Prelude.{◌≡◌, ◌⊎◌, true, false, List, [], ◌∷◌, ◌++◌, ℕ, ◌+◌, ◌<◌, length, T, Float}
+use Rattle.std.specs.Prelude.{◌≡◌, ◌⊎◌, true, false, List, [], ◌∷◌, ◌++◌, ℕ, ◌+◌, ◌<◌, length, T, Float, if◌then◌else◌}
 use Rattle.std.specs.Float.Ieee.{eq}
 use Rattle.lists.specs.Walk.{out}
 use Rattle.lists.specs.Window.{window}
-use Rattle.doubles.specs.F64.{if◌then◌else◌, ◌⊕◌, ◌⊖◌, ◌⊘◌, ◌⋖◌, +0, 1f}
+use Rattle.doubles.specs.F64.{◌⊕◌, ◌⊖◌, ◌⊘◌, ◌⋖◌, +0, 1f}
 use Rattle.vectors.specs.Vectors.{scale}
 use Rattle.retry.specs.Retry.{retry}
 use Rattle.combination.specs.Call.{cleared}

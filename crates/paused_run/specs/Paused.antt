@@ -1,9 +1,9 @@
 -- A Krylov run as a state that is handed back by its start and after each substep (document 02, N5). Definitions only.
-use Rattle.std.specs.Prelude.{Bool, true, false, not, ◌||◌, List, [], ◌∷◌, ◌++◌, ℕ, ◌+◌, ◌-◌, ◌*◌, ltb, leb, eqb, length, Float}
+use Rattle.std.specs.Prelude.{Bool, true, false, not, ◌||◌, List, [], ◌∷◌, ◌++◌, ℕ, ◌+◌, ◌-◌, ◌*◌, ltb, leb, eqb, length, Float, if◌then◌else◌}
 use Rattle.std.specs.Float.{nan}
 use Rattle.lists.specs.Walk.{Turn, on, out}
 use Rattle.lists.specs.Window.{window}
-use Rattle.doubles.specs.F64.{if◌then◌else◌, ◌⊗◌, +0, 1f, nat}
+use Rattle.doubles.specs.F64.{◌⊗◌, +0, 1f, nat}
 use Rattle.vectors.specs.Vectors.{scale}
 use Rattle.pow2.specs.Pow2.{pow2_scale}
 use Rattle.pow2.specs.declared.Scale.{Scale}

@@ -1,4 +1,6 @@
 // The start of a paused run: every check of a Krylov call, and no substep.
+#![tactic(auto)]
+
 ghost use Rattle.std.specs.Prelude.{◌≡◌, false, List, ℕ, ◌+◌, ◌≤◌, length, Float};
 ghost use Rattle.lists.specs.Window.{window};
 ghost use Rattle.vectors.specs.Vectors.{scale};

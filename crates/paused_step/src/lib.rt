@@ -1,4 +1,6 @@
 // A step of a paused run: 31 first, the checks of a Krylov call, one substep.
+#![tactic(auto)]
+
 ghost use Rattle.std.specs.Prelude.{◌≡◌, false, List, ◌+◌};
 ghost use Rattle.checks.specs.First.{Check, first};
 ghost use Rattle.checks.specs.declared.Checked.TheVariants.{Sound};

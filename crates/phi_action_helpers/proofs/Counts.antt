@@ -1,4 +1,5 @@
 -- The generator is applied exactly s * m times, and the field keeps its length. Assumes nothing.
+use Rattle.std.specs.Prelude.{if◌then◌else◌}
 use mathlib.Core.Path.{◌≡◌, refl, sym, ap, ◌∙◌}
 use mathlib.Core.Bool.{Bool, true, false}
 use mathlib.Core.List.{List}
@@ -9,7 +10,7 @@ use lib.ListN.{length}
 use lib.Ieee.{Float}
 use Rattle.lists.specs.Loop.{iter}
 use Rattle.lists.proofs.Loop.{length_zip_with}
-use Rattle.doubles.specs.F64.{if◌then◌else◌, ◌⊕◌}
+use Rattle.doubles.specs.F64.{◌⊕◌}
 use Rattle.vectors.specs.Vectors.{scale}
 use Rattle.vectors.proofs.Laws.{length_scale}
 use Rattle.phi_action_helpers.specs.declared.SweepPlan.{SweepPlan}

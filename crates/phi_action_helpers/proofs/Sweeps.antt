@@ -1,4 +1,5 @@
 -- Sweeps on lists: what the steps of a term, of a sweep and of a run leave in the memory. Assumes nothing.
+use Rattle.std.specs.Prelude.{if◌then◌else◌}
 use mathlib.Core.Path.{◌≡◌, refl, sym, ap, ◌∙◌}
 use mathlib.Core.Bool.{Bool, true, false}
 use mathlib.Core.List.{List}
@@ -14,7 +15,7 @@ use Rattle.lists.specs.Frame.{Kept}
 use Rattle.lists.proofs.Loop.{iter_none, iter_turn, length_zip_with}
 use Rattle.lists.proofs.Window.{length_window}
 use Rattle.lists.proofs.Frame.{wrote, written, untouched, wrote_long, kept_all, kept_by, kept_on, kept_window}
-use Rattle.doubles.specs.F64.{if◌then◌else◌, ◌⊕◌, +0}
+use Rattle.doubles.specs.F64.{◌⊕◌, +0}
 use Rattle.vectors.specs.Vectors.{scale}
 use Rattle.general_operator.specs.Csr.{Csr, Valid, apply_generator}
 use Rattle.general_operator.proofs.Rows.{length_apply}

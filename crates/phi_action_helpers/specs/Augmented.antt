@@ -1,10 +1,10 @@
 -- The augmented operator [tau G, W; 0, J] of n + d values (phi_action_helpers.rs, `aug_matvec_inplace`; phi_shift.rs, `aug_matvec_shifted`;
 -- Al-Mohy and Higham 2011, Theorem 2.1). Definitions only.
-use Rattle.std.specs.Prelude.{List, ◌++◌, ℕ, ◌+◌, ltb, get_or, Float}
+use Rattle.std.specs.Prelude.{List, ◌++◌, ℕ, ◌+◌, ltb, get_or, Float, if◌then◌else◌}
 use Rattle.std.specs.Float.Ieee.{neg}
 use Rattle.lists.specs.Loop.{iter, tabulate}
 use Rattle.lists.specs.Window.{window, open_window}
-use Rattle.doubles.specs.F64.{if◌then◌else◌, ◌⊕◌, ◌⊖◌, ◌⊗◌, +0, at}
+use Rattle.doubles.specs.F64.{◌⊕◌, ◌⊖◌, ◌⊗◌, +0, at}
 use Rattle.general_operator.specs.Csr.{Csr, apply_generator, open_csr}
 use Rattle.phi_action_helpers.specs.declared.Scales.{Scales}
 

@@ -1,8 +1,8 @@
 -- Taylor sweeps (phi_action_helpers.rs, `aug_horner_outer`, `run_sweeps`; Al-Mohy and Higham 2011, Algorithm 3.2 without its early stop). Definitions only.
-use Rattle.std.specs.Prelude.{Bool, not, List, ℕ, suc, ◌+◌, Float}
+use Rattle.std.specs.Prelude.{Bool, not, List, ℕ, suc, ◌+◌, Float, if◌then◌else◌}
 use Rattle.std.specs.Float.Ieee.{eq}
 use Rattle.lists.specs.Loop.{iter, zip_with}
-use Rattle.doubles.specs.F64.{if◌then◌else◌, ◌⊕◌, ◌⊗◌, ◌⊘◌, nat, +0, 1f}
+use Rattle.doubles.specs.F64.{◌⊕◌, ◌⊗◌, ◌⊘◌, nat, +0, 1f}
 use Rattle.vectors.specs.Vectors.{scale, open_vectors}
 use Rattle.dense_la.specs.DenseExp.{dense_exp, open_dense_exp}
 use Rattle.phi_action_helpers.specs.declared.Scales.{Scales}

@@ -1,4 +1,5 @@
 -- A plan is the first row of least cost, unshifted, or shifted where that costs strictly less than every unshifted row. Assumes nothing.
+use Rattle.std.specs.Prelude.{if◌then◌else◌}
 use mathlib.Core.Bool.{Bool, true, false}
 use mathlib.Core.Path.{◌≡◌, refl, subst}
 use Prim.Native.Nat.{ℕ, zero, ◌*◌, ◌≤◌, ◌<◌}
@@ -7,7 +8,7 @@ use native.Mathlib.Omega.{arith}
 use lib.Dec.{ltb}
 use lib.Ieee.{Float}
 use borrow.Author.Tests.{ltb-true}
-use Rattle.doubles.specs.F64.{if◌then◌else◌, ◌⊗◌, +0, 2f}
+use Rattle.doubles.specs.F64.{◌⊗◌, +0, 2f}
 use Rattle.general_operator.specs.Csr.{Csr}
 use Rattle.csr_shift.specs.Shift.{negated_csr_shift}
 use Rattle.csr_shift.specs.declared.Shift.{Shift}

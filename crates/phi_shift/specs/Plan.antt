@@ -1,7 +1,7 @@
 -- The sweep plan (phi_action.rs, `phi_schedule`; phi_shift.rs, `sweep_plan`). Definitions only.
-use Rattle.std.specs.Prelude.{Bool, true, not, ◌&&◌, ◌≡◌, ℕ, ◌*◌, ◌<◌, ltb, Float}
+use Rattle.std.specs.Prelude.{Bool, true, not, ◌&&◌, ◌≡◌, ℕ, ◌*◌, ◌<◌, ltb, Float, if◌then◌else◌}
 use Rattle.std.specs.Float.Ieee.{eq}
-use Rattle.doubles.specs.F64.{if◌then◌else◌, ◌⊕◌, ◌⊗◌, ◌⩽◌, +0, 2f, abs, is_finite, max_num}
+use Rattle.doubles.specs.F64.{◌⊕◌, ◌⊗◌, ◌⩽◌, +0, 2f, abs, is_finite, max_num}
 use Rattle.general_operator.specs.Csr.{Csr}
 use Rattle.csr_shift.specs.Shift.{negated_csr_shift, open_shift}
 use Rattle.csr_shift.specs.declared.Shift.{Shift}

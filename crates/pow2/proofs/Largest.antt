@@ -1,4 +1,5 @@
 -- The sup-norm is no NaN and not negative; where it is not 0 it is above 0; of finite values it is 0 exactly where all are. Assumes nothing.
+use Rattle.std.specs.Prelude.{if◌then◌else◌}
 use mathlib.Core.Path.{◌≡◌, refl, sym}
 use mathlib.Core.Bool.{Bool, true, false, ◌&&◌, true≢false}
 use mathlib.Core.List.{List}
@@ -14,7 +15,7 @@ use lib.Ieee.{Float, nan, inf, fin, up, down, lt, eq, of_bits}
 use borrow.Author.Tests.{eqb-false, le-ltb}
 use Rattle.doubles.proofs.Extremes.{nonneg_max}
 use Rattle.lists.specs.Loop.{iter}
-use Rattle.doubles.specs.F64.{if◌then◌else◌, ◌⋖◌, +0, at, abs, is_finite, replaced, max_num, nonneg}
+use Rattle.doubles.specs.F64.{◌⋖◌, +0, at, abs, is_finite, replaced, max_num, nonneg}
 use Rattle.doubles.proofs.Compare.{zero_below, zero_cases, zero_equal}
 use Rattle.pow2.specs.Pow2.{sup}
 

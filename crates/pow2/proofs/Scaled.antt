@@ -1,5 +1,6 @@
 -- The sup-norm of values times a power of two is the sup-norm times it; and eta and 1 / eta are powers of two whatever the magnitude is, so that two of them differ by a power of two.
 -- Assumes nothing.
+use Rattle.std.specs.Prelude.{if◌then◌else◌}
 use mathlib.Core.Path.{◌≡◌, refl, sym, ap, ◌∙◌}
 use mathlib.Core.List.{List}
 use Prim.Native.Nat.{ℕ, zero, suc, ◌+◌, ◌-◌, ◌*◌, ◌^◌, ◌≤◌, ◌<◌}
@@ -13,7 +14,7 @@ use lib.ListN.{length}
 use lib.Ieee.{Float, fin, of_bits}
 use lib.Ieee.Exact.{HasValue}
 use Rattle.lists.specs.Loop.{iter}
-use Rattle.doubles.specs.F64.{if◌then◌else◌, ◌⋖◌, +0, 1f, at, abs, is_finite, max_num}
+use Rattle.doubles.specs.F64.{◌⋖◌, +0, 1f, at, abs, is_finite, max_num}
 use Rattle.doubles.proofs.Signed.{Diff}
 use Rattle.doubles.proofs.Scaled.{Scaled, zero_scaled}
 use Rattle.doubles.proofs.ScaledOrder.{abs_scaled, max_scaled}

@@ -1,9 +1,9 @@
 -- Powers of two that scale exactly: `ceil_log2`, `exact_pow2` and `eta_scaling` of phi_action_helpers.rs, and pow2.rs. Definitions only.
-use Rattle.std.specs.Prelude.{Bool, false, ◌&&◌, List, ℕ, zero, suc, ◌/◌, ◌%◌, ◌^◌, ℤ, pos, negsuc, neg_ℤ, ◌+ℤ◌, ◌-ℤ◌, eqb, length}
+use Rattle.std.specs.Prelude.{Bool, false, ◌&&◌, List, ℕ, zero, suc, ◌/◌, ◌%◌, ◌^◌, ℤ, pos, negsuc, neg_ℤ, ◌+ℤ◌, ◌-ℤ◌, eqb, length, if◌then◌else◌}
 use Rattle.std.specs.Int.Signed.{lt_z}
 use lib.Ieee.{Float, fin, binary64, up, down, round, size, eq, ne, to_bits}
 use Rattle.lists.specs.Loop.{iter}
-use Rattle.doubles.specs.F64.{if◌then◌else◌, ◌⋖◌, +0, 1f, at, abs, is_finite, max_num}
+use Rattle.doubles.specs.F64.{◌⋖◌, +0, 1f, at, abs, is_finite, max_num}
 use Rattle.doubles.specs.Value.{val}
 use Rattle.pow2.specs.declared.Scaling.{Scaling}
 use Rattle.pow2.specs.declared.Scale.{Scale}

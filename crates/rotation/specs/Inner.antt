@@ -1,8 +1,7 @@
 -- What the code's own contracts say. Definitions only.
-use Rattle.std.specs.Prelude.{Bool, true, false, List, [], ◌∷◌, ◌++◌, ℕ, ◌+◌, ◌-◌, ltb, leb, get_or, replicate}
+use Rattle.std.specs.Prelude.{Bool, true, false, List, [], ◌∷◌, ◌++◌, ℕ, ◌+◌, ◌-◌, ltb, leb, get_or, replicate, if◌then◌else◌}
 use Rattle.lists.specs.Find.{find}
 use Rattle.lists.specs.Loop.{tabulate}
-use Rattle.doubles.specs.F64.{if◌then◌else◌}
 use Rattle.paused_run.specs.declared.PausedRun.{PausedRun}
 use Rattle.rotation.specs.declared.Rotation.{Rotation}
 use Rattle.rotation.specs.declared.Seat.{Seat}

@@ -1,4 +1,6 @@
 // Up to sixteen paused runs on one unit, in rotation, one substep at a time: the places and the queue.
+#![tactic(auto)]
+
 ghost use Rattle.std.specs.Prelude.{◌≡◌, ◌-◌, ◌≤◌, ◌<◌};
 ghost use Rattle.rotation.specs.Unit.{vacant, empty, waiting, next_place, lowest_free, room};
 ghost use Rattle.rotation.specs.Inner.{count_of, shifted, run_in_place, seat_of, end_of, passed_of};

@@ -1,4 +1,5 @@
 -- Which numbers the checks of a start and of a step, and the answer of a substep, do not have. Assumes nothing.
+use Rattle.std.specs.Prelude.{if◌then◌else◌}
 use mathlib.Core.Path.{◌≡◌, refl, sym, ap, ◌∙◌}
 use mathlib.Core.Logic.{inl, inr}
 use mathlib.Core.Bool.{Bool, true, false}
@@ -8,7 +9,6 @@ use lib.Dec.{ltb}
 use lib.ListN.{length}
 use lib.Ieee.{Float, nan}
 use Rattle.lists.specs.Walk.{Turn, on, out}
-use Rattle.doubles.specs.F64.{if◌then◌else◌}
 use Rattle.checks.specs.First.{Check, refuse, first, before}
 use Rattle.checks.proofs.First.{unless, first_cons}
 use Rattle.checks.proofs.Numbers.{before_append, not_by}

@@ -1,4 +1,5 @@
 -- A unit that joins and turns left: the queue names each unfinished run once, and the other places are free. Assumes nothing.
+use Rattle.std.specs.Prelude.{if◌then◌else◌}
 use mathlib.Core.Path.{◌≡◌, refl, sym, ap, ◌∙◌, subst}
 use mathlib.Core.Logic.{inl, inr}
 use mathlib.Core.Bool.{Bool, true, false, not, ◌&&◌, ◌||◌}
@@ -11,7 +12,6 @@ use lib.Ieee.{Float}
 use borrow.Author.Tests.{eqb-true, eqb-false, not-true, not-false}
 use Rattle.lists.specs.Find.{find}
 use Rattle.lists.specs.Loop.{tabulate}
-use Rattle.doubles.specs.F64.{if◌then◌else◌}
 use Rattle.krylov_job.specs.declared.KrylovPhiOptions.{KrylovPhiOptions}
 use Rattle.paused_run.specs.Paused.{Job, Input, PausedCall, step}
 use Rattle.paused_run.specs.declared.PausedRun.{PausedRun}

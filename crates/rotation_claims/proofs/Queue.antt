@@ -1,4 +1,5 @@
 -- Queues of places, as lists and as the sixteen numbers of a unit. Assumes nothing.
+use Rattle.std.specs.Prelude.{if◌then◌else◌}
 use mathlib.Core.Path.{◌≡◌, refl, sym, ap, ◌∙◌}
 use mathlib.Core.Logic.{inl, inr}
 use mathlib.Core.Bool.{Bool, true, false}
@@ -15,7 +16,6 @@ use Rattle.lists.specs.Loop.{tabulate}
 use Rattle.lists.proofs.Bounds.{lt_or_le}
 use Rattle.lists.proofs.Find.{Passed, found_at, found_none, find_le, find_before}
 use Rattle.lists.proofs.Loop.{length_tabulate, tabulate_ext, tabulate_get_or}
-use Rattle.doubles.specs.F64.{if◌then◌else◌}
 use Rattle.paused_run.specs.declared.PausedRun.{PausedRun}
 use Rattle.rotation.specs.Unit.{waiting, queue_of}
 use Rattle.rotation.specs.declared.Rotation.{Rotation}

@@ -1,7 +1,6 @@
 -- Joins and turns one after the other on one unit, and what they answered (document 02, N6: 'The unit, empty at first and coming back as left'). The claims are told by the
 -- answers, not by what the unit holds. Definitions only.
-use Rattle.std.specs.Prelude.{Bool, false, not, ◌&&◌, ◌||◌, List, [], ◌∷◌, ℕ, suc, eqb, Float}
-use Rattle.doubles.specs.F64.{if◌then◌else◌}
+use Rattle.std.specs.Prelude.{Bool, false, not, ◌&&◌, ◌||◌, List, [], ◌∷◌, ℕ, suc, eqb, Float, if◌then◌else◌}
 use Rattle.krylov_job.specs.declared.KrylovPhiOptions.{KrylovPhiOptions}
 use Rattle.paused_run.specs.Paused.{Job, Input, PausedCall}
 use Rattle.paused_run.specs.declared.StartAnswer.{StartAnswer}

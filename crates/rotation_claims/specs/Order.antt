@@ -1,7 +1,6 @@
 -- The order of the turns (document 02, N6), from the empty unit on, whatever joins and turns are asked for and whatever fields are lent. Definitions only.
-use Rattle.std.specs.Prelude.{◌≡◌, Bool, true, false, not, ◌&&◌, List, [], ◌∷◌, ◌++◌, ℕ, suc, ◌≤◌, ◌<◌, eqb, ltb, length, Float}
+use Rattle.std.specs.Prelude.{◌≡◌, Bool, true, false, not, ◌&&◌, List, [], ◌∷◌, ◌++◌, ℕ, suc, ◌≤◌, ◌<◌, eqb, ltb, length, Float, if◌then◌else◌}
 use Rattle.std.specs.Float.{nan}
-use Rattle.doubles.specs.F64.{if◌then◌else◌}
 use Rattle.paused_run.specs.Paused.{Input, leaves}
 use Rattle.paused_run.specs.declared.StepAnswer.{StepAnswer}
 use Rattle.paused_run.specs.declared.StepAnswer.TheVariants.{Refusal, Stepped}

@@ -1,4 +1,5 @@
 -- A start with a chain is not all zeros, since 1 / eta stands at its end. Assumes nothing.
+use Rattle.std.specs.Prelude.{if◌then◌else◌}
 use mathlib.Core.Path.{◌≡◌, refl, sym, ap, ◌∙◌}
 use mathlib.Core.Bool.{Bool, true, false, ◌&&◌}
 use mathlib.Core.List.{List, [], ◌∷◌, ◌++◌, append_assoc}
@@ -14,7 +15,7 @@ use Rattle.lists.specs.Loop.{iter}
 use Rattle.lists.specs.Window.{window}
 use Rattle.lists.proofs.Loop.{iter_next}
 use Rattle.lists.proofs.Window.{window_whole}
-use Rattle.doubles.specs.F64.{if◌then◌else◌, ◌⋖◌, +0, 1f, at, abs, is_finite, replaced, max_num, nonneg}
+use Rattle.doubles.specs.F64.{◌⋖◌, +0, 1f, at, abs, is_finite, replaced, max_num, nonneg}
 use Rattle.doubles.proofs.Compare.{zero_below, zero_cases}
 use Rattle.doubles.proofs.Extremes.{nonneg_max}
 use Rattle.pow2.specs.Pow2.{clamp, ceil_log2, eta_of, eta_scaling, sup, pow2_scale}

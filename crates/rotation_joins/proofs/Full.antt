@@ -1,4 +1,5 @@
 -- A job on a unit without room, by its start alone. Assumes nothing.
+use Rattle.std.specs.Prelude.{if◌then◌else◌}
 use mathlib.Core.Path.{◌≡◌, refl, sym, ap, ◌∙◌}
 use mathlib.Core.Bool.{Bool, true, false}
 use mathlib.Core.List.{List, [], ◌++◌}
@@ -6,7 +7,6 @@ use Prim.Native.Nat.{ℕ, ◌+◌, ◌-◌, ◌*◌}
 use native.Mathlib.Omega.{arith}
 use lib.ListN.{length}
 use lib.Ieee.{Float, nan}
-use Rattle.doubles.specs.F64.{if◌then◌else◌}
 use Rattle.pow2.specs.Pow2.{eta_scaling, pow2_scale}
 use Rattle.pow2.specs.declared.Scaling.{Scaling}
 use Rattle.pow2.specs.declared.Prescale.{Prescale}

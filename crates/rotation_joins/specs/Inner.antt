@@ -1,7 +1,6 @@
 -- What the code's own contracts say. Definitions only.
-use Rattle.std.specs.Prelude.{Bool, true, false}
+use Rattle.std.specs.Prelude.{Bool, true, false, if◌then◌else◌}
 use Rattle.std.specs.Float.{nan}
-use Rattle.doubles.specs.F64.{if◌then◌else◌}
 use Rattle.pow2.specs.declared.Prescale.{Prescale}
 use Rattle.pow2.specs.declared.Prescale.TheVariants.{By, None}
 use Rattle.checks.specs.declared.Checked.{Checked}

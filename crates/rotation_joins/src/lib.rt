@@ -1,6 +1,5 @@
 // A new run on a unit.
-ghost use Rattle.std.specs.Prelude.{◌≡◌, List, ℕ, ◌≤◌, length, Float};
-ghost use Rattle.doubles.specs.F64.{if◌then◌else◌};
+ghost use Rattle.std.specs.Prelude.{◌≡◌, List, ℕ, ◌≤◌, length, Float, if◌then◌else◌};
 ghost use Rattle.pow2.specs.Pow2.{eta_scaling, pow2_scale};
 ghost use Rattle.checks.specs.First.{Check, first};
 ghost use Rattle.checks.specs.declared.Checked.TheVariants.{Sound};

@@ -1,8 +1,8 @@
 -- A double above zero, rounded up to two decimal digits (phi_krylov_arnoldi.rs, `round2`, as document 01 has it). Definitions only.
-use Rattle.std.specs.Prelude.{ℕ, ◌-◌, Bool, ◌&&◌, ltb, Float}
+use Rattle.std.specs.Prelude.{ℕ, ◌-◌, Bool, ◌&&◌, ltb, Float, if◌then◌else◌}
 use Rattle.std.specs.Float.{nan}
 use Rattle.lists.specs.Greatest.{greatest}
-use Rattle.doubles.specs.F64.{if◌then◌else◌, ◌⊗◌, ◌⊘◌, ◌⋖◌, ◌⩽◌, +∞}
+use Rattle.doubles.specs.F64.{◌⊗◌, ◌⊘◌, ◌⋖◌, ◌⩽◌, +∞}
 use Rattle.doubles.specs.Whole.{ceil}
 use Rattle.round2.specs.Ten.{ten}
 

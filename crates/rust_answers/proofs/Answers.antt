@@ -1,15 +1,15 @@
 -- Whole jobs with the answers that the Rust original gave (those of `replay`, by crates/replay/make.py), computed by the definitions: number, report, output and
 -- working memory, bit for bit. Each takes a path that a wrong definition would leave. Assumes nothing.
-use mathlib.Core.List.{List, [], ◌∷◌, ◌++◌}
+use mathlib.Core.List.{[], ◌∷◌, ◌++◌}
 use mathlib.Core.Option.{none, some}
 use mathlib.Core.Path.{◌≡◌, refl}
 use lib.ListN.{replicate}
-use lib.Ieee.{Float, nan}
+use lib.Ieee.{nan}
 use Rattle.doubles.specs.F64.{bits, nat, 1f, +0}
 use Rattle.general_operator.specs.Csr.{csr}
 use Rattle.generator_action.specs.Generator.{forward}
 use Rattle.combination.specs.Call.{ends}
-use Rattle.taylor_job.specs.Calls.{phi_combination, phi_action, phi_action_batched, open_calls}
+use Rattle.taylor_job.specs.Calls.{phi_combination, phi_action, open_calls}
 use Rattle.taylor_job.specs.declared.TaylorAnswer.TheVariants as taylor
 use Rattle.krylov_job.specs.KrylovCall.{phi_combination_krylov, open_krylov_call}
 use Rattle.krylov_job.specs.declared.KrylovAnswer.TheVariants.{Refusal, Result}

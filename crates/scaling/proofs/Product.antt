@@ -1,5 +1,6 @@
 -- One product with the operator. Of two operators over one matrix the second has the first's vectors times 2 ^ u / 2 ^ v and its gains times 2 ^ t / 2 ^ s; where the field is times
 -- 2 ^ u / 2 ^ v and the chain times 2 ^ s / 2 ^ t, so are those of the product. Assumes nothing.
+use Rattle.std.specs.Prelude.{if◌then◌else◌}
 use mathlib.Core.Path.{◌≡◌, refl, sym, ap, ◌∙◌, subst}
 use mathlib.Core.Logic.{inl, inr}
 use mathlib.Core.List.{List, ◌++◌}
@@ -18,7 +19,7 @@ use Rattle.lists.specs.Window.{window}
 use Rattle.lists.proofs.Bounds.{lt_or_le}
 use Rattle.lists.proofs.Loop.{get_d_tabulate}
 use Rattle.lists.proofs.Window.{get_d_window}
-use Rattle.doubles.specs.F64.{if◌then◌else◌, ◌⊖◌, ◌⊗◌, +0, at}
+use Rattle.doubles.specs.F64.{◌⊖◌, ◌⊗◌, +0, at}
 use Rattle.doubles.specs.Sum.{sum}
 use Rattle.doubles.specs.Units.{Doubles}
 use Rattle.doubles.specs.Clean.{Clean⊗, Clean⊕}

@@ -1,4 +1,5 @@
 -- Terms, sweeps and runs of two operators from scaled starts are scaled. Assumes nothing.
+use Rattle.std.specs.Prelude.{if◌then◌else◌}
 use mathlib.Core.Path.{◌≡◌, refl}
 use mathlib.Core.List.{List}
 use Prim.Native.Nat.{ℕ, zero, suc, ◌+◌, ◌<◌}
@@ -10,7 +11,7 @@ use lib.Ieee.{Float, nan, binary64, fits}
 use lib.Ieee.Fits.{div-fits}
 use Rattle.lists.specs.Loop.{iter, zip_with}
 use Rattle.lists.proofs.Loop.{get_or_zip_with}
-use Rattle.doubles.specs.F64.{if◌then◌else◌, ◌⊕◌, at}
+use Rattle.doubles.specs.F64.{◌⊕◌, at}
 use Rattle.doubles.specs.Clean.{Clean⊗, Clean⊕}
 use Rattle.doubles.proofs.Scaled.{add_scaled, scaled_by}
 use Rattle.vectors.specs.Vectors.{scale}

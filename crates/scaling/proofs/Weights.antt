@@ -1,4 +1,5 @@
 -- The weights, the operator and the start of a combination whose vectors are those of another times 2 ^ u / 2 ^ v. All that is said here of `combination`'s definitions stands in this file. Assumes nothing.
+use Rattle.std.specs.Prelude.{if◌then◌else◌}
 use mathlib.Core.Path.{◌≡◌, refl, sym, ap, subst, ◌∙◌}
 use mathlib.Core.Logic.{inl, inr}
 use mathlib.Core.List.{List, [], ◌∷◌, ◌++◌}
@@ -16,7 +17,7 @@ use borrow.Author.Tests.{lt-ltb}
 use Rattle.lists.proofs.Bounds.{lt_or_le, column_within}
 use Rattle.lists.proofs.Loop.{get_d_tabulate}
 use Rattle.lists.proofs.Window.{get_d_window, length_window}
-use Rattle.doubles.specs.F64.{if◌then◌else◌, ◌⊗◌, +0, at}
+use Rattle.doubles.specs.F64.{◌⊗◌, +0, at}
 use Rattle.doubles.specs.Units.{Doubles}
 use Rattle.doubles.specs.Clean.{Clean⊗}
 use Rattle.doubles.proofs.Scaled.{Scaled, zero_scaled}

@@ -1,4 +1,5 @@
 -- After i stages with results the working memory is cleared up to the largest need so far. Assumes nothing.
+use Rattle.std.specs.Prelude.{if◌then◌else◌}
 use mathlib.Core.Path.{◌≡◌, refl, sym, ap, ◌∙◌}
 use mathlib.Core.Bool.{Bool, true, false}
 use mathlib.Core.List.{List, ◌++◌}
@@ -10,7 +11,7 @@ use lib.Ieee.{Float, nan}
 use borrow.Author.Tests.{ltb-true, ltb-false}
 use Rattle.lists.specs.Window.{splice}
 use Rattle.lists.proofs.Window.{splice_splice, splice_append, splice_nil}
-use Rattle.doubles.specs.F64.{if◌then◌else◌, +0}
+use Rattle.doubles.specs.F64.{+0}
 use Rattle.checks.specs.declared.Checked.{Checked}
 use Rattle.checks.specs.declared.Checked.TheVariants.{Sound, Refused}
 use Rattle.generator_action.specs.Generator.{Generator}

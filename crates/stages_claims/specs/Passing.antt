@@ -1,6 +1,5 @@
 -- When 12 to 16 of a stage pass (document 02, N11), and what its call needs of the working memory. Definitions only.
-use Rattle.std.specs.Prelude.{◌≡◌, Bool, true, false, ℕ, zero, suc, ◌+◌, ◌-◌, ◌*◌, ◌≤◌, ltb, Float}
-use Rattle.doubles.specs.F64.{if◌then◌else◌}
+use Rattle.std.specs.Prelude.{◌≡◌, Bool, true, false, ℕ, zero, suc, ◌+◌, ◌-◌, ◌*◌, ◌≤◌, ltb, Float, if◌then◌else◌}
 use Rattle.generator_action.specs.Generator.{Generator}
 use Rattle.combination.specs.Checks.{out_of_range, taylor_need}
 use Rattle.krylov_job.specs.KrylovCall.{dimension, krylov_need}

@@ -1,7 +1,7 @@
 -- What the plan alone tells of a run. Assumes nothing.
-use mathlib.Core.Path.{◌≡◌, refl, sym, ap, ◌∙◌, subst}
-use mathlib.Core.Bool.{Bool, true, false, not, true≢false}
-use mathlib.Core.List.{List, [], ◌∷◌, ◌++◌}
+use mathlib.Core.Path.{◌≡◌, refl, sym, ◌∙◌, subst}
+use mathlib.Core.Bool.{false}
+use mathlib.Core.List.{List, [], ◌++◌}
 use Prim.Native.Nat.{ℕ, zero, suc, ◌-◌, ◌*◌, ◌≤◌}
 use native.Mathlib.Omega.{arith}
 use native.Mathlib.Nat.{one-mul}
@@ -9,7 +9,7 @@ use lib.Dec.{eqb}
 use lib.ListN.{length}
 use lib.Ieee.{Float}
 use borrow.Author.Tests.{le-ltb}
-use Rattle.checks.specs.First.{Check, refuse, first, before}
+use Rattle.checks.specs.First.{Check, first, before}
 use Rattle.checks.specs.declared.Checked.{Checked}
 use Rattle.checks.specs.declared.Checked.TheVariants.{Sound, Refused}
 use Rattle.checks.proofs.First.{and_then, first_append, sound_append, sound_cons, sound_on, passes, ends_sound}
@@ -25,12 +25,12 @@ use Rattle.phi_shift.specs.Plan.{argument, plan_of, sweep_plan}
 use Rattle.phi_shift.specs.declared.PlanAnswer.{PlanAnswer}
 use Rattle.phi_shift.specs.declared.PlanAnswer.TheVariants.{NoPlan, Plan}
 use Rattle.combination.specs.Call.{Call, unless_refused}
-use Rattle.combination.specs.Combination.{further, eta_of, combination_operator, combination_start, action_operator, init_aug_vector}
+use Rattle.combination.specs.Combination.{further, eta_of}
 use Rattle.combination.specs.Checks.{no_row, count_checks, index_checks, time_checks, degree_checks, plan_checks, length_checks, finite_checks, magnitude_checks, schedule_checks, memory_checks, vector_checks_by, vector_checks, sweep_checks, job_checks, taylor_need}
 use Rattle.taylor_job.specs.declared.TaylorReport.{TaylorReport}
 use Rattle.taylor_job.specs.declared.TaylorAnswer.{TaylorAnswer}
 use Rattle.taylor_job.specs.declared.TaylorAnswer.TheVariants.{Refusal, Result}
-use Rattle.taylor_job.specs.Calls.{Fields, report, after_plan, swept_fields, combination_checks, combination_run, phi_combination, action_checks, phi_action, batched, phi_action_batched}
+use Rattle.taylor_job.specs.Calls.{Fields, after_plan, combination_checks, combination_run, phi_combination, action_checks, phi_action, phi_action_batched}
 use Rattle.phi_batch.proofs.Batch.{soak_counted, batch_counted}
 use Rattle.taylor_plan.specs.TaylorPlan.{taylor_plan_checks, cost_alone, taylor_plan}
 use Rattle.taylor_plan.specs.Ahead.{own, combination_own, action_own, Foretold, PlanAhead}

@@ -25,8 +25,8 @@ use Rattle.phi_action_helpers.specs.Laid.{matrix_at}
 use Rattle.phi_shift.specs.Plan.{with_shift, sweep_plan}
 use Rattle.phi_shift.specs.declared.PlanAnswer.TheVariants.{Plan}
 use Rattle.phi_shift.proofs.Ways as plan_ways
-use Rattle.combination.specs.Checks.{plan_checks, schedule_checks, memory_checks}
-use Rattle.combination.specs.Call.{Call, ends, cleared}
+use Rattle.combination.specs.Checks.{plan_checks}
+use Rattle.combination.specs.Call.{ends, cleared}
 use Rattle.combination.proofs.Ends.{refused_by, runs}
 use Rattle.taylor_schedule.specs.Inner.{matrix_of, after_checks}
 use Rattle.taylor_schedule.specs.declared.Schedule.{Schedule}

@@ -1,4 +1,6 @@
 // The plan of a Taylor job alone: what its run would report, and no run.
+#![tactic(auto)]
+
 ghost use Rattle.std.specs.Prelude.{◌≡◌, List, [], ◌≤◌, length};
 ghost use Rattle.lists.specs.Window.{splice};
 ghost use Rattle.checks.specs.First.{Check, first};

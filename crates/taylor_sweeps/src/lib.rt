@@ -1,11 +1,11 @@
 // Taylor sweeps: terms in a row, and sweeps in a row.
 #![tactic(auto)]
 
-ghost use Rattle.std.specs.Prelude.{◌≡◌, ◌+◌, ◌≤◌, length};
+ghost use Rattle.std.specs.Prelude.{◌≡◌, ◌+◌, ◌≤◌, length, if◌then◌else◌};
 ghost use Rattle.lists.specs.Loop.{iter};
 ghost use Rattle.lists.specs.Window.{window, splice};
 ghost use Rattle.lists.specs.Frame.{Kept};
-ghost use Rattle.doubles.specs.F64.{if◌then◌else◌, +0};
+ghost use Rattle.doubles.specs.F64.{+0};
 ghost use Rattle.vectors.specs.Vectors.{scale};
 ghost use Rattle.phi_action_helpers.specs.Sweeps.{shifted, horner_step, aug_horner_outer, rescale, sweep, run_sweeps};
 ghost use Rattle.phi_action_helpers.specs.Laid.{operator_at, Ready, Lined, added, horner_at, swept_at};

@@ -1,8 +1,8 @@
 -- Trial lengths on one basis (phi_krylov_arnoldi.rs, `local_error`, `trial_steps`; Sidje 1998). Definitions only.
-use Rattle.std.specs.Prelude.{Bool, true, false, List, ℕ, suc, ◌+◌, ◌-◌, ltb, Float}
+use Rattle.std.specs.Prelude.{Bool, true, false, List, ℕ, suc, ◌+◌, ◌-◌, ltb, Float, if◌then◌else◌}
 use Rattle.lists.specs.Walk.{Turn, on, out, walk}
 use Rattle.lists.specs.Window.{window, open_window}
-use Rattle.doubles.specs.F64.{if◌then◌else◌, ◌⊖◌, ◌⊗◌, ◌⊘◌, ◌⋖◌, bits, at, abs, min_num}
+use Rattle.doubles.specs.F64.{◌⊖◌, ◌⊗◌, ◌⊘◌, ◌⋖◌, bits, at, abs, min_num}
 use Rattle.retry.specs.Retry.{accepts, retry, open_retry}
 use Rattle.hess_exp.specs.HessExp.{Small, unplanned, column, hess_exp_e1, open_hess_exp}
 use Rattle.gram_schmidt.specs.Basis.{Setting, dim, Basis, breakdown, full, open_basis}

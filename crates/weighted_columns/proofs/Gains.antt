@@ -1,4 +1,5 @@
 -- The weights of a combination from its powers. Assumes nothing.
+use Rattle.std.specs.Prelude.{if◌then◌else◌}
 use mathlib.Core.Bool.{Bool, true, false}
 use mathlib.Core.List.{List}
 use mathlib.Core.Path.{◌≡◌, refl, ap, ◌∙◌}
@@ -10,7 +11,7 @@ use borrow.Author.Tests.{lt-ltb, ltb-true}
 use Rattle.lists.specs.Find.{find, exists}
 use Rattle.lists.proofs.Find.{find_ext}
 use Rattle.lists.proofs.Loop.{get_d_tabulate, tabulate_ext}
-use Rattle.doubles.specs.F64.{if◌then◌else◌, ◌⊗◌, 1f, at}
+use Rattle.doubles.specs.F64.{◌⊗◌, 1f, at}
 use Rattle.checks.specs.First.{first}
 use Rattle.checks.specs.declared.Checked.{Checked}
 use Rattle.pow2.specs.Pow2.{eta_scaling}

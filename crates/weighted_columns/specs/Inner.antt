@@ -1,9 +1,9 @@
 -- What 21 and 22 hand back beside their answer: cited by contracts of inner functions, and by no definition of a call. Definitions only.
-use Rattle.std.specs.Prelude.{Bool, not, List, [], ◌∷◌, ℕ, ◌-◌, ltb, Float}
+use Rattle.std.specs.Prelude.{Bool, not, List, [], ◌∷◌, ℕ, ◌-◌, ltb, Float, if◌then◌else◌}
 use Rattle.std.specs.Float.{nan}
 use Rattle.lists.specs.Loop.{tabulate}
 use Rattle.lists.specs.Find.{exists}
-use Rattle.doubles.specs.F64.{if◌then◌else◌, ◌⊗◌, +0, 1f, at, is_finite}
+use Rattle.doubles.specs.F64.{◌⊗◌, +0, 1f, at, is_finite}
 use Rattle.checks.specs.First.{Check, refuse, first}
 use Rattle.pow2.specs.declared.Scaling.{Scaling}
 use Rattle.phi_action_helpers.specs.declared.Coupling.{Coupling}

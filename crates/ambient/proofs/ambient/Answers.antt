@@ -1,5 +1,4 @@
 -- `ambient::ambient` meets its contract. Assumes nothing.
-use borrow.Author.Rules.{rules}
 use native.Mathlib.Omega.{arith}
 use mathlib.Core.Path.{◌≡◌, refl, sym, ◌∙◌}
 use mathlib.Core.List.{◌++◌}
@@ -50,13 +49,18 @@ run_records-answer-requires c =
     let matrix : Csr = csr c.args.n c.args.starts.now c.args.cols.now c.args.vals.now in
     let masses : Mass = given c.args.with_mass c.args.mass.now in
     let logs : Log = log_of c.args.durations.now c.args.levels.now in
-    let told : c.and_then-checked.result ≡ first (field_checks c.args.n c.args.field.now c.args.load.now (length c.args.out.now) ++ log_checks c.args.n logs c.args.window c.args.node (long c)) = c.and_then-checked.ensures _ _ c.check_fields-fields.ensures c.check_log-log.ensures in
-    let parts : (e : c.and_then-checked.result ≡ Sound) → (Sound ≡ first (field_checks c.args.n c.args.field.now c.args.load.now (length c.args.out.now))) × (Sound ≡ first (log_checks c.args.n logs c.args.window c.args.node (long c))) = λ e. sound_append _ _ (sym e ∙ told) in
+    let long : Places = places (length c.args.temperatures.now) (length c.args.largest.now) (length c.args.smallest.now) in
+    let told : c.and_then-checked.result ≡ first (field_checks c.args.n c.args.field.now c.args.load.now (length c.args.out.now) ++ log_checks c.args.n logs c.args.window c.args.node long) = c.and_then-checked.ensures _ _ c.check_fields-fields.ensures c.check_log-log.ensures in
+    let parts : (e : c.and_then-checked.result ≡ Sound) → (Sound ≡ first (field_checks c.args.n c.args.field.now c.args.load.now (length c.args.out.now))) × (Sound ≡ first (log_checks c.args.n logs c.args.window c.args.node long)) = λ e. sound_append _ _ (sym e ∙ told) in
     let a = c.args in
     let norm = norm_told matrix masses c.check_generator-matrix.ensures c.in-Norm.is in
     let p = parts c.in-Sound.is in
-    let r = rw (c.generator_shape-g.ensures a.starts.now a.cols.now a.vals.now a.mass.now refl)
-    (passed matrix a.with_mass a.mass.now norm, ((norm.sound, refl), logs_known a.n logs a.field.now a.load.now a.window a.node (length a.out.now) (length a.temperatures.now) (length a.largest.now) (length a.smallest.now) p.0 p.1)) in record { passed = r.0; value = r.1.0; logs = r.1.1 }
+    let e = c.generator_shape-g.ensures a.starts.now a.cols.now a.vals.now a.mass.now refl in
+    record {
+      passed = rw e (passed matrix a.with_mass a.mass.now norm);
+      value = rw e (norm.sound, refl);
+      logs = rw e (logs_known a.n logs a.field.now a.load.now a.window a.node (length a.out.now) (length a.temperatures.now) (length a.largest.now) (length a.smallest.now) p.0 p.1);
+    }
 
 pub show_extremes-requires : goal.show_extremes-requires
 show_extremes-requires c =

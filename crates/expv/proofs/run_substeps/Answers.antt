@@ -1,37 +1,30 @@
 -- `expv::run_substeps` meets its contract. Assumes nothing.
-use borrow.Author.Rules.{rules}
 use native.Mathlib.Omega.{arith}
 use mathlib.Core.Path.{◌≡◌, refl, subst}
-use mathlib.Core.List.{List, [], ◌∷◌}
-use Prim.Native.Nat.{ℕ, zero, ◌-◌, ◌≤◌}
+use mathlib.Core.List.{List}
+use Prim.Native.Nat.{ℕ}
 use lib.Ieee.{Float}
-use mathlib.Core.Logic.{⊎_elim}
-use types.Run.{OneOf}
-use denote.Enum.Declared.{tag_of}
-use Rattle.lists.specs.Frame.{Kept}
 use Rattle.lists.specs.Walk.{Turn, walk}
 use Rattle.lists.proofs.Walk.{Left, left_start, left_turn, left_out, left_none}
 use Rattle.lists.proofs.Frame.{kept_all, kept_on}
-use Rattle.doubles.specs.F64.{+0}
 use Rattle.phi_action_helpers.specs.declared.Layout.{Layout}
-use Rattle.phi_action_helpers.specs.Laid.{matrix_at}
 use Rattle.phi_action_helpers.proofs.Sweeps.{values_kept}
 use Rattle.gram_schmidt.specs.declared.Krylov.{Krylov}
-use Rattle.gram_schmidt.specs.Memory.{setting_at}
 use Rattle.gram_schmidt.proofs.Turns.{room_kept}
-use Rattle.krylov_advance.specs.Run.{State, End, substep}
+use Rattle.krylov_advance.specs.Run.{State, End}
 use Rattle.krylov_advance.specs.Memory.{progress_at, Moderate}
 use Rattle.krylov_advance.specs.declared.Progress.{Progress}
 use Rattle.krylov_advance.specs.declared.Progress.TheVariants.{On, Finished, Refused}
-use Rattle.krylov_advance.specs.contracts.Progress as progress
+use Rattle.krylov_advance.specs.declared.Control.{Control}
+use Rattle.krylov_advance.specs.declared.KrylovPhiReport.{KrylovPhiReport}
 use Rattle.krylov_advance.proofs.Turns.{seen_on, moderate_turn}
 use Rattle.expv.proofs.run_substeps.Goals as goal
 
 -- a run that has ended
-over : (l : Layout) (k : Krylov) (o : Progress) (w : List Float) → OneOf (1 ∷ 2 ∷ []) (tag_of progress.the_type o)
+over : (l : Layout) (k : Krylov) (o : Progress) (w : List Float) → ((c : Control) (r : KrylovPhiReport) → o ≡ On c r → ⊥)
     → {step : ℕ → State → Turn State End} {n i : ℕ} {o₀ : Turn State End} → Left step n i o₀ (progress_at l k o w) → progress_at l k o w ≡ walk step n 0 o₀
 unfolding progress_at
-over l k (On c r) w t h = ⊎_elim (λ (e : zero ≡ 1). absurd (omega (arith, e))) (λ (e : zero ≡ 2). absurd (omega (arith, e))) t
+over l k (On c r) w t h = absurd (t c r refl)
 over l k (Finished c r) w t h = left_out h _ refl
 over l k (Refused n x c r) w t h = left_out h _ refl
 
@@ -45,7 +38,7 @@ shape_of-work-in_default c = c.loop-i.invariant.2.long
 
 pub returns-in_default : goal.returns-in_default
 unfolding progress_at
-returns-in_default c = record { work_after = over _ _ c.loop-i.o _ c.in-On.keys2 c.loop-i.invariant.3; kept = c.loop-i.invariant.2 }
+returns-in_default c = record { work_after = over c.args.l c.args.k c.loop-i.o c.loop-i.work c.in_default.not-On c.loop-i.invariant.3; kept = c.loop-i.invariant.2 }
 
 pub substep-o-requires : goal.substep-o-requires
 substep-o-requires c =

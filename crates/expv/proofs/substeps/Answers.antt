@@ -1,5 +1,4 @@
 -- `expv::substeps` meets its contract. Assumes nothing.
-use borrow.Author.Rules.{rules}
 use native.Mathlib.Omega.{arith}
 use mathlib.Core.Path.{refl, ap, ◌∙◌}
 use Rattle.lists.proofs.Window.{part_window}
