@@ -1,5 +1,5 @@
 -- `rotation::passed_on` meets its contract. Assumes nothing.
-use borrow.Author.Rules.{rules, scaled_Fits}
+use borrow.Author.Rules.{scaled_Fits}
 use lib.Dec.{lit<}
 use native.Mathlib.Omega.{arith}
 use mathlib.Core.Path.{refl, sym, ◌∙◌}
@@ -10,7 +10,7 @@ pub returns-then-k-eq0 : goal.returns-then-k-eq0
 returns-then-k-eq0 c = rw (waits_none c.args.unit (sym c.count_in-k.ensures ∙ c.if-k-eq0.true)) refl
 
 pub offset_bounds-places-p : goal.offset_bounds-places-p
-offset_bounds-places-p c = scaled_Fits _ 16 144 (array-set-from-places c) (lit< tt)
+offset_bounds-places-p c = scaled_Fits _ 16 144 (place_below c.args.unit 0 (omega (arith, c.count_in-k.ensures, c.if-k-eq0.false))) (lit< tt)
 
 pub bounds-places-p : goal.bounds-places-p
 bounds-places-p c = place_below c.args.unit 0 (omega (arith, c.count_in-k.ensures, c.if-k-eq0.false))

@@ -1,5 +1,5 @@
 -- `rotation::seated` meets its contract. Assumes nothing.
-use borrow.Author.Rules.{rules, scaled_Fits}
+use borrow.Author.Rules.{scaled_Fits}
 use lib.Dec.{lit<}
 use native.Mathlib.Omega.{arith}
 use mathlib.Core.Path.{refl, sym, ◌∙◌}
@@ -7,7 +7,7 @@ use Rattle.rotation.proofs.Queue.{has_room, seat_is}
 use Rattle.rotation.proofs.seated.Goals as goal
 
 pub offset_bounds-places-p : goal.offset_bounds-places-p
-offset_bounds-places-p c = scaled_Fits _ 16 144 (array-set-from-places c) (lit< tt)
+offset_bounds-places-p c = scaled_Fits _ 16 144 (omega (arith, c.lowest_free-p.ensures, (has_room _ (sym c.room.ensures ∙ c.if-room.true)).0)) (lit< tt)
 
 pub bounds-places-p : goal.bounds-places-p
 bounds-places-p c = omega (arith, c.lowest_free-p.ensures, (has_room _ (sym c.room.ensures ∙ c.if-room.true)).0)

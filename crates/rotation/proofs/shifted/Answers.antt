@@ -1,11 +1,9 @@
 -- `rotation::shifted` meets its contract. Assumes nothing.
 use native.Mathlib.Omega.{arith}
-use Prim.Native.Nat.{◌+◌, ◌-◌, ◌≤◌}
-use lib.ListN.{get_or, replicate}
+use Prim.Native.Nat.{◌+◌, ◌≤◌}
 use borrow.Author.Rules.{scaled_Fits}
 use mir.Facts.{Fits-le, Fits-lit}
 use lib.Dec.{lit<}
-use Rattle.lists.proofs.Loop.{Filled}
 use Rattle.rotation.proofs.Queue.{shift_start, shift_more, shift_done}
 use Rattle.rotation.proofs.shifted.Goals as goal
 
@@ -13,7 +11,7 @@ pub loop-k-init : goal.loop-k-init
 loop-k-init c = (omega arith, c.requires.0, shift_start c.args.queue c.args.from)
 
 pub offset_bounds-queue-k : goal.offset_bounds-queue-k
-offset_bounds-queue-k c = scaled_Fits _ 16 8 (array-read-moved c) (lit< tt)
+offset_bounds-queue-k c = scaled_Fits _ 16 8 (omega (arith, c.requires.1)) (lit< tt)
 
 pub bounds-queue-k : goal.bounds-queue-k
 bounds-queue-k c = omega (arith, c.requires.1)
@@ -22,14 +20,14 @@ pub overflow_sub-moved : goal.overflow_sub-moved
 overflow_sub-moved c = c.loop-k.invariant.0
 
 pub offset_bounds-moved-k : goal.offset_bounds-moved-k
-offset_bounds-moved-k c = scaled_Fits _ 16 8 (array-write-moved c) (lit< tt)
+offset_bounds-moved-k c = scaled_Fits _ 16 8 (omega (arith, c.requires.1)) (lit< tt)
 
 pub bounds-moved-k : goal.bounds-moved-k
 bounds-moved-k c = omega (arith, c.requires.1)
 
 pub overflow_add-k : goal.overflow_add-k
 overflow_add-k c =
-    let few : c.loop-k.k + 1 ≤ 16 = omega (arith, array-read-moved c) in
+    let few : c.loop-k.k + 1 ≤ 16 = omega (arith, c.requires.1) in
     Fits-le few (Fits-lit tt)
 
 pub loop-k-preserved : goal.loop-k-preserved
