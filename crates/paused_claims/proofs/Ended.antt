@@ -16,7 +16,7 @@ use Rattle.pow2.specs.declared.Prescale.TheVariants.{By, None}
 use Rattle.checks.specs.First.{first}
 use Rattle.checks.specs.declared.Checked.{Checked}
 use Rattle.checks.specs.declared.Checked.TheVariants.{Sound, Refused}
-use Rattle.krylov_advance.specs.Run.{State, End, finished}
+use Rattle.krylov_advance.specs.Run.{State, End}
 use Rattle.combination.specs.Combination.{further}
 use Rattle.taylor_schedule.proofs.Admitted.{first_within}
 use Rattle.gram_schmidt.specs.Basis.{norm2}
@@ -28,7 +28,7 @@ use Rattle.paused_run.specs.declared.StepAnswer.{StepAnswer}
 use Rattle.paused_run.specs.declared.StepAnswer.TheVariants.{Refusal, Stepped}
 use Rattle.demand_3.specs.Trace.{Accepted, field_after, Run, status_of, accepted_by, time_of, field_of}
 use Rattle.demand_3.specs.Krylov.{euclidean, Each}
-use Rattle.demand_3.proofs.Counts.{reached, run_recorded}
+use Rattle.demand_3.proofs.Counts.{run_recorded}
 use Rattle.demand_3.proofs.Krylov.{none_zeros, by_not_zeros}
 use Rattle.demand_3.proofs.Moments.{Stands, run_stands}
 use Rattle.paused_claims.specs.History.{whole, Past, call_on, checked, run_in, made_with, in_force, at_start, next, Left, run_so_far}

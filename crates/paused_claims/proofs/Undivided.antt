@@ -25,12 +25,12 @@ use Rattle.checks.specs.declared.Checked.TheVariants.{Sound, Refused}
 use Rattle.general_operator.specs.Csr.{row_sum_norm}
 use Rattle.combination.specs.Call.{Call, ends, unless_refused, cleared}
 use Rattle.gram_schmidt.specs.Basis.{Setting, norm2}
-use Rattle.krylov_advance.specs.Run.{State, End, finished, refused, substep, spent, run, started, scaled_back, back, relative_report, clamp_m, idle, setting, expv_by, expv}
+use Rattle.krylov_advance.specs.Run.{State, End, finished, refused, substep, spent, started, scaled_back, back, relative_report, clamp_m, idle, setting, expv_by, expv}
 use Rattle.krylov_job.specs.KrylovCall.{bound, dimension, krylov_checks, after_run, combination_run_krylov, phi_combination_krylov}
 use Rattle.krylov_job.specs.declared.KrylovPhiOptions.{KrylovPhiOptions}
 use Rattle.krylov_job.specs.declared.KrylovAnswer.{KrylovAnswer}
 use Rattle.krylov_job.specs.declared.KrylovAnswer.TheVariants as krylov_answer
-use Rattle.paused_run.specs.Paused.{Job, rows, PausedCall, need_of, Input, start, moved, over, verdict, field_after, after_substep, step}
+use Rattle.paused_run.specs.Paused.{Job, rows, PausedCall, need_of, Input, moved, over, verdict, field_after, after_substep}
 use Rattle.paused_run.specs.declared.PausedRun.{PausedRun}
 use Rattle.paused_run.specs.declared.StepAnswer.{StepAnswer}
 use Rattle.paused_run.specs.declared.StepAnswer.TheVariants.{Refusal, Stepped}
@@ -280,7 +280,7 @@ module _ {o : KrylovPhiOptions} {j : Job} {p : Past} (l : LeftSame o j p) where
 
 all_ended : {o : KrylovPhiOptions} {j : Job} {p : Past} → Left o j p → (is : List Input) → p.run.ended ≡ true → (all_next o j p is).run.ended ≡ true
 all_ended l [] h = h
-all_ended l (i ∷ is) h = all_ended (history.stepped l i) is (stays_ended l i h)
+all_ended {o = o} {j = j} {p = p} l (i ∷ is) h = all_ended {o = o} {j = j} {p = next o j p i} (history.stepped l i) is (stays_ended l i h)
 
 one_longer : (o : KrylovPhiOptions) (j : Job) (p : Past) (i : Input) → Steps p i → length (next o j p i).settings ≡ suc (length p.settings)
 one_longer o j p i e =
