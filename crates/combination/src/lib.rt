@@ -1,4 +1,6 @@
 // The checks of a job, one by one.
+#![tactic(auto)]
+
 ghost use Rattle.std.specs.Prelude.{◌≡◌, List, ◌++◌, ◌+◌, ◌||◌, eqb, ltb};
 ghost use Rattle.checks.specs.First.{Check, first};
 ghost use Rattle.expmv.specs.Select.{M_MAX};

@@ -1,4 +1,6 @@
 // Products of the generator G = -Q with a vector: one row kernel, and loops over the rows.
+#![tactic(auto)]
+
 ghost use Rattle.std.specs.Prelude.{◌≡◌, ◌+◌, ◌≤◌, length};
 ghost use Rattle.lists.specs.Window.{window, splice};
 ghost use Rattle.lists.specs.Bounds.{Disjoint, Apart};

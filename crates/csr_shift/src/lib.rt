@@ -1,4 +1,6 @@
 // The diagonal shift of a generator: the midpoint of its Gershgorin hull, where that lowers the norm.
+#![tactic(auto)]
+
 ghost use Rattle.std.specs.Prelude.{◌≡◌, ◌<◌};
 ghost use Rattle.lists.specs.Find.{find};
 ghost use Rattle.general_operator.specs.Csr.{csr, Valid};

@@ -1,4 +1,6 @@
 // The exponential of a double by scaling and squaring, as `dense_exp` of the Rust's dense_la.rs computes it of a 1 × 1 matrix with h = 1.
+#![tactic(auto)]
+
 ghost use Rattle.std.specs.Prelude.{◌≡◌};
 ghost use Rattle.dense_la.specs.DenseExp.{matmul, norm, squarings, scale, series, squared, dense_exp};
 

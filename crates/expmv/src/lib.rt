@@ -1,4 +1,6 @@
 // The choice of scaling and degree for a truncated Taylor series.
+#![tactic(auto)]
+
 ghost use Rattle.std.specs.Prelude.{◌≡◌, ◌*◌, ◌<◌, ◌≤◌, get_or};
 ghost use Rattle.std.specs.Float.{nan};
 ghost use Rattle.doubles.specs.F64.{◌⊘◌};

@@ -1,4 +1,6 @@
 // The checks 7 to 11: the mass, the row sums, the norm and the first row that has it.
+#![tactic(auto)]
+
 ghost use Rattle.std.specs.Prelude.{◌≡◌, true, cond, List, ℕ, ◌+◌, ◌-◌, ◌≤◌, ◌<◌, length, Float};
 ghost use Rattle.lists.specs.Find.{find};
 ghost use Rattle.doubles.specs.F64.{◌⊘◌, ◌⋖◌, at, abs};

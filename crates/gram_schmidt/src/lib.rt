@@ -1,4 +1,6 @@
 // A product with the generator, made orthogonal to the columns before it, and its norm.
+#![tactic(auto)]
+
 ghost use Rattle.std.specs.Prelude.{◌≡◌, ◌+◌, ◌*◌, ◌≤◌, ◌<◌, length};
 ghost use Rattle.lists.specs.Walk.{on};
 ghost use Rattle.lists.specs.Window.{splice};

@@ -1,4 +1,6 @@
 // The first column of the exponential of a small Hessenberg matrix, by Taylor sweeps.
+#![tactic(auto)]
+
 ghost use Rattle.std.specs.Prelude.{◌≡◌, ◌+◌, ◌*◌, ◌<◌, ◌≤◌, length};
 ghost use Rattle.lists.specs.Loop.{iter, zip_with};
 ghost use Rattle.lists.specs.Window.{window};

@@ -1,4 +1,6 @@
 // The product with a small Hessenberg matrix that is stored by columns, in place, eight rows at a time.
+#![tactic(auto)]
+
 ghost use Rattle.std.specs.Prelude.{◌≡◌, map, ◌+◌, ◌-◌, ◌*◌, ◌<◌, ◌≤◌, length};
 ghost use Rattle.doubles.specs.F64.{◌⊗◌, at};
 ghost use Rattle.hess_rows.specs.HessProduct.{hess_product};

@@ -1,4 +1,6 @@
 // The checks of a join: those of both inputs, 34 and 35, and 36, 3 and 6 of the result.
+#![tactic(auto)]
+
 ghost use Rattle.std.specs.Prelude.{◌≡◌, List, true, ◌||◌, ltb, ◌+◌, ◌-◌, ◌≤◌, ◌<◌, Float};
 ghost use Rattle.checks.specs.First.{first};
 ghost use Rattle.general_operator.specs.Csr.{csr};

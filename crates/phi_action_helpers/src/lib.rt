@@ -1,4 +1,6 @@
 // The augmented operator [tau G, W; 0, J], and a product with it.
+#![tactic(auto)]
+
 ghost use Rattle.std.specs.Prelude.{◌≡◌, false, ℕ, ◌+◌, ◌≤◌, ◌<◌, length, get_or};
 ghost use Rattle.lists.specs.Loop.{tabulate};
 ghost use Rattle.lists.specs.Window.{window, splice};

@@ -1,4 +1,6 @@
 // The sweep plan: unshifted, or shifted where that costs strictly less.
+#![tactic(auto)]
+
 ghost use Rattle.std.specs.Prelude.{◌≡◌};
 ghost use Rattle.general_operator.specs.Csr.{csr, Valid};
 ghost use Rattle.phi_shift.specs.Plan.{argument, shifted_bound, cheaper_shifted, usable, with_shift, sweep_plan};

@@ -1,4 +1,6 @@
 // Powers of two that scale exactly, total on every double.
+#![tactic(auto)]
+
 ghost use Rattle.std.specs.Prelude.{◌≡◌, ◌<◌, T, pos, negsuc};
 ghost use Rattle.std.specs.Int.Signed.{mag};
 ghost use Rattle.doubles.specs.F64.{◌⋖◌, +0};

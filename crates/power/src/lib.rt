@@ -1,4 +1,6 @@
 // A power with a whole exponent, and the root of a whole order.
+#![tactic(auto)]
+
 ghost use Rattle.std.specs.Prelude.{◌≡◌, ◌+◌, ◌<◌, T};
 ghost use Rattle.lists.specs.Greatest.{greatest};
 ghost use Rattle.doubles.specs.F64.{INF_BITS, nonneg};

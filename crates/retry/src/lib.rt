@@ -1,4 +1,6 @@
 // Step control: whether a length is accepted, and the length tried next.
+#![tactic(auto)]
+
 ghost use Rattle.std.specs.Prelude.{◌≡◌};
 ghost use Rattle.retry.specs.Retry.{accepts, retry};
 

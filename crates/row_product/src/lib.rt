@@ -1,4 +1,6 @@
 // The product of one row with a vector, two entries a turn.
+#![tactic(auto)]
+
 ghost use Rattle.std.specs.Prelude.{◌≡◌, ℕ, ◌+◌, ◌≤◌, ◌<◌, length, get_or};
 ghost use Rattle.general_operator.specs.Csr.{row_product};
 

@@ -1,4 +1,6 @@
 // Taylor sweeps: terms in a row, and sweeps in a row.
+#![tactic(auto)]
+
 ghost use Rattle.std.specs.Prelude.{◌≡◌, ◌+◌, ◌≤◌, length};
 ghost use Rattle.lists.specs.Loop.{iter};
 ghost use Rattle.lists.specs.Window.{window, splice};

@@ -1,4 +1,6 @@
 // One term of a Taylor sweep, added to the field.
+#![tactic(auto)]
+
 ghost use Rattle.std.specs.Prelude.{◌≡◌, false, ◌+◌, ◌≤◌, ◌<◌, length};
 ghost use Rattle.lists.specs.Loop.{tabulate, zip_with};
 ghost use Rattle.lists.specs.Window.{window, splice};

@@ -1,4 +1,6 @@
 // The checks of a transposed generator: 1 to 11 of the forward one, 9 without a mass too, 30, and 11 of the column sums.
+#![tactic(auto)]
+
 ghost use Rattle.std.specs.Prelude.{◌≡◌, List, ◌++◌, ℕ, ◌+◌, ◌-◌, ◌<◌, length, Float};
 ghost use Rattle.checks.specs.First.{first};
 ghost use Rattle.general_operator.specs.Csr.{csr};

@@ -1,0 +1,8 @@
+-- `axpy_dot::axpy_dot_pair` meets its contract. Assumes nothing.
+use borrow.Author.Rules.{rules}
+use native.Mathlib.Omega.{arith}
+use lib.ListN.{length-set}
+use Rattle.axpy_dot.proofs.axpy_dot_pair.Goals as goal
+
+pub bounds-work-y-4 : goal.bounds-work-y-4
+bounds-work-y-4 c = simp length-set (omega arith)

@@ -1,0 +1,17 @@
+-- `csr_shift::midpoint` meets its contract. Assumes nothing.
+use native.Mathlib.Omega.{arith}
+use borrow.Author.Rules.{rules}
+use Prim.Native.Nat.{◌-◌, ◌≤◌}
+use mathlib.Core.Path.{◌≡◌, sym, ◌∙◌}
+use lib.Ieee.{nan_bits}
+use Rattle.lists.proofs.Loop.{iter_none, iter_turn}
+use Rattle.general_operator.specs.Csr.{csr}
+use Rattle.csr_shift.specs.Shift.{generator_row, high, low, midpoint}
+use Rattle.csr_shift.proofs.midpoint.Given as goal
+
+abbrev pub invariant-loop-i : goal.invariant-loop-i
+invariant-loop-i l =
+    (l.i ≤ l.n) × (l.high ≡ high (generator_row (csr l.n l.starts l.cols l.vals)) l.i) × (l.low ≡ low (generator_row (csr l.n l.starts l.cols l.vals)) l.i)
+
+abbrev pub decreases-loop-i : goal.decreases-loop-i
+decreases-loop-i l = l.n - l.i

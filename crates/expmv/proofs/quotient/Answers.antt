@@ -1,0 +1,6 @@
+-- `expmv::quotient` meets its contract. Assumes nothing.
+use borrow.Author.Rules.{rules}
+use Rattle.expmv.proofs.quotient.Goals as goal
+
+pub returns : goal.returns
+returns c = c.ceil.ensures

@@ -1,0 +1,22 @@
+-- `join_rows::check_values` meets its contract. Assumes nothing.
+use borrow.Author.Rules.{rules}
+use native.Mathlib.Omega.{arith}
+use Prim.Native.Nat.{◌-◌}
+use Rattle.general_operator.specs.Csr.{csr}
+use Rattle.join_rows.proofs.Passes.{FineRows, fine_rows_start, fine_rows_next, fine_rows_stop, fine_rows_end}
+use Rattle.join_rows.proofs.check_values.Goals as goal
+
+pub loop-i-init : goal.loop-i-init
+loop-i-init c = fine_rows_start _ _
+
+pub check_row_values-row-requires : goal.check_row_values-row-requires
+check_row_values-row-requires c = record { joinable = c.requires; i_lt_n = omega arith }
+
+pub returns-in_default : goal.returns-in_default
+returns-in_default c = fine_rows_stop c.loop-i.invariant (omega arith) c.check_row_values-row.ensures c.in_default.is
+
+pub loop-i-preserved : goal.loop-i-preserved
+loop-i-preserved c = fine_rows_next c.loop-i.invariant (omega arith) c.check_row_values-row.ensures c.in-Sound.is
+
+pub returns : goal.returns
+returns c = fine_rows_end c.loop-i.invariant (omega arith)

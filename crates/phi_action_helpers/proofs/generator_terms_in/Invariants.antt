@@ -1,0 +1,16 @@
+-- `phi_action_helpers::generator_terms_in` meets its contract. Assumes nothing.
+use borrow.Author.Rules.{rules}
+use native.Mathlib.Omega.{arith}
+use Prim.Native.Nat.{◌+◌, ◌-◌, ◌≤◌}
+use mathlib.Core.Path.{◌∙◌}
+use lib.Ieee.{nan}
+use Rattle.lists.proofs.Loop.{Filled, started, turned, finished, read_here, read_apart}
+use Rattle.doubles.specs.F64.{at}
+use Rattle.phi_action_helpers.specs.Augmented.{generator_term}
+use Rattle.phi_action_helpers.proofs.generator_terms_in.Given as goal
+
+abbrev pub invariant-loop-i : goal.invariant-loop-i
+invariant-loop-i l = (l.i ≤ l.n) × Filled l.w l.i (λ m. generator_term l.k (at l.initial.work (l.av + m)) (at l.initial.work (l.w + m))) l.initial.work l.work
+
+abbrev pub decreases-loop-i : goal.decreases-loop-i
+decreases-loop-i l = l.n - l.i

@@ -1,0 +1,17 @@
+-- `phi_action_helpers::top_in` meets its contract. Assumes nothing.
+use borrow.Author.Rules.{rules}
+use native.Mathlib.Omega.{arith}
+use Prim.Native.Nat.{◌+◌}
+use lib.Ieee.{nan}
+use Rattle.lists.proofs.Loop.{passed}
+use Rattle.doubles.specs.F64.{at}
+use Rattle.phi_action_helpers.specs.Augmented.{coupled, generator_term}
+use Rattle.phi_action_helpers.proofs.top_in.Goals as goal
+
+pub columns_in-requires : goal.columns_in-requires
+columns_in-requires c = record { count_bound = c.requires.count_bound; n_in_bounds = omega (arith, c.generator_terms_in.auto.work) }
+
+pub returns : goal.returns
+returns c =
+    let a = c.args in
+    passed a.w a.n (λ i. generator_term a.k (at a.work.now (a.av + i)) (at a.work.now (a.w + i))) (λ i x. coupled a.vectors.now a.places a.count a.sc i x) a.work.now nan (omega arith) c.generator_terms_in.ensures c.columns_in.ensures

@@ -1,0 +1,13 @@
+-- `power::root_bits` meets its contract. Assumes nothing.
+use Rattle.std.proofs.Common.{◌≡◌, ◌-◌, ◌<◌, Bool, true, false, subst, arith, rules}
+use lib.Ieee.{Float, le}
+use Rattle.doubles.proofs.Patterns.{finite_no_nan}
+use Rattle.power.specs.Power.{within}
+use Rattle.power.proofs.Bracket.{Bracket, test_is, bracket_begin, bracket_end}
+use Rattle.power.proofs.root_bits.Given as goal
+
+abbrev pub invariant-loop-lo : goal.invariant-loop-lo
+invariant-loop-lo l = Bracket l.t l.q l.lo l.hi l.trial
+
+abbrev pub decreases-loop-lo : goal.decreases-loop-lo
+decreases-loop-lo l = l.hi - l.lo

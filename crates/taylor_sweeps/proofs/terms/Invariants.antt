@@ -1,0 +1,12 @@
+-- `taylor_sweeps::terms` meets its contract. Assumes nothing.
+use native.Mathlib.Omega.{arith}
+use Prim.Native.Nat.{◌-◌, ◌≤◌}
+use mathlib.Core.Path.{◌≡◌}
+use Rattle.phi_action_helpers.proofs.Sweeps.{State, began, turn, state_counted, ready_kept}
+use Rattle.taylor_sweeps.proofs.terms.Given as goal
+
+abbrev pub invariant-loop-k : goal.invariant-loop-k
+invariant-loop-k l = (l.k ≤ l.m) × State l.x.l l.x.b l.starts l.cols l.vals l.vectors l.x.tau l.x.p l.k l.applied l.initial.work l.work
+
+abbrev pub decreases-loop-k : goal.decreases-loop-k
+decreases-loop-k l = l.m - l.k
