@@ -1,4 +1,6 @@
 // The checks of a combination and of an action, one by one, behind those of the generator.
+#![tactic(auto)]
+
 ghost use Rattle.std.specs.Prelude.{◌≡◌, ◌*◌, ◌≤◌, length};
 ghost use Rattle.pow2.specs.Pow2.{sup};
 ghost use Rattle.taylor_schedule.specs.Inner.{combination_job, one_column, action_job};

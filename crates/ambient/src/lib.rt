@@ -1,4 +1,6 @@
 // A soak under a changing ambient level: Taylor combinations in a row, and the extremes of one node's temperature over a window.
+#![tactic(auto)]
+
 ghost use Rattle.std.specs.Prelude.{◌≡◌, ◌-◌, ◌≤◌, length};
 ghost use Rattle.lists.specs.Walk.{walk, on};
 ghost use Rattle.lists.specs.Window.{window, splice};

@@ -1,4 +1,6 @@
 // The checks of a soak under a changing ambient level: of field, load and log.
+#![tactic(auto)]
+
 ghost use Rattle.std.specs.Prelude.{◌≡◌, not, ◌||◌, ◌-◌, ◌<◌, eqb, ltb, leb};
 ghost use Rattle.checks.specs.First.{first};
 ghost use Rattle.ambient_checks.specs.Log.{short, field_checks, log_checks};

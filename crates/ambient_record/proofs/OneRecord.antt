@@ -6,13 +6,12 @@ use Prim.Native.Nat.{ℕ, ◌+◌, ◌-◌, ◌*◌, ◌≤◌}
 use native.Mathlib.Omega.{arith}
 use native.Mathlib.Nat.{one-mul}
 use lib.Dec.{ltb}
-use lib.ListN.{length, replicate, length-replicate, length-append}
+use lib.ListN.{length, length-append}
 use lib.Ieee.{Float}
 use borrow.Author.Tests.{lt-ltb, le-ltb}
 use Rattle.lists.specs.Window.{window, splice}
 use Rattle.lists.proofs.Bounds.{lt_or_le}
 use Rattle.lists.proofs.Window.{length_splice, window_splice_same}
-use Rattle.doubles.specs.F64.{+0}
 use Rattle.vectors.specs.Vectors.{scale}
 use Rattle.vectors.proofs.Laws.{length_scale}
 use Rattle.checks.specs.First.{Check, first}

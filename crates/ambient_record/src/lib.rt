@@ -1,4 +1,6 @@
 // One record of a soak under a changing ambient level: the Taylor combination of the field and of the load times the level.
+#![tactic(auto)]
+
 ghost use Rattle.std.specs.Prelude.{◌≡◌, List, ◌+◌, ◌≤◌, length};
 ghost use Rattle.lists.specs.Window.{window};
 ghost use Rattle.checks.specs.First.{Check, first};

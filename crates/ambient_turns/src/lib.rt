@@ -1,4 +1,6 @@
 // What the answer of a record leaves, and the results of a log.
+#![tactic(auto)]
+
 ghost use Rattle.std.specs.Prelude.{◌≡◌, List, ◌+◌, ◌-◌, ◌≤◌, ◌<◌, length, Float};
 ghost use Rattle.lists.specs.Window.{window, splice};
 ghost use Rattle.combination.specs.Call.{ends};

@@ -127,11 +127,11 @@ pub own_first : (p : Setting) (y : List Float) (beta : Float) → Begun (arnoldi
 unfolding arnoldi arnoldi_step first_column
 own_first p y beta =
     close_first p (scale (1f ⊘ beta) y) (0 + p.m) (walk (arnoldi_step p beta) p.m 0 (on (first_column p y beta)))
-    (walk_keeps _ _ (arnoldi_step p beta) (λ j b h. extend_first p (scale (1f ⊘ beta) y) j b _ _ _ h) (λ i j e l h. h) p.m 0 (on (first_column p y beta)) (omega arith, refl))
+    (walk_keeps (λ (_ : ℕ) (c : Columns). (0 < length c.v) × (get_or c.v 0 [] ≡ scale (1f ⊘ beta) y)) (λ (_ : ℕ) (e : Breakdown). get_or e.columns.v 0 [] ≡ scale (1f ⊘ beta) y) (arnoldi_step p beta) (λ j b h. extend_first p (scale (1f ⊘ beta) y) j b _ _ _ h) (λ i j e l h. h) p.m 0 (on (first_column p y beta)) (omega arith, refl))
 
 pub own_based : (p : Setting) (y : List Float) (beta : Float) → Based p (arnoldi p y beta) (map (apply p) (columns_of (arnoldi p y beta)))
 unfolding arnoldi arnoldi_step first_column
 own_based p y beta =
     close_based p (walk (arnoldi_step p beta) p.m 0 (on (first_column p y beta)))
     (subst (λ (n : ℕ). Kept (λ (i : ℕ) (c : Columns). Grown p i c.v) (Ended p) n (walk (arnoldi_step p beta) p.m 0 (on (first_column p y beta)))) (zero-add p.m)
-    (walk_keeps _ _ (arnoldi_step p beta) (λ j b h. extend_grown p j b _ h) (λ i j e l h. h) p.m 0 (on (first_column p y beta)) (refl, λ k l. absurd (not-suc-le-zero l))))
+    (walk_keeps (λ (i : ℕ) (c : Columns). Grown p i c.v) (Ended p) (arnoldi_step p beta) (λ j b h. extend_grown p j b _ h) (λ i j e l h. h) p.m 0 (on (first_column p y beta)) (refl, λ k l. absurd (not-suc-le-zero l))))

@@ -6,7 +6,7 @@ use native.Mathlib.Omega.{arith}
 use mathlib.Core.Bool.{Bool, true, false, not, cond, true≢false}
 use lib.IntN.{ℤ}
 use lib.Dec.{T, ltb, eqb, lt→ltb}
-use lib.Ieee.{Float, nan, inf, fin, binary64, up, down, size, lt, ne, of_fields, of_bits, to_bits, nan_bits, fits, is_nan}
+use lib.Ieee.{Float, nan, inf, fin, binary64, up, down, size, ne, of_fields, of_bits, to_bits, nan_bits, fits, is_nan}
 use lib.Ieee.Bits.{is_true, of_bits-to_bits, to_bits-lt, nan_bits_is}
 use lib.Ieee.Compare.{differs_from_itself, nan_differs}
 use Rattle.doubles.specs.F64.{abs, is_finite}

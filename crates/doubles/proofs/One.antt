@@ -1,7 +1,7 @@
 -- Numbers against 1: x / x, and a product with at least 1. Assumes nothing.
 use mathlib.Core.Path.{◌≡◌, refl, sym, ap, ◌∙◌, subst}
 use mathlib.Core.Bool.{Bool, true, false, cond, true≢false}
-use Prim.Native.Nat.{ℕ, zero, suc, ◌-◌, ◌*◌, ◌<◌}
+use Prim.Native.Nat.{ℕ, zero, suc, ◌*◌, ◌<◌}
 use native.Mathlib.Nat.{mul-pos, mul-one, one-mul}
 use lib.Dec.{T, eqb, eqb-suc-zero}
 use lib.Pow.{pow_pos}

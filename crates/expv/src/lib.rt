@@ -1,4 +1,6 @@
 // The run over unit time: substeps until the time is 1, from a field scaled by a power of two.
+#![tactic(auto)]
+
 ghost use Rattle.std.specs.Prelude.{◌≡◌, List, ◌+◌, ◌*◌, ◌≤◌, length, Float};
 ghost use Rattle.lists.specs.Walk.{on, walk};
 ghost use Rattle.lists.specs.Window.{window};

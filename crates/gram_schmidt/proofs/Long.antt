@@ -57,5 +57,5 @@ module _ (p : Setting) where
       let first = scale (1f ⊘ beta) y in
       close_long (walk (arnoldi_step p beta) p.m 0 (on (first_column p y beta)))
       (subst (λ (n : ℕ). Grown n (walk (arnoldi_step p beta) p.m 0 (on (first_column p y beta)))) (zero-add p.m)
-      (walk_keeps _ _ (arnoldi_step p beta) (λ j b h. extend_grown j b (rest p j b) _ _ h.0 h.1 (rest_long j b h.0 h.1)) (λ i j b l h. h) p.m 0 (on (first_column p y beta))
+      (walk_keeps (λ (i : ℕ) (b : Columns). (length b.v ≡ suc i) × Long (len p) b.v) (λ (i : ℕ) (b : Breakdown). Long (len p) b.columns.v) (arnoldi_step p beta) (λ j b h. extend_grown j b (rest p j b) _ _ h.0 h.1 (rest_long j b h.0 h.1)) (λ i j b l h. h) p.m 0 (on (first_column p y beta))
       (refl, one_more (len p) [] first (below_none _) (length_scale (1f ⊘ beta) y ∙ e))))

@@ -35,4 +35,4 @@ unfolding arnoldi arnoldi_step first_column
 basis_products p y beta =
     close_built p (walk (arnoldi_step p beta) p.m 0 (on (first_column p y beta)))
     (subst (λ (n : ℕ). Built n (walk (arnoldi_step p beta) p.m 0 (on (first_column p y beta)))) (zero-add p.m)
-    (walk_keeps _ _ (arnoldi_step p beta) (λ j b h. extend_built p j b _ _ _ h) (λ i j e l h. (h.0, h.1, le_trans h.2 l)) p.m 0 (on (first_column p y beta)) (refl, refl)))
+    (walk_keeps (λ (i : ℕ) (b : Columns). (b.applied ≡ i) × (length b.v ≡ suc i)) (λ (i : ℕ) (b : Breakdown). (b.columns.applied ≡ b.mb) × (length b.columns.v ≡ b.mb) × (b.mb ≤ i)) (arnoldi_step p beta) (λ j b h. extend_built p j b _ _ _ h) (λ i j e l h. (h.0, h.1, le_trans h.2 l)) p.m 0 (on (first_column p y beta)) (refl, refl)))

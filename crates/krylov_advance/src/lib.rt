@@ -1,4 +1,6 @@
 // The end of a substep: the field at the accepted length, the counts, and the length proposed next.
+#![tactic(auto)]
+
 ghost use Rattle.std.specs.Prelude.{◌≡◌, List, ◌+◌, ◌*◌, ◌≤◌, ◌<◌, length, Float};
 ghost use Rattle.lists.specs.Loop.{tabulate};
 ghost use Rattle.lists.specs.Walk.{on};

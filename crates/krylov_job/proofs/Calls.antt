@@ -33,8 +33,8 @@ use Rattle.combination.proofs.Cleared.{clear_over}
 use Rattle.taylor_schedule.proofs.Stored.{quotients_rows}
 use Rattle.combination.proofs.Ends.{refused_by, runs}
 use Rattle.gram_schmidt.specs.declared.Krylov.{Krylov}
-use Rattle.krylov_advance.specs.Run.{End, finished, refused, clamp_m}
-use Rattle.krylov_job.specs.KrylovCall.{bound, dimension, option_checks, bound_checks, run_checks, krylov_need, krylov_checks_by, krylov_checks, after_run, combination_run_krylov, phi_combination_krylov}
+use Rattle.krylov_advance.specs.Run.{End, finished, refused}
+use Rattle.krylov_job.specs.KrylovCall.{dimension, option_checks, bound_checks, run_checks, krylov_need, krylov_checks_by, krylov_checks, after_run, combination_run_krylov, phi_combination_krylov}
 use Rattle.krylov_job.specs.Inner.{scaling_by, scaling_of, run_job_by, checks_after, Admitted, Allowed, run_of}
 use Rattle.krylov_job.specs.declared.KrylovAnswer.{KrylovAnswer}
 use Rattle.krylov_job.specs.declared.KrylovAnswer.TheVariants.{Refusal}

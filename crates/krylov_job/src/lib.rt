@@ -1,4 +1,6 @@
 // A Krylov job as its checks leave it: options, dimension, layout of the working memory, and what is refused before the first substep.
+#![tactic(auto)]
+
 ghost use Rattle.std.specs.Prelude.{◌≡◌, ◌&&◌, ◌||◌, List, ◌++◌, ◌+◌, ◌-◌, ◌*◌, ◌≤◌, ltb, length, Float};
 ghost use Rattle.doubles.specs.F64.{◌⋖◌, +0, 1f};
 ghost use Rattle.checks.specs.First.{Check, first};

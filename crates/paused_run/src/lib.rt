@@ -1,4 +1,6 @@
 // A Krylov run that is paused after its start and after each substep: its state, and what ends it.
+#![tactic(auto)]
+
 ghost use Rattle.std.specs.Prelude.{◌≡◌, false, not, ◌||◌, List, ◌+◌, ◌≤◌, eqb, length, Float};
 ghost use Rattle.lists.specs.Window.{window};
 ghost use Rattle.vectors.specs.Vectors.{scale};

@@ -1,4 +1,6 @@
 // The batch: phi_0 to phi_p of one vector, over one plan.
+#![tactic(auto)]
+
 ghost use Rattle.std.specs.Prelude.{◌≡◌, List, ◌+◌, ◌*◌, ◌≤◌, length};
 ghost use Rattle.lists.specs.Frame.{Kept};
 ghost use Rattle.doubles.specs.F64.{+0};

@@ -1,4 +1,6 @@
 // The Taylor call `phi_combination`.
+#![tactic(auto)]
+
 ghost use Rattle.std.specs.Prelude.{◌≡◌, List};
 ghost use Rattle.checks.specs.First.{Check, first};
 ghost use Rattle.checks.specs.declared.Checked.TheVariants.{Sound};

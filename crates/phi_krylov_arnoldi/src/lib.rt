@@ -1,4 +1,6 @@
 // One substep of a Krylov run, and the first length tried.
+#![tactic(auto)]
+
 ghost use Rattle.std.specs.Prelude.{◌≡◌, ◌+◌, ◌*◌, ◌≤◌, length};
 ghost use Rattle.lists.specs.Walk.{on};
 ghost use Rattle.lists.specs.Frame.{Kept};

@@ -1,6 +1,6 @@
 -- 2 ^ k rounded to a double: the product of two powers, the power itself where a double has it, the infinity above. Assumes nothing.
 use mathlib.Core.Path.{◌≡◌, refl, sym, ap, ◌∙◌, subst}
-use mathlib.Core.Bool.{Bool, true, false, ◌&&◌, cond}
+use mathlib.Core.Bool.{Bool, true, false, cond}
 use Prim.Native.Nat.{ℕ, zero, suc, ◌+◌, ◌-◌, ◌*◌, ◌^◌, ◌≤◌, ◌<◌}
 use native.Mathlib.Nat.{le_refl, le_trans, lt_irrefl, mul-one, one-mul, zero-mul, mul-pos, mul-le-mul_right, mul-le-mul}
 use native.Mathlib.Omega.{arith}

@@ -1,4 +1,6 @@
 // The checks of one record of a log. The load times the level is computed value by value, so that nothing is written before a record has passed.
+#![tactic(auto)]
+
 ghost use Rattle.std.specs.Prelude.{◌≡◌, not, ◌+◌, ◌-◌, ◌≤◌, ◌<◌, length};
 ghost use Rattle.lists.specs.Find.{find};
 ghost use Rattle.vectors.specs.Vectors.{scale};

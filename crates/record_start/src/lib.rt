@@ -1,4 +1,6 @@
 // The first vector of a record, and the load times its level.
+#![tactic(auto)]
+
 ghost use Rattle.std.specs.Prelude.{◌≡◌, ◌+◌, ◌-◌, ◌≤◌, length};
 ghost use Rattle.lists.specs.Window.{splice};
 ghost use Rattle.vectors.specs.Vectors.{scale};

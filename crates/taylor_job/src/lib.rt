@@ -1,4 +1,6 @@
 // The run of a Taylor job that passed its checks: the plan, the sweeps, and what is handed out; the calls as definitions.
+#![tactic(auto)]
+
 ghost use Rattle.std.specs.Prelude.{◌≡◌, true, ◌+◌, ◌*◌, ◌≤◌, length};
 ghost use Rattle.lists.specs.Window.{window, splice};
 ghost use Rattle.lists.specs.Frame.{Kept};

@@ -1,4 +1,6 @@
 // A Taylor job as its checks leave it: the row of the schedule, and the need of memory.
+#![tactic(auto)]
+
 ghost use Rattle.std.specs.Prelude.{◌≡◌, List, ◌++◌, ◌+◌, ◌*◌, ◌≤◌};
 ghost use Rattle.checks.specs.First.{Check, first};
 ghost use Rattle.combination.specs.Checks.{taylor_need};

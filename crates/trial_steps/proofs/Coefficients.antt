@@ -57,4 +57,4 @@ module _ (p : Setting) where
   trials_coefficients beta next remaining (full b avnorm) =
       let o : Turn Trying Tried = on (record { rejections = 0; t = min_num next remaining }) in
       tried_coefficients 11 (walk (try_step p beta b.h avnorm) 11 0 o)
-      (walk_keeps _ _ (try_step p beta b.h avnorm) (λ k s h. judge_coefficients (k + 1) beta avnorm s _ (column_long b.h (dim p) (dim p) s.t)) (λ i j e l h. h) 11 0 o tt)
+      (walk_keeps (λ (_ : ℕ) (s : Trying). Unit {0}) (λ (_ : ℕ) (e : Tried). Coefficients (p.m + 1) (out e)) (try_step p beta b.h avnorm) (λ k s h. judge_coefficients (k + 1) beta avnorm s _ (column_long b.h (dim p) (dim p) s.t)) (λ i j e l h. h) 11 0 o tt)

@@ -1,4 +1,6 @@
 // The lengths tried on one basis.
+#![tactic(auto)]
+
 ghost use Rattle.std.specs.Prelude.{◌≡◌, List, ℕ, ◌+◌, ◌*◌, ◌≤◌, ◌<◌, length, Float};
 ghost use Rattle.lists.specs.Walk.{on, walk};
 ghost use Rattle.lists.specs.Window.{window};

@@ -1,4 +1,6 @@
 // The checks of a combination's vectors: how many, their lengths, and that each value is finite.
+#![tactic(auto)]
+
 ghost use Rattle.std.specs.Prelude.{◌≡◌, List, ◌++◌, ◌+◌, ◌*◌, ◌≤◌, length};
 ghost use Rattle.lists.specs.Find.{find};
 ghost use Rattle.checks.specs.First.{Check, first};

@@ -1,4 +1,6 @@
 // The weighted columns of a combination: powers of tau, their sum, eta, and what 21 and 22 refuse.
+#![tactic(auto)]
+
 ghost use Rattle.std.specs.Prelude.{◌≡◌, List, ◌+◌, ◌*◌, ◌≤◌, length, Float};
 ghost use Rattle.lists.specs.Find.{find};
 ghost use Rattle.checks.specs.First.{first};

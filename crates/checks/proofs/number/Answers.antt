@@ -1,5 +1,4 @@
 -- `checks::number` meets its contract. Assumes nothing.
-use borrow.Author.Rules.{rules}
 use mathlib.Core.Path.{ap, sym}
 use Rattle.checks.specs.First.{number}
 use Rattle.checks.proofs.number.Goals as goal

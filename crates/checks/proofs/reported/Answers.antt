@@ -1,5 +1,4 @@
 -- `checks::reported` meets its contract. Assumes nothing.
-use borrow.Author.Rules.{rules}
 use mathlib.Core.Path.{ap, sym}
 use Rattle.checks.specs.First.{reported}
 use Rattle.checks.proofs.reported.Goals as goal

@@ -1,5 +1,4 @@
 -- `dense_la::dense_exp` meets its contract. Assumes nothing.
-use borrow.Author.Rules.{rules}
 use Rattle.dense_la.specs.DenseExp.{dense_exp}
 use Rattle.dense_la.proofs.dense_exp.Goals as goal
 

@@ -1,7 +1,7 @@
 -- `dense_la::halvings` meets its contract. The loop's invariant: the halvings that are left give the whole. Assumes nothing.
-use Prim.Native.Nat.{◌-◌, ◌<◌}
+use Prim.Native.Nat.{◌<◌}
 use native.Mathlib.Omega.{arith}
-use Rattle.dense_la.proofs.Halved.{Halved, halved_start, halved_turn, halved_stop, halved_end, halved_whole}
+use Rattle.dense_la.proofs.Halved.{halved_start, halved_turn, halved_stop, halved_end, halved_whole}
 use Rattle.dense_la.proofs.halvings.Goals as goal
 
 pub loop-scale-init : goal.loop-scale-init

@@ -1,8 +1,6 @@
 -- `dense_la::halvings` meets its contract. The loop's invariant: the halvings that are left give the whole. Assumes nothing.
-use Prim.Native.Nat.{◌-◌, ◌<◌}
-use native.Mathlib.Omega.{arith}
-use borrow.Author.Tests.{ltb-true, ltb-false}
-use Rattle.dense_la.proofs.Halved.{Halved, halved_start, halved_turn, halved_stop, halved_end, halved_whole}
+use Prim.Native.Nat.{◌-◌}
+use Rattle.dense_la.proofs.Halved.{Halved}
 use Rattle.dense_la.proofs.halvings.Given as goal
 
 abbrev pub invariant-loop-scale : goal.invariant-loop-scale

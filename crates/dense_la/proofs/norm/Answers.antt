@@ -1,5 +1,4 @@
 -- `dense_la::norm` meets its contract. Assumes nothing.
-use borrow.Author.Rules.{rules}
 use Rattle.dense_la.specs.DenseExp.{norm}
 use Rattle.dense_la.proofs.norm.Goals as goal
 

@@ -1,8 +1,6 @@
 -- `dense_la::series` meets its contract. Assumes nothing.
 use mathlib.Core.Path.{◌≡◌, sym, ap}
-use Prim.Native.Nat.{◌-◌, ◌≤◌}
 use native.Mathlib.Omega.{arith}
-use borrow.Author.Rules.{rules}
 use Rattle.lists.proofs.Loop.{iter_none, iter_turn}
 use Rattle.dense_la.specs.DenseExp.{Series, series, series_step}
 use Rattle.dense_la.proofs.series.Goals as goal

@@ -1,15 +1,7 @@
 -- `dot::add_blocks` meets its contract. Assumes nothing.
-use native.Mathlib.Omega.{arith}
-use native.Mathlib.Nat.{add-zero}
-use mathlib.Core.Path.{◌≡◌, ap, ◌∙◌}
-use mathlib.Core.List.{List}
-use Prim.Native.Nat.{ℕ, ◌+◌, ◌-◌, ◌*◌, ◌≤◌}
-use native.Mathlib.Nat.{add_assoc}
-use lib.Ieee.{Float}
-use Rattle.doubles.specs.F64.{◌⊕◌, ◌⊗◌, at}
-use Rattle.doubles.specs.Sum.{sum}
-use Rattle.doubles.proofs.Sum.{sum_turn}
-use Rattle.dot.specs.Dot.{lane, lanes}
+use mathlib.Core.Path.{◌≡◌}
+use Prim.Native.Nat.{◌+◌, ◌-◌, ◌≤◌}
+use Rattle.dot.specs.Dot.{lane}
 use Rattle.dot.proofs.add_blocks.Given as goal
 
 abbrev pub invariant-loop-j : goal.invariant-loop-j

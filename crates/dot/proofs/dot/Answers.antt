@@ -1,5 +1,4 @@
 -- `dot::dot` meets its contract. Assumes nothing.
-use borrow.Author.Rules.{rules}
 use native.Mathlib.Omega.{arith}
 use mathlib.Core.Path.{◌∙◌}
 use native.Mathlib.Nat.{zero-add}

@@ -1,7 +1,6 @@
 -- `dot::tail` meets its contract. Assumes nothing.
 use native.Mathlib.Omega.{arith}
 use mathlib.Core.Path.{◌≡◌, sym}
-use Prim.Native.Nat.{◌-◌, ◌≤◌}
 use Rattle.doubles.proofs.Sum.{sum_none, sum_turn}
 use Rattle.dot.specs.Dot.{tail}
 use Rattle.dot.proofs.tail.Goals as goal

@@ -1,5 +1,4 @@
 -- `expmv::consider` meets its contract, for every argument: the cast is made only of a ceiling from 1 to 4294967295. Assumes nothing.
-use borrow.Author.Rules.{rules}
 use borrow.Author.Tests.{le-leb, lt-leb}
 use mathlib.Core.Path.{◌≡◌, refl, ap, ◌∙◌}
 use mathlib.Core.Bool.{true, false}

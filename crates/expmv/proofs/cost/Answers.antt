@@ -1,5 +1,4 @@
 -- `expmv::cost` meets its contract. Assumes nothing.
-use borrow.Author.Rules.{rules}
 use Prim.Native.Nat.{◌*◌, ◌≤◌}
 use native.Mathlib.Omega.{arith}
 use Rattle.lists.proofs.Bounds.{product_within}

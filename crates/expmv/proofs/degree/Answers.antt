@@ -1,5 +1,4 @@
 -- `expmv::degree` meets its contract. The code's table is `degrees`. Assumes nothing.
-use borrow.Author.Rules.{rules}
 use mathlib.Core.Path.{refl}
 use Rattle.expmv.specs.Select.{degrees, degree}
 use Rattle.expmv.proofs.Rows.{degree_bounds}

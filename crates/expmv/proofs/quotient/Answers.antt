@@ -1,5 +1,4 @@
 -- `expmv::quotient` meets its contract. Assumes nothing.
-use borrow.Author.Rules.{rules}
 use Rattle.expmv.proofs.quotient.Goals as goal
 
 pub returns : goal.returns

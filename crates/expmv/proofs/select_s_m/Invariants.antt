@@ -1,14 +1,9 @@
 -- `expmv::select_s_m` meets its contract. The loop's invariant: `best` is what the rows below i give. Assumes nothing.
-use borrow.Author.Rules.{rules}
-use native.Mathlib.Omega.{arith}
 use Prim.Native.Nat.{◌-◌, ◌≤◌}
-use mathlib.Core.Path.{◌≡◌, sym, ◌∙◌}
-use borrow.Author.Tests.{not-true, not-false}
+use mathlib.Core.Path.{◌≡◌}
 use Rattle.lists.specs.Loop.{iter}
-use Rattle.lists.proofs.Loop.{iter_none, iter_turn}
 use Rattle.expmv.specs.declared.Selected.TheVariants.{NoRow}
 use Rattle.expmv.specs.Select.{consider}
-use Rattle.expmv.proofs.Least.{endless, negative, searched}
 use Rattle.expmv.proofs.select_s_m.Given as goal
 
 abbrev pub invariant-loop-i : goal.invariant-loop-i

@@ -1,5 +1,4 @@
 -- `expmv::theta` meets its contract. antt computes each entry of the code's table and of `thetas`, and compares them. Assumes nothing.
-use borrow.Author.Rules.{rules}
 use mathlib.Core.Path.{refl}
 use lib.Ieee.{of_bits, round}
 use Rattle.expmv.specs.Select.{decimal, thetas}

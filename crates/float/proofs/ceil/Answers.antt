@@ -1,5 +1,5 @@
 -- `float::ceil` meets its contract: each way out is one law of proofs/Ceiling.antt. Assumes nothing.
-use Rattle.std.proofs.Common.{T, sym, subst, rules}
+use Rattle.std.proofs.Common.{T, sym, subst}
 use lib.Ieee.{binary64, fits}
 use Rattle.doubles.proofs.Magnitude.{no_nan, nan_of_ne}
 use Rattle.float.proofs.Ceiling.{cut_no_nan, way_whole, way_negative, way_cut, way_infinite, way_nan}

@@ -1,5 +1,5 @@
 -- `float::floor` meets its contract. Assumes nothing.
-use Rattle.std.proofs.Common.{ap, ◌∙◌, rules}
+use Rattle.std.proofs.Common.{ap, ◌∙◌}
 use lib.Ieee.{neg}
 use Rattle.float.proofs.Ceiling.{floor_is}
 use Rattle.float.proofs.floor.Goals as goal

@@ -1,5 +1,5 @@
 -- `float::whole_bits` meets its contract. Assumes nothing.
-use Rattle.std.proofs.Common.{ℕ, ◌-◌, ◌/◌, ◌%◌, ◌<◌, sym, ap, ◌∙◌, subst, zero-le, le_refl, sub-le, pow_pos, rules}
+use Rattle.std.proofs.Common.{ℕ, ◌-◌, ◌/◌, ◌%◌, ◌<◌, sym, ap, ◌∙◌, subst, zero-le, le_refl, sub-le, pow_pos}
 use native.Mathlib.Nat.{mod-le}
 use Rattle.doubles.specs.Value.{val}
 use Rattle.lists.proofs.Descent.{shift_is}

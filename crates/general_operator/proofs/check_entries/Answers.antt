@@ -1,9 +1,7 @@
 -- `general_operator::check_entries` meets its contract. Assumes nothing.
 use borrow.Author.Tests.{lt-ltb, le-ltb, le-leb, lt-leb}
-use native.Mathlib.Omega.{arith}
 use Rattle.checks.proofs.First.{first_cons, first_none}
 use Rattle.general_operator.specs.Checks.{entry_checks, bad_column}
-use borrow.Author.Rules.{rules}
 use Rattle.general_operator.proofs.check_entries.Goals as goal
 
 pub returns-then-n-c : goal.returns-then-n-c

@@ -1,7 +1,6 @@
 -- `general_operator::check_rows` meets its contract. Assumes nothing.
 use Rattle.checks.proofs.First.{chain}
 use Rattle.general_operator.specs.Checks.{row_checks}
-use borrow.Author.Rules.{rules}
 use Rattle.general_operator.proofs.check_rows.Goals as goal
 
 pub returns-then-i-n : goal.returns-then-i-n

@@ -1,9 +1,7 @@
 -- `general_operator::first_bad_entry` meets its contract. Assumes nothing.
 use native.Mathlib.Omega.{arith}
 use mathlib.Core.Path.{sym, ◌∙◌}
-use Prim.Native.Nat.{◌-◌, ◌≤◌}
-use Rattle.lists.proofs.Find.{Passed, passed_start, passed_next, found_at, found_none}
-use Rattle.general_operator.specs.Checks.{bad_entry}
+use Rattle.lists.proofs.Find.{passed_start, passed_next, found_at, found_none}
 use Rattle.general_operator.proofs.first_bad_entry.Goals as goal
 
 pub loop-k-init : goal.loop-k-init

@@ -1,8 +1,7 @@
 -- `general_operator::first_fall` meets its contract. Assumes nothing.
 use native.Mathlib.Omega.{arith}
-use Prim.Native.Nat.{◌-◌, ◌≤◌}
 use borrow.Author.Tests.{lt-ltb, le-ltb}
-use Rattle.lists.proofs.Find.{Passed, passed_start, passed_next, found_at, found_none}
+use Rattle.lists.proofs.Find.{passed_start, passed_next, found_at, found_none}
 use Rattle.general_operator.specs.Checks.{falls}
 use Rattle.general_operator.proofs.first_fall.Goals as goal
 

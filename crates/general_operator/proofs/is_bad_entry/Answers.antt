@@ -1,6 +1,4 @@
 -- `general_operator::is_bad_entry` meets its contract. Assumes nothing.
-use borrow.Author.Rules.{rules}
-use native.Mathlib.Omega.{arith}
 use borrow.Author.Tests.{le-leb, lt-leb}
 use Rattle.general_operator.specs.Checks.{bad_entry, bad_column}
 use Rattle.general_operator.proofs.is_bad_entry.Goals as goal

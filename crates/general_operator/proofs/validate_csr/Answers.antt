@@ -2,7 +2,6 @@
 use Rattle.checks.proofs.First.{refused_up, sound_on}
 use Rattle.general_operator.specs.Checks.{matrix_checks}
 use Rattle.general_operator.proofs.Sound.{shape_rows, shape_paired}
-use borrow.Author.Rules.{rules}
 use Rattle.general_operator.proofs.validate_csr.Goals as goal
 
 pub returns-in_default : goal.returns-in_default

@@ -1,8 +1,6 @@
 -- `general_operator::wrong_entries` meets its contract. Assumes nothing.
 use borrow.Author.Tests.{eq-eqb, ne_eqb}
-use native.Mathlib.Omega.{arith}
 use Rattle.general_operator.specs.Checks.{wrong_entries}
-use borrow.Author.Rules.{rules}
 use Rattle.general_operator.proofs.wrong_entries.Goals as goal
 
 pub returns-then-columns-entries : goal.returns-then-columns-entries

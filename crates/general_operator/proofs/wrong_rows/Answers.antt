@@ -3,7 +3,6 @@ use borrow.Author.Tests.{eq-eqb, ne_eqb}
 use native.Mathlib.Omega.{arith}
 use Rattle.general_operator.specs.Checks.{wrong_rows}
 use Prim.Native.Nat.{◌+◌}
-use borrow.Author.Rules.{rules}
 use Rattle.general_operator.proofs.wrong_rows.Goals as goal
 
 pub returns-then-n-eq0 : goal.returns-then-n-eq0

@@ -17,3 +17,7 @@ pub aug_product-requires : goal.aug_product-requires
 aug_product-requires c =
     let col : (let a = c.args in a.j * (a.l.n + a.l.d) + (a.l.n + a.l.d) ≤ a.l.w) = omega (arith, column_within c.args.j (c.args.k.m + 1) (c.args.l.n + c.args.l.d) (omega arith)) in
     record { ready = c.requires.room.laid; d_bound = (col, omega arith, refl) }
+
+pub returns : goal.returns
+unfolding apply column
+returns c = c.aug_product.ensures

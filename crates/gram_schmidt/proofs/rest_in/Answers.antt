@@ -9,7 +9,7 @@ use Rattle.gram_schmidt.proofs.rest_in.Goals as goal
 pub orthogonal-requires : goal.orthogonal-requires
 orthogonal-requires c =
     let f = column_within c.args.j (c.args.k.m + 1) (c.args.l.n + c.args.l.d) (omega arith) in
-    let r = omega arith in record { len_bound = r.0; len_bound_2 = r.1.0; dim_in_bounds = r.1.1.0; j_lt_dim = r.1.1.1 }
+    record { len_bound = omega arith; len_bound_2 = omega arith; dim_in_bounds = omega arith; j_lt_dim = omega arith }
 
 pub returns : goal.returns
 returns c = rested _ _ _ _ _ _ _ _ _ _ _ c.requires.room c.requires.j_le_m c.apply_in.ensures c.orthogonal.ensures

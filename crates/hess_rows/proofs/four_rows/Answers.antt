@@ -1,9 +1,8 @@
 -- `hess_rows::four_rows` meets its contract. Assumes nothing.
 use native.Mathlib.Omega.{arith}
-use Prim.Native.Nat.{◌+◌, ◌-◌, ◌*◌, ◌≤◌}
+use Prim.Native.Nat.{◌+◌, ◌*◌, ◌≤◌}
 use mathlib.Core.Path.{◌≡◌, refl, ◌∙◌}
 use lib.ListN.{length}
-use Rattle.hess_rows.specs.Parts.{four_parts}
 use Rattle.hess_rows.proofs.Rows.{fewer, four_within, four_turn}
 use Rattle.hess_rows.proofs.four_rows.Goals as goal
 

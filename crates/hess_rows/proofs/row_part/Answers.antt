@@ -1,10 +1,9 @@
 -- `hess_rows::row_part` meets its contract. Assumes nothing.
 use native.Mathlib.Omega.{arith}
-use Prim.Native.Nat.{◌+◌, ◌-◌, ◌*◌, ◌≤◌, ◌<◌}
+use Prim.Native.Nat.{◌+◌, ◌-◌, ◌*◌, ◌<◌}
 use mathlib.Core.Path.{◌≡◌, sym, ◌∙◌}
 use lib.ListN.{length}
 use Rattle.lists.proofs.Bounds.{cell_within}
-use Rattle.hess_rows.specs.Parts.{row_part}
 use Rattle.hess_rows.proofs.Rows.{part_none, part_turn}
 use Rattle.hess_rows.proofs.row_part.Goals as goal
 

@@ -1,11 +1,7 @@
 -- `hess_rows::row_part` meets its contract. Assumes nothing.
-use native.Mathlib.Omega.{arith}
-use Prim.Native.Nat.{◌+◌, ◌-◌, ◌*◌, ◌≤◌, ◌<◌}
-use mathlib.Core.Path.{◌≡◌, sym, ◌∙◌}
-use lib.ListN.{length}
-use Rattle.lists.proofs.Bounds.{cell_within}
+use Prim.Native.Nat.{◌-◌, ◌≤◌}
+use mathlib.Core.Path.{◌≡◌}
 use Rattle.hess_rows.specs.Parts.{row_part}
-use Rattle.hess_rows.proofs.Rows.{part_none, part_turn}
 use Rattle.hess_rows.proofs.row_part.Given as goal
 
 abbrev pub invariant-loop-j : goal.invariant-loop-j

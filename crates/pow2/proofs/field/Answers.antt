@@ -1,5 +1,4 @@
 -- `pow2::field` meets its contract. Assumes nothing.
-use borrow.Author.Rules.{rules}
 use lib.IntN.{pos}
 use native.Mathlib.Omega.{arith}
 use Rattle.pow2.specs.Pow2.{field}

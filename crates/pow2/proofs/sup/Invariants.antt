@@ -1,12 +1,9 @@
 -- `pow2::sup` meets its contract: the loop carries the fold of the elements passed. Assumes nothing.
-use mathlib.Core.Path.{◌≡◌, sym, ap, ◌∙◌}
+use mathlib.Core.Path.{◌≡◌}
 use Prim.Native.Nat.{◌≤◌, ◌-◌}
-use native.Mathlib.Omega.{arith}
 use lib.ListN.{length}
 use Rattle.lists.specs.Loop.{iter}
-use Rattle.lists.proofs.Loop.{iter_none, iter_turn}
 use Rattle.doubles.specs.F64.{+0, at, abs, max_num}
-use Rattle.pow2.specs.Pow2.{sup}
 use Rattle.pow2.proofs.sup.Given as goal
 
 abbrev pub invariant-loop-i : goal.invariant-loop-i

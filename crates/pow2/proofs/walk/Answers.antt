@@ -1,5 +1,4 @@
 -- `pow2::walk` meets its contract: each step keeps what the exponent is clamped to, and comes nearer to 0. Assumes nothing.
-use borrow.Author.Rules.{rules}
 use mathlib.Core.Path.{◌≡◌, refl, sym, ap, ◌∙◌}
 use Prim.Native.Nat.{ℕ, zero, suc, ◌<◌}
 use native.Mathlib.Omega.{arith}

@@ -1,5 +1,5 @@
 -- `power::exp2` meets its contract. Assumes nothing.
-use Rattle.std.proofs.Common.{ℕ, ◌≤◌, Bool, not, T, sym, subst, arith, rules}
+use Rattle.std.proofs.Common.{ℕ, ◌≤◌, Bool, not, T, sym, subst, arith}
 use lib.Ieee.{binary64, of_bits, nan_bits}
 use lib.Ieee.Bits.{nan_bits_is}
 use Rattle.doubles.proofs.Compare.{above_no_nan}

@@ -1,5 +1,4 @@
 -- `power::first_guess` meets its contract. Assumes nothing.
-use Rattle.std.proofs.Common.{rules}
 use Rattle.doubles.proofs.Compare.{above_no_nan}
 use Rattle.power.proofs.first_guess.Goals as goal
 

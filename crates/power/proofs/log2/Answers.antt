@@ -1,5 +1,4 @@
 -- `power::log2` meets its contract. Assumes nothing.
-use Rattle.std.proofs.Common.{rules}
 use lib.Ieee.{nan_bits}
 use Rattle.power.proofs.log2.Goals as goal
 

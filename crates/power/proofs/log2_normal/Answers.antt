@@ -1,5 +1,5 @@
 -- `power::log2_normal` meets its contract. Assumes nothing.
-use Rattle.std.proofs.Common.{arith, rules}
+use Rattle.std.proofs.Common.{arith}
 use Rattle.doubles.proofs.Compare.{above_no_nan}
 use Rattle.doubles.proofs.Patterns.{finite_no_nan}
 use Rattle.power.proofs.log2_normal.Goals as goal

@@ -1,6 +1,5 @@
 -- `power::power` meets its contract. Assumes nothing.
-use Rattle.std.proofs.Common.{◌≡◌, ℕ, suc, ◌+◌, ◌-◌, ◌≤◌, sym, refl, ap, ◌∙◌, arith}
-use lib.Ieee.{Float, binary64, mul}
+use Rattle.std.proofs.Common.{◌≡◌, ◌-◌, ◌≤◌}
 use Rattle.power.specs.Power.{times}
 use Rattle.power.proofs.power.Given as goal
 

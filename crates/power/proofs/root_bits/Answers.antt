@@ -1,9 +1,9 @@
 -- `power::root_bits` meets its contract. Assumes nothing.
-use Rattle.std.proofs.Common.{◌≡◌, ◌-◌, ◌<◌, Bool, true, false, subst, arith, rules}
+use Rattle.std.proofs.Common.{◌≡◌, ◌<◌, Bool, true, false, subst, arith}
 use lib.Ieee.{Float, le}
 use Rattle.doubles.proofs.Patterns.{finite_no_nan}
 use Rattle.power.specs.Power.{within}
-use Rattle.power.proofs.Bracket.{Bracket, test_is, bracket_begin, bracket_end}
+use Rattle.power.proofs.Bracket.{test_is, bracket_begin, bracket_end}
 use Rattle.power.proofs.root_bits.Goals as goal
 
 pub loop-lo-init : goal.loop-lo-init

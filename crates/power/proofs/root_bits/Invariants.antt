@@ -1,9 +1,6 @@
 -- `power::root_bits` meets its contract. Assumes nothing.
-use Rattle.std.proofs.Common.{◌≡◌, ◌-◌, ◌<◌, Bool, true, false, subst, arith, rules}
-use lib.Ieee.{Float, le}
-use Rattle.doubles.proofs.Patterns.{finite_no_nan}
-use Rattle.power.specs.Power.{within}
-use Rattle.power.proofs.Bracket.{Bracket, test_is, bracket_begin, bracket_end}
+use Rattle.std.proofs.Common.{◌-◌}
+use Rattle.power.proofs.Bracket.{Bracket}
 use Rattle.power.proofs.root_bits.Given as goal
 
 abbrev pub invariant-loop-lo : goal.invariant-loop-lo

@@ -1,5 +1,4 @@
 -- `sqrt::near_root` meets its contract. Assumes nothing.
-use borrow.Author.Rules.{rules}
 use native.Mathlib.Omega.{arith}
 use Rattle.doubles.proofs.Compare.{above_no_nan}
 use Rattle.doubles.proofs.Patterns.{finite_no_nan}

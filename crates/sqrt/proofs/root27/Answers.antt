@@ -1,6 +1,5 @@
 -- `sqrt::root27` meets its contract. Assumes nothing.
-use borrow.Author.Rules.{rules}
-use Prim.Native.Nat.{◌+◌, ◌-◌, ◌*◌, ◌≤◌, ◌<◌}
+use Prim.Native.Nat.{◌+◌, ◌<◌}
 use native.Mathlib.Omega.{arith}
 use Rattle.sqrt.proofs.Parts.{square_small, root_small}
 use Rattle.sqrt.proofs.root27.Goals as goal

@@ -1,8 +1,5 @@
 -- `sqrt::root27` meets its contract. Assumes nothing.
-use borrow.Author.Rules.{rules}
-use Prim.Native.Nat.{◌+◌, ◌-◌, ◌*◌, ◌≤◌, ◌<◌}
-use native.Mathlib.Omega.{arith}
-use Rattle.sqrt.proofs.Parts.{square_small, root_small}
+use Prim.Native.Nat.{◌-◌, ◌*◌, ◌≤◌}
 use Rattle.sqrt.proofs.root27.Given as goal
 
 abbrev pub invariant-loop-r : goal.invariant-loop-r

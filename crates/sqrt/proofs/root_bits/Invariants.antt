@@ -1,10 +1,6 @@
 -- `sqrt::root_bits` meets its contract. Assumes nothing.
-use mathlib.Core.Path.{◌≡◌, refl, ap, ◌∙◌}
-use Prim.Native.Nat.{ℕ, ◌-◌, ◌<◌, ◌≤◌, ◌/◌, ◌%◌, ◌*◌}
-use native.Mathlib.Omega.{arith}
-use native.Mathlib.Nat.{le_refl}
-use Rattle.sqrt.specs.Sqrt.{nearest_root}
-use Rattle.sqrt.proofs.Halves.{Scaled, scaled_low, scaled_step, even_is, odd_is, half_up_root, half_up_under, r_high}
+use Prim.Native.Nat.{◌-◌}
+use Rattle.sqrt.proofs.Halves.{Scaled}
 use Rattle.sqrt.proofs.root_bits.Given as goal
 
 abbrev pub invariant-loop-m : goal.invariant-loop-m

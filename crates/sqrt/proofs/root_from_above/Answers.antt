@@ -1,6 +1,4 @@
 -- `sqrt::root_from_above` meets its contract. Assumes nothing.
-use borrow.Author.Rules.{rules}
-use Prim.Native.Nat.{◌<◌}
 use native.Mathlib.Omega.{arith}
 use Rattle.sqrt.proofs.Parts.{square_small, square_pos}
 use Rattle.sqrt.proofs.root_from_above.Goals as goal

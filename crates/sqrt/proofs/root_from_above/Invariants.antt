@@ -1,8 +1,5 @@
 -- `sqrt::root_from_above` meets its contract. Assumes nothing.
-use borrow.Author.Rules.{rules}
 use Prim.Native.Nat.{◌<◌}
-use native.Mathlib.Omega.{arith}
-use Rattle.sqrt.proofs.Parts.{square_small, square_pos}
 use Rattle.sqrt.proofs.root_from_above.Given as goal
 
 abbrev pub invariant-loop-r : goal.invariant-loop-r

@@ -1,5 +1,4 @@
 -- `taylor_sweeps::aug_horner_outer` meets its contract. Assumes nothing.
-use borrow.Author.Rules.{rules}
 use Rattle.phi_action_helpers.proofs.Sweeps.{ready_kept, copied, swept_once}
 use Rattle.taylor_sweeps.proofs.aug_horner_outer.Goals as goal
 

@@ -1,7 +1,6 @@
 -- `taylor_sweeps::rescale_in` meets its contract. Assumes nothing.
 use native.Mathlib.Omega.{arith}
 use mathlib.Core.Path.{sym}
-use borrow.Author.Rules.{rules}
 use lib.Ieee.{ne}
 use Rattle.lists.proofs.Window.{part_back, splice_window}
 use Rattle.vectors.specs.Vectors.{scale}

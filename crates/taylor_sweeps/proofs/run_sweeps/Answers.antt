@@ -14,8 +14,8 @@ loop-i-init c = (omega arith, run_began _)
 pub sweep-applied-requires : goal.sweep-applied-requires
 unfolding rescale
 sweep-applied-requires c =
-    let fit : c.loop-i.applied + c.args.x.p.m ≤ 18446744073709551615 = let many = product_within {a = c.loop-i.i} 4294967295 30 (omega (arith, c.row_known-1.given)) c.requires.lined.1 in
-    omega (arith, running_counted c.loop-i.invariant.1, many, (c.requires.ready, c.requires.lined)) in
+    let fit : c.loop-i.applied + c.args.x.p.m ≤ 18446744073709551615 = let many = product_within {a = c.loop-i.i} 4294967295 30 (omega arith) c.requires.lined.1 in
+    omega (arith, running_counted c.loop-i.invariant.1, many, c.requires.lined) in
     record { ready = ready_kept _ _ _ c.args.vectors.now c.loop-i.invariant.1.kept c.requires.ready; lined = (c.requires.lined.0, c.dense_exp-f.ensures, fit) }
 
 pub loop-i-preserved : goal.loop-i-preserved

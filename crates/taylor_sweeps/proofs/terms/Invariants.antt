@@ -1,8 +1,6 @@
 -- `taylor_sweeps::terms` meets its contract. Assumes nothing.
-use native.Mathlib.Omega.{arith}
 use Prim.Native.Nat.{◌-◌, ◌≤◌}
-use mathlib.Core.Path.{◌≡◌}
-use Rattle.phi_action_helpers.proofs.Sweeps.{State, began, turn, state_counted, ready_kept}
+use Rattle.phi_action_helpers.proofs.Sweeps.{State}
 use Rattle.taylor_sweeps.proofs.terms.Given as goal
 
 abbrev pub invariant-loop-k : goal.invariant-loop-k

@@ -1,10 +1,8 @@
 -- `vectors::axpy_in` meets its contract. After i turns the first i elements of the window are written. Assumes nothing.
 use native.Mathlib.Omega.{arith}
 use mathlib.Core.Path.{◌∙◌}
-use Prim.Native.Nat.{◌+◌, ◌-◌, ◌≤◌}
 use lib.Ieee.{nan}
-use Rattle.lists.proofs.Loop.{Filled, started, turned, finished, read_here, read_apart, zip_with_windows}
-use Rattle.doubles.specs.F64.{◌⊕◌, ◌⊗◌, at}
+use Rattle.lists.proofs.Loop.{started, turned, finished, read_here, read_apart, zip_with_windows}
 use Rattle.vectors.specs.Vectors.{axpy}
 use Rattle.vectors.proofs.axpy_in.Goals as goal
 

@@ -1,11 +1,7 @@
 -- `vectors::axpy_in` meets its contract. After i turns the first i elements of the window are written. Assumes nothing.
-use native.Mathlib.Omega.{arith}
-use mathlib.Core.Path.{◌∙◌}
 use Prim.Native.Nat.{◌+◌, ◌-◌, ◌≤◌}
-use lib.Ieee.{nan}
-use Rattle.lists.proofs.Loop.{Filled, started, turned, finished, read_here, read_apart, zip_with_windows}
+use Rattle.lists.proofs.Loop.{Filled}
 use Rattle.doubles.specs.F64.{◌⊕◌, ◌⊗◌, at}
-use Rattle.vectors.specs.Vectors.{axpy}
 use Rattle.vectors.proofs.axpy_in.Given as goal
 
 abbrev pub invariant-loop-i : goal.invariant-loop-i

@@ -1,9 +1,7 @@
 -- `vectors::clear` meets its contract. After i turns the first i elements are written. Assumes nothing.
 use native.Mathlib.Omega.{arith}
 use mathlib.Core.Path.{refl, ◌∙◌}
-use Prim.Native.Nat.{◌-◌, ◌≤◌}
-use Rattle.lists.proofs.Loop.{Filled, started, turned₀, finished₀, replicate_tabulate}
-use Rattle.doubles.specs.F64.{+0}
+use Rattle.lists.proofs.Loop.{started, turned₀, finished₀, replicate_tabulate}
 use Rattle.vectors.proofs.clear.Goals as goal
 
 pub loop-i-init : goal.loop-i-init

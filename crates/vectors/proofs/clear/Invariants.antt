@@ -1,8 +1,6 @@
 -- `vectors::clear` meets its contract. After i turns the first i elements are written. Assumes nothing.
-use native.Mathlib.Omega.{arith}
-use mathlib.Core.Path.{refl, ◌∙◌}
 use Prim.Native.Nat.{◌-◌, ◌≤◌}
-use Rattle.lists.proofs.Loop.{Filled, started, turned₀, finished₀, replicate_tabulate}
+use Rattle.lists.proofs.Loop.{Filled}
 use Rattle.doubles.specs.F64.{+0}
 use Rattle.vectors.proofs.clear.Given as goal
 

@@ -1,8 +1,6 @@
 -- `vectors::clear_in` meets its contract. Assumes nothing.
-use native.Mathlib.Omega.{arith}
 use Prim.Native.Nat.{◌-◌, ◌≤◌}
-use mathlib.Core.Path.{refl, ◌∙◌}
-use Rattle.lists.proofs.Loop.{Filled, started, turned, finished, replicate_tabulate}
+use Rattle.lists.proofs.Loop.{Filled}
 use Rattle.doubles.specs.F64.{+0}
 use Rattle.vectors.proofs.clear_in.Given as goal
 

@@ -1,10 +1,8 @@
 -- `vectors::copy_from` meets its contract. Assumes nothing.
 use native.Mathlib.Omega.{arith}
-use Prim.Native.Nat.{◌+◌, ◌-◌, ◌≤◌}
 use mathlib.Core.Path.{refl, ◌∙◌}
 use lib.Ieee.{nan}
-use Rattle.lists.proofs.Loop.{Filled, started, turned, finished, window_tabulate}
-use Rattle.doubles.specs.F64.{at}
+use Rattle.lists.proofs.Loop.{started, turned, finished, window_tabulate}
 use Rattle.vectors.proofs.copy_from.Goals as goal
 
 pub loop-i-init : goal.loop-i-init

@@ -1,9 +1,6 @@
 -- `vectors::copy_from` meets its contract. Assumes nothing.
-use native.Mathlib.Omega.{arith}
 use Prim.Native.Nat.{◌+◌, ◌-◌, ◌≤◌}
-use mathlib.Core.Path.{refl, ◌∙◌}
-use lib.Ieee.{nan}
-use Rattle.lists.proofs.Loop.{Filled, started, turned, finished, window_tabulate}
+use Rattle.lists.proofs.Loop.{Filled}
 use Rattle.doubles.specs.F64.{at}
 use Rattle.vectors.proofs.copy_from.Given as goal
 

@@ -1,9 +1,6 @@
 -- `vectors::copy_in` meets its contract. After i turns the first i elements of the window are written. Assumes nothing.
-use native.Mathlib.Omega.{arith}
-use mathlib.Core.Path.{◌∙◌}
 use Prim.Native.Nat.{◌+◌, ◌-◌, ◌≤◌}
-use lib.Ieee.{nan}
-use Rattle.lists.proofs.Loop.{Filled, started, turned, finished, read_apart, window_tabulate}
+use Rattle.lists.proofs.Loop.{Filled}
 use Rattle.doubles.specs.F64.{at}
 use Rattle.vectors.proofs.copy_in.Given as goal
 

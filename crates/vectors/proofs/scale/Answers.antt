@@ -1,10 +1,8 @@
 -- `vectors::scale` meets its contract. After i turns the first i elements are written. Assumes nothing.
 use native.Mathlib.Omega.{arith}
 use mathlib.Core.Path.{◌∙◌}
-use Prim.Native.Nat.{◌-◌, ◌≤◌}
 use lib.Ieee.{nan}
-use Rattle.lists.proofs.Loop.{Filled, started, turned₀, finished₀, read_after, map_tabulate}
-use Rattle.doubles.specs.F64.{◌⊗◌, at}
+use Rattle.lists.proofs.Loop.{started, turned₀, finished₀, read_after, map_tabulate}
 use Rattle.vectors.specs.Vectors.{scale}
 use Rattle.vectors.proofs.scale.Goals as goal
 

@@ -1,10 +1,8 @@
 -- `vectors::scaled_in` meets its contract. After i turns the first i elements of the window are written. Assumes nothing.
 use native.Mathlib.Omega.{arith}
 use mathlib.Core.Path.{◌∙◌}
-use Prim.Native.Nat.{◌+◌, ◌-◌, ◌≤◌}
 use lib.Ieee.{nan}
-use Rattle.lists.proofs.Loop.{Filled, started, turned, finished, read_apart}
-use Rattle.doubles.specs.F64.{◌⊗◌, at}
+use Rattle.lists.proofs.Loop.{started, turned, finished, read_apart}
 use Rattle.vectors.proofs.Laws.{scaled_window}
 use Rattle.vectors.proofs.scaled_in.Goals as goal
 

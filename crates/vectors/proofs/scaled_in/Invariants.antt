@@ -1,11 +1,7 @@
 -- `vectors::scaled_in` meets its contract. After i turns the first i elements of the window are written. Assumes nothing.
-use native.Mathlib.Omega.{arith}
-use mathlib.Core.Path.{◌∙◌}
 use Prim.Native.Nat.{◌+◌, ◌-◌, ◌≤◌}
-use lib.Ieee.{nan}
-use Rattle.lists.proofs.Loop.{Filled, started, turned, finished, read_apart}
+use Rattle.lists.proofs.Loop.{Filled}
 use Rattle.doubles.specs.F64.{◌⊗◌, at}
-use Rattle.vectors.proofs.Laws.{scaled_window}
 use Rattle.vectors.proofs.scaled_in.Given as goal
 
 abbrev pub invariant-loop-i : goal.invariant-loop-i

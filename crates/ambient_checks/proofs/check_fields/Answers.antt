@@ -1,0 +1,19 @@
+-- `ambient_checks::check_fields` meets its contract. Assumes nothing.
+use Rattle.checks.proofs.First.{refused_up, sound_on, passes, stops, not_eq, not_ne}
+use Rattle.combination.specs.Checks.{finite_checks}
+use Rattle.ambient_checks.specs.Log.{field_checks}
+use Rattle.ambient_checks.proofs.check_fields.Goals as goal
+
+pub returns-in_default : goal.returns-in_default
+unfolding field_checks
+returns-in_default c = search refused_up
+
+pub returns-then-load-n : goal.returns-then-load-n
+unfolding field_checks
+returns-then-load-n c = search (sound_on, stops, not_ne)
+
+pub returns : goal.returns
+unfolding field_checks finite_checks
+returns c =
+    let fin = c.and_then.ensures _ _ c.check_finite.ensures c.check_finite-behind.ensures in
+    sound_on _ _ c.in-Sound.is c.check_lengths-lengths.ensures (passes 16 _ _ (not_eq c.if-load-n.false) fin)

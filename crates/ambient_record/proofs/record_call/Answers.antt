@@ -1,0 +1,58 @@
+-- `ambient_record::record_call` meets its contract. Assumes nothing.
+use mathlib.Core.Path.{◌≡◌, sym, ap, ◌∙◌}
+use mathlib.Core.Bool.{Bool, true, false}
+use mathlib.Core.List.{List}
+use Prim.Native.Nat.{ℕ}
+use lib.ListN.{length}
+use lib.Ieee.{Float}
+use Rattle.checks.proofs.First.{passed_up}
+use Rattle.vectors.proofs.Laws.{length_scale}
+use Rattle.ambient_checks.specs.Inner.{field_of}
+use Rattle.ambient_record.proofs.OneRecord.{spliced_long, record_refused, record_not_admitted, record_fits, record_runs, record_is}
+use Rattle.ambient_record.proofs.record_call.Goals as goal
+
+-- w_0 has n values, be it the first field or the output's
+either : (b : Bool) (n : ℕ) (field out : List Float) → length field ≡ n → length out ≡ n → length (field_of b field out) ≡ n
+either true n field out e f = e
+either false n field out e f = f
+
+pub returns-in_default : goal.returns-in_default
+returns-in_default c gs sound =
+    let v : List Float = field_of c.args.initial c.args.field.now c.args.out.now in
+    let long : length v ≡ c.args.g.n = either c.args.initial c.args.g.n c.args.field.now c.args.out.now c.requires.field_len.0 c.requires.field_len.2 in
+    let a = c.args in
+    let refusal = passed_up c.in_default.is c.number.ensures c.reported.ensures in
+    record_refused a.mass.now c.requires.passed a.duration a.level v a.load.now a.out.now a.work.now long c.requires.field_len.1 c.requires.field_len.2 gs sound c.check_record-early.ensures refusal
+
+pub returns-in_default-checked : goal.returns-in_default-checked
+returns-in_default-checked c gs sound =
+    let v : List Float = field_of c.args.initial c.args.field.now c.args.out.now in
+    let long : length v ≡ c.args.g.n = either c.args.initial c.args.g.n c.args.field.now c.args.out.now c.requires.field_len.0 c.requires.field_len.2 in
+    let a = c.args in
+    let refusal = passed_up c.in_default-checked.is c.number-in_default-checked.ensures c.reported-in_default-checked.ensures in
+    record_not_admitted a.mass.now c.requires.passed a.duration a.level v a.load.now a.out.now a.work.now long c.requires.field_len.1 c.requires.field_len.2 gs sound c.check_record-early.ensures c.in-Sound.is c.admit_record-j.ensures refusal
+
+pub start_record-requires : goal.start_record-requires
+start_record-requires c =
+    let v : List Float = field_of c.args.initial c.args.field.now c.args.out.now in
+    let long : length v ≡ c.args.g.n = either c.args.initial c.args.g.n c.args.field.now c.args.out.now c.requires.field_len.0 c.requires.field_len.2 in
+    let a = c.args in
+    (long, record_fits a.mass.now c.requires.passed a.duration a.level v a.load.now a.out.now a.work.now long c.requires.field_len.1 c.requires.field_len.2 c.admit_record-j.ensures c.in-Sound-checked.is)
+
+pub scale_into-requires : goal.scale_into-requires
+scale_into-requires c = c.requires.field_len.1 ∙ sym c.requires.field_len.2
+
+pub run_record-requires : goal.run_record-requires
+run_record-requires c =
+    let v : List Float = field_of c.args.initial c.args.field.now c.args.out.now in
+    let long : length v ≡ c.args.g.n = either c.args.initial c.args.g.n c.args.field.now c.args.out.now c.requires.field_len.0 c.requires.field_len.2 in
+    let a = c.args in
+    let r = record_runs a.mass.now c.requires.passed a.duration a.level v a.load.now a.out.now a.work.now long c.requires.field_len.1 c.requires.field_len.2 c.admit_record-j.ensures c.in-Sound-checked.is (spliced_long _ _ _ c.start_record.ensures)
+    (ap length c.scale_into.ensures ∙ length_scale a.level a.load.now ∙ c.requires.field_len.1) in record { allowed = r.0; coupled = r.1 }
+
+pub returns : goal.returns
+returns c gs sound =
+    let v : List Float = field_of c.args.initial c.args.field.now c.args.out.now in
+    let long : length v ≡ c.args.g.n = either c.args.initial c.args.g.n c.args.field.now c.args.out.now c.requires.field_len.0 c.requires.field_len.2 in
+    let a = c.args in
+    record_is a.mass.now c.requires.passed a.duration a.level v a.load.now a.out.now a.work.now long c.requires.field_len.1 c.requires.field_len.2 gs sound c.check_record-early.ensures c.in-Sound.is c.admit_record-j.ensures c.in-Sound-checked.is c.start_record.ensures c.scale_into.ensures c.run_record.ensures

@@ -1,0 +1,71 @@
+-- `expv::run_substeps` meets its contract. Assumes nothing.
+use borrow.Author.Rules.{rules}
+use native.Mathlib.Omega.{arith}
+use mathlib.Core.Path.{◌≡◌, refl, subst}
+use mathlib.Core.List.{List, [], ◌∷◌}
+use Prim.Native.Nat.{ℕ, zero, ◌-◌, ◌≤◌}
+use lib.Ieee.{Float}
+use mathlib.Core.Logic.{⊎_elim}
+use types.Run.{OneOf}
+use denote.Enum.Declared.{tag_of}
+use Rattle.lists.specs.Frame.{Kept}
+use Rattle.lists.specs.Walk.{Turn, walk}
+use Rattle.lists.proofs.Walk.{Left, left_start, left_turn, left_out, left_none}
+use Rattle.lists.proofs.Frame.{kept_all, kept_on}
+use Rattle.doubles.specs.F64.{+0}
+use Rattle.phi_action_helpers.specs.declared.Layout.{Layout}
+use Rattle.phi_action_helpers.specs.Laid.{matrix_at}
+use Rattle.phi_action_helpers.proofs.Sweeps.{values_kept}
+use Rattle.gram_schmidt.specs.declared.Krylov.{Krylov}
+use Rattle.gram_schmidt.specs.Memory.{setting_at}
+use Rattle.gram_schmidt.proofs.Turns.{room_kept}
+use Rattle.krylov_advance.specs.Run.{State, End, substep}
+use Rattle.krylov_advance.specs.Memory.{progress_at, Moderate}
+use Rattle.krylov_advance.specs.declared.Progress.{Progress}
+use Rattle.krylov_advance.specs.declared.Progress.TheVariants.{On, Finished, Refused}
+use Rattle.krylov_advance.specs.contracts.Progress as progress
+use Rattle.krylov_advance.proofs.Turns.{seen_on, moderate_turn}
+use Rattle.expv.proofs.run_substeps.Goals as goal
+
+-- a run that has ended
+over : (l : Layout) (k : Krylov) (o : Progress) (w : List Float) → OneOf (1 ∷ 2 ∷ []) (tag_of progress.the_type o)
+    → {step : ℕ → State → Turn State End} {n i : ℕ} {o₀ : Turn State End} → Left step n i o₀ (progress_at l k o w) → progress_at l k o w ≡ walk step n 0 o₀
+unfolding progress_at
+over l k (On c r) w t h = ⊎_elim (λ (e : zero ≡ 1). absurd (omega (arith, e))) (λ (e : zero ≡ 2). absurd (omega (arith, e))) t
+over l k (Finished c r) w t h = left_out h _ refl
+over l k (Refused n x c r) w t h = left_out h _ refl
+
+pub loop-i-init : goal.loop-i-init
+unfolding progress_at
+loop-i-init c =
+    let p = c.requires.m_bound in (omega arith, (omega (arith, p.2), omega (arith, p.3), omega (arith, p.4)), kept_all _ _ _ _, left_start _ _ _)
+
+pub shape_of-work-in_default : goal.shape_of-work-in_default
+shape_of-work-in_default c = c.loop-i.invariant.2.long
+
+pub returns-in_default : goal.returns-in_default
+unfolding progress_at
+returns-in_default c = record { work_after = over _ _ c.loop-i.o _ c.in-On.keys2 c.loop-i.invariant.3; kept = c.loop-i.invariant.2 }
+
+pub substep-o-requires : goal.substep-o-requires
+substep-o-requires c =
+    let p = c.requires in
+    let f = subst (Moderate c.loop-i.i) c.in-On.is c.loop-i.invariant.1 in
+    record { room = room_kept _ _ _ c.loop-i.invariant.2 p.room; m_bound = (p.m_bound.0, omega (arith, f.0, p.m_bound.1), omega (arith, f.1, p.m_bound.1), omega (arith, f.2, p.m_bound.1)) }
+
+pub loop-i-preserved : goal.loop-i-preserved
+loop-i-preserved c =
+    let a = c.args in
+    let p = c.requires in
+    let f = subst (Moderate c.loop-i.i) c.in-On.is c.loop-i.invariant.1 in
+    let g = c.substep-o.ensures in
+    let e = values_kept a.l.mass a.l.q a.vals.now a.work.now c.loop-i.work c.loop-i.invariant.2 in
+    let t = rw e at g.work_after in
+    (omega arith, moderate_turn a.l a.k _ c.loop-i.i _ _ c.loop-i.work _ _ p.m_bound.0 f t, kept_on c.loop-i.invariant.2 g.kept, left_turn c.loop-i.invariant.3 _ _ (omega arith) (seen_on a.l a.k _ _ _ _ c.in-On.is) t)
+
+pub shape_of-work : goal.shape_of-work
+shape_of-work c = c.loop-i.invariant.2.long
+
+pub returns : goal.returns
+unfolding progress_at
+returns c = record { work_after = left_none c.loop-i.invariant.3 (omega arith); kept = c.loop-i.invariant.2 }

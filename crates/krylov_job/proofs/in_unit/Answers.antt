@@ -1,0 +1,9 @@
+-- `krylov_job::in_unit` meets its contract. Assumes nothing.
+
+use Rattle.krylov_job.proofs.in_unit.Goals as goal
+
+pub returns-then-x : goal.returns-then-x
+returns-then-x c = rw c.if-x.true
+
+pub returns-else-x : goal.returns-else-x
+returns-else-x c = rw c.if-x.false

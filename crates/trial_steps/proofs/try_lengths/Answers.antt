@@ -1,0 +1,48 @@
+-- `trial_steps::try_lengths` meets its contract. Assumes nothing.
+use borrow.Author.Rules.{rules}
+use native.Mathlib.Omega.{arith}
+use mathlib.Core.Logic.{⊎_elim}
+use Prim.Native.Nat.{ℕ, ◌+◌, ◌-◌, ◌≤◌, zero-le}
+use mathlib.Core.Path.{◌≡◌, subst}
+use mathlib.Core.List.{List, [], ◌∷◌}
+use denote.Enum.Declared.{tag_of}
+use types.Run.{OneOf}
+use lib.Ieee.{Float}
+use lib.ListN.{length-replicate}
+use Rattle.lists.specs.Walk.{on}
+use Rattle.lists.proofs.Walk.{Left, left_start, left_turn, left_none}
+use Rattle.doubles.specs.F64.{+0}
+use Rattle.general_operator.specs.Csr.{Csr}
+use Rattle.phi_action_helpers.specs.declared.Layout.{Layout}
+use Rattle.phi_action_helpers.specs.declared.Coupling.{Coupling}
+use Rattle.gram_schmidt.specs.Memory.{setting_at}
+use Rattle.trial_steps.specs.Trials.{try_step}
+use Rattle.trial_steps.specs.Memory.{outcome_at, trial_at, Within, Modest}
+use Rattle.trial_steps.specs.declared.Outcome.{Outcome}
+use Rattle.trial_steps.specs.declared.Outcome.TheVariants.{Next}
+use Rattle.trial_steps.specs.contracts.Outcome.{the_type}
+use Rattle.trial_steps.proofs.Tries.{within_more, seen_next, left_ended}
+use Rattle.trial_steps.proofs.try_lengths.Goals as goal
+
+pub loop-i-init : goal.loop-i-init
+unfolding outcome_at
+loop-i-init c = (zero-le, record { long = length-replicate 130 +0; within = zero-le }, λ l b q vectors. left_start _ _ _)
+
+pub returns-in_default : goal.returns-in_default
+returns-in_default c =
+    record { result_value = (λ l b q vectors. left_ended _ _ c.in_default.not-Next (c.loop-i.invariant.2 l b q vectors)); modest = record { long = c.loop-i.invariant.1.long; within = within_more c.loop-i.i 11 (c.args.k.m + 1) c.loop-i.o.outcome c.loop-i.invariant.1.within c.loop-i.invariant.0 } }
+
+pub try_step-o-requires : goal.try_step-o-requires
+try_step-o-requires c =
+    let f = subst (Within c.loop-i.i (c.args.k.m + 1)) c.in-Next.is c.loop-i.invariant.1.within in
+    record { m_bound = omega arith; h_len = c.requires.h_len }
+
+pub loop-i-preserved : goal.loop-i-preserved
+loop-i-preserved c =
+    let g = c.try_step-o.ensures in
+    let f = subst (Within c.loop-i.i (c.args.k.m + 1)) c.in-Next.is c.loop-i.invariant.1.within in
+    (omega arith, record { long = g.modest.long; within = within_more _ (c.loop-i.i + 1) (c.args.k.m + 1) c.try_step-o.result.outcome g.modest.within (omega arith) }, λ l b q vectors. left_turn (c.loop-i.invariant.2 l b q vectors) _ _ (omega arith) (seen_next _ _ _ _ c.in-Next.is) (g.result_value l b q vectors c.loop-i.i))
+
+pub returns : goal.returns
+returns c =
+    record { result_value = (λ l b q vectors. left_none (c.loop-i.invariant.2 l b q vectors) (omega arith)); modest = record { long = c.loop-i.invariant.1.long; within = within_more c.loop-i.i 11 (c.args.k.m + 1) c.loop-i.o.outcome c.loop-i.invariant.1.within c.loop-i.invariant.0 } }
