@@ -1,4 +1,4 @@
-//! Links what `rt staticlib` has written for the crates that export functions on slices and, with the feature `bytes`, for those on bytes too.
+//! Links the archives that hosts/library has written: those with functions on slices and, with the feature `bytes`, those on bytes too.
 
 use std::path::Path;
 
@@ -8,7 +8,8 @@ fn main() {
     println!("cargo:rustc-link-search=native={}", folder.display());
     let list = std::fs::read_to_string(root.join("crates.txt")).expect("crates.txt");
     let on_bytes = std::env::var_os("CARGO_FEATURE_BYTES").is_some();
-    let names = list.lines().filter_map(|line| line.split_once(':')).map(|(name, _)| name);
+    let crates = list.lines().filter_map(|line| line.split_once(" staticlib:")).map(|(name, _)| name);
+    let names = crates.map(|name| name.strip_suffix("_c").unwrap_or(name));
     for name in names.filter(|name| name.starts_with("exports") && (on_bytes || !name.ends_with("_bytes"))) {
         println!("cargo:rerun-if-changed={}", folder.join(format!("lib{name}.a")).display());
         println!("cargo:rustc-link-lib=static={name}");

@@ -60,8 +60,7 @@ fn answer(
 }
 
 // `phi_combination::phi_combination`.
-#[unsafe(no_mangle)]
-pub extern "C" fn hazhendu_phi_combination_bytes(
+pub fn hazhendu_phi_combination_bytes(
     n: usize,
     starts: &[u8],
     cols: &[u8],
@@ -102,8 +101,7 @@ pub extern "C" fn hazhendu_phi_combination_bytes(
 }
 
 // `phi_action::phi_action`.
-#[unsafe(no_mangle)]
-pub extern "C" fn hazhendu_phi_action_bytes(
+pub fn hazhendu_phi_action_bytes(
     n: usize,
     starts: &[u8],
     cols: &[u8],
@@ -144,8 +142,7 @@ pub extern "C" fn hazhendu_phi_action_bytes(
 }
 
 // `phi_batch::phi_action_batched`.
-#[unsafe(no_mangle)]
-pub extern "C" fn hazhendu_phi_action_batched_bytes(
+pub fn hazhendu_phi_action_batched_bytes(
     n: usize,
     starts: &[u8],
     cols: &[u8],
@@ -186,8 +183,7 @@ pub extern "C" fn hazhendu_phi_action_batched_bytes(
 }
 
 // `phi_krylov::phi_combination_krylov`.
-#[unsafe(no_mangle)]
-pub extern "C" fn hazhendu_phi_combination_krylov_bytes(
+pub fn hazhendu_phi_combination_krylov_bytes(
     n: usize,
     starts: &[u8],
     cols: &[u8],

@@ -9,8 +9,7 @@ ghost use Rattle.phi_solver.specs.Combine.{answering};
 ghost use Rattle.answers.specs.Told.{krylov_numbers, run_numbers, options};
 
 // `phi_krylov::phi_combination_krylov`, told by `krylov_numbers`.
-#[unsafe(no_mangle)]
-pub extern "C" fn hazhendu_phi_combination_krylov(
+pub fn hazhendu_phi_combination_krylov(
     n: usize,
     starts: &[u32],
     cols: &[u32],

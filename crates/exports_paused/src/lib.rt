@@ -198,8 +198,7 @@ pub fn field_end(numbers: &[f64], counts: &[usize], field: usize) -> usize
 }
 
 // `paused_start::start`, told by `start_state`.
-#[unsafe(no_mangle)]
-pub extern "C" fn hazhendu_krylov_start(
+pub fn hazhendu_krylov_start(
     n: usize,
     starts: &[u32],
     cols: &[u32],
@@ -251,8 +250,7 @@ pub fn tolerance(with_tol: bool, tol: f64) -> Tolerance
 }
 
 // `paused_step::step`, told by `step_state`.
-#[unsafe(no_mangle)]
-pub extern "C" fn hazhendu_krylov_step(
+pub fn hazhendu_krylov_step(
     n: usize,
     starts: &[u32],
     cols: &[u32],

@@ -1,11 +1,15 @@
 // Replays a fixed list of answers through the exports on byte slices, and says how many differ. `make.py` writes the list
 // and describes its form. Before a call the double and the counts are 90, and so is every byte of output and working memory.
+#![tactic(auto)]
+
 ghost use Rattle.std.specs.Prelude.{◌≡◌, true, ◌&&◌, cond, ◌+◌, ◌-◌, ◌≤◌, length, eqb, leb, ltb};
 ghost use Rattle.lists.specs.Loop.{tabulate};
 ghost use Rattle.le_bytes.specs.Bytes.{word};
 
 use le_bytes::{double_at, half_at};
 use pack_bytes::pattern;
+use std::io;
+use std::io::Read;
 
 // The numbers of a job.
 #[derive(Clone, Copy)]
@@ -378,7 +382,7 @@ fn agrees(answer: Answer, head: &[u8], out: &[u8], wanted: &[u8], published: boo
         return near(last_word(out), last_word(wanted), 4);
     }
     if same_numbers(answer, answer_of(head)) {
-        return check::same(out, wanted);
+        return out == wanted;
     }
     false
 }
@@ -443,32 +447,40 @@ fn replay_record(head: &[u8], body: &[u8], published: bool) -> bool
     replay_in(head, body, &mut out, &mut work, published)
 }
 
+// The next bytes of the input, and whether there are as many.
+fn read_full<R: Read>(input: &mut R, room: &mut [u8]) -> bool {
+    match input.read_exact(room) {
+        Ok(()) => true,
+        Err(_) => false,
+    }
+}
+
 // The next bytes of the input at the front of the room, and whether there are as many.
-fn read_front(room: &mut [u8], count: usize) -> bool {
+fn read_front<R: Read>(input: &mut R, room: &mut [u8], count: usize) -> bool {
     if count > room.len() {
         return false;
     }
-    io::read_full(0, &mut room[..count]) == count
+    read_full(input, &mut room[..count])
 }
 
 // Reads a record, and says whether the library gives the answer that it holds.
-fn replay_next(published: bool) -> bool {
+fn replay_next<R: Read>(input: &mut R, published: bool) -> bool {
     let mut head = [0u8; 184];
-    if io::read_full(0, &mut head) < 184 {
+    if !read_full(input, &mut head) {
         return false;
     }
     let size = word_at(&head, 104) as usize;
     let mut body = [0u8; 16384];
-    if read_front(&mut body, size) {
+    if read_front(input, &mut body, size) {
         return replay_record(&head, part(&body, 0, size), published);
     }
     false
 }
 
 // How many records follow; none where the list is damaged.
-fn read_count() -> u32 {
+fn read_count<R: Read>(input: &mut R) -> u32 {
     let mut four = [0u8; 4];
-    if io::read_full(0, &mut four) < 4 {
+    if !read_full(input, &mut four) {
         return 0;
     }
     let count = half_at(&four, 0);
@@ -478,36 +490,42 @@ fn read_count() -> u32 {
     count as u32
 }
 
-fn print_section(name: &[u8], replayed: u32, different: u32, first: u32) {
-    io::write_all(1, name);
-    io::print_decimal(1, replayed as u64);
-    io::write_all(1, b" replayed, ");
-    io::print_decimal(1, different as u64);
-    io::write_all(1, b" different");
+fn print_section(
+    rt: &impl Print,
+    name: &str,
+    replayed: u32,
+    different: u32,
+    first: u32,
+) -> io::Result<()> {
+    print!(rt; "{name}{replayed} replayed, {different} different")?;
     if different > 0 {
-        io::write_all(1, b", the first is record ");
-        io::print_decimal(1, first as u64);
+        print!(rt; ", the first is record {first}")?;
     }
-    io::write_all(1, b"\n");
+    println!(rt)
 }
 
-fn replay_section(name: &[u8], published: bool) -> Count {
-    let replayed = read_count();
+fn replay_section<R: Read>(
+    rt: &impl Print,
+    input: &mut R,
+    name: &str,
+    published: bool,
+) -> io::Result<Count> {
+    let replayed = read_count(input);
     let mut different = 0u32;
     let mut first = 0u32;
     for k in 0..replayed {
-        if !replay_next(published) {
+        if !replay_next(input, published) {
             if different == 0 {
                 first = k + 1;
             }
             different += 1;
         }
     }
-    print_section(name, replayed, different, first);
-    Count {
+    print_section(rt, name, replayed, different, first)?;
+    Ok(Count {
         replayed: replayed,
         different: different,
-    }
+    })
 }
 
 // 200 rows with no entries and one vector, on slices: a job too large for the exports on bytes.
@@ -551,20 +569,15 @@ fn number_200(m: usize) -> u32 {
     ask_200(&starts, &w, m, &mut out, &mut work)
 }
 
-fn main() {
-    let a = replay_section(b"answers of the Rust: ", false);
-    let b = replay_section(b"boundary jobs: ", false);
-    let c = replay_section(b"published values: ", true);
-    io::write_all(1, b"in all: ");
-    io::print_decimal(1, a.replayed as u64 + b.replayed as u64 + c.replayed as u64);
-    io::write_all(1, b" replayed, ");
-    io::print_decimal(
-        1,
-        a.different as u64 + b.different as u64 + c.different as u64,
-    );
-    io::write_all(1, b" different\nn = 200: m 128 gives ");
-    io::print_decimal(1, number_200(128) as u64);
-    io::write_all(1, b", m 129 gives ");
-    io::print_decimal(1, number_200(129) as u64);
-    io::write_all(1, b"\n");
+fn main(rt: HostRuntime) -> io::Result<()> {
+    let mut input = rt.reader();
+    let a = replay_section(&rt, &mut input, "answers of the Rust: ", false)?;
+    let b = replay_section(&rt, &mut input, "boundary jobs: ", false)?;
+    let c = replay_section(&rt, &mut input, "published values: ", true)?;
+    let replayed = a.replayed as u64 + b.replayed as u64 + c.replayed as u64;
+    let different = a.different as u64 + b.different as u64 + c.different as u64;
+    println!(rt; "in all: {replayed} replayed, {different} different")?;
+    let accepted = number_200(128);
+    let refused = number_200(129);
+    println!(rt; "n = 200: m 128 gives {accepted}, m 129 gives {refused}")
 }

@@ -84,6 +84,8 @@ fn what_is_read_is_not_written_over_by_another_name() {
             assert_eq!(fs::read_to_string(&vector).unwrap(), "1\n-2\n");
         }
     }
+    // `rt ci` refuses a checkout with a link in it.
+    fs::remove_file(&soft).unwrap();
 }
 
 #[test]
@@ -97,6 +99,7 @@ fn a_link_stays_a_link_and_a_file_keeps_its_permissions() {
     assert!(fs::symlink_metadata(&link).unwrap().is_symlink());
     assert_eq!(fs::read_to_string(&field).unwrap().lines().count(), 2);
     assert_eq!(fs::metadata(&field).unwrap().permissions().mode() & 0o777, 0o640);
+    fs::remove_file(&link).unwrap();
 }
 
 /// Files in a folder of its own.
