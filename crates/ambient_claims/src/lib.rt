@@ -1,1 +1,3 @@
+#![tactic(auto)]
+
 // Theorems on a soak under a changing ambient level: no code.

@@ -6,10 +6,8 @@ use Rattle.generator_action.specs.declared.MatrixAnswer.TheVariants as matrix
 use Rattle.join_rows.specs.Join.{Call}
 use Rattle.join_rows.specs.declared.JoinAnswer.{JoinAnswer}
 use Rattle.join_rows.specs.declared.JoinAnswer.TheVariants as join
-use Rattle.taylor_job.specs.declared.TaylorReport.{TaylorReport}
 use Rattle.taylor_job.specs.declared.TaylorAnswer.{TaylorAnswer}
 use Rattle.taylor_job.specs.declared.TaylorAnswer.TheVariants as taylor
-use Rattle.krylov_advance.specs.declared.KrylovPhiReport.{KrylovPhiReport}
 use Rattle.krylov_job.specs.declared.KrylovPhiOptions.{KrylovPhiOptions}
 use Rattle.krylov_job.specs.declared.KrylovAnswer.{KrylovAnswer}
 use Rattle.krylov_job.specs.declared.KrylovAnswer.TheVariants as krylov

@@ -1,4 +1,6 @@
 // Answers as the numbers that an exported function hands back, and solvers from the numbers handed in.
+#![tactic(auto)]
+
 ghost use Rattle.std.specs.Prelude.{◌≡◌};
 ghost use Rattle.answers.specs.Told.{numbers, matrix_numbers, join_numbers, taylor_numbers, krylov_numbers, phi_numbers, run_numbers, options, solver};
 

@@ -1,5 +1,4 @@
 -- A call on the parts of its lists answers what it answers on the whole lists, with the lengths handed in. Assumes nothing.
-use mathlib.Core.Bool.{Bool, true, false}
 use mathlib.Core.List.{List, ◌++◌}
 use mathlib.Core.Path.{◌≡◌, refl, sym, ◌∙◌, ap}
 use Prim.Native.Nat.{ℕ, ◌/◌, ◌≤◌, ◌<◌}

@@ -1,4 +1,6 @@
 // The four calls as one, for the exports on bytes: which call, and what it tells by value.
+#![tactic(auto)]
+
 ghost use Rattle.std.specs.Prelude.{◌≡◌};
 ghost use Rattle.answers.specs.Told.{numbers, run_numbers, taylor_numbers, krylov_numbers};
 ghost use Rattle.byte_arrays.specs.Inner.{lengths_told};

@@ -1,1 +1,3 @@
+#![tactic(auto)]
+
 // Whole calls by either solver, computed in proofs/. No code.

@@ -20,11 +20,11 @@ further n w = drop n w
 unfoldable pub vector : ℕ → List Float → ℕ → List Float
 vector n f j = window (j * n) n f
 
--- of w_(j+1): tau ^ (j + 1), by products from the left; 0 for an all_zero vector
+-- of w_(j+1): tau ^ (j + 1), by products from the left; 0 for an all-zero vector
 unfoldable pub gain : ℕ → List Float → Float → ℕ → Float
 gain n f tau j = if eq (sup (vector n f j)) +0 then +0 else power tau (j + 1)
 
--- s and w_(j+1)'s share, tau ^ (j + 1) * sup |w_(j+1)|; an all_zero vector is skipped
+-- s and w_(j+1)'s share, tau ^ (j + 1) * sup |w_(j+1)|; an all-zero vector is skipped
 unfoldable pub weighed : ℕ → List Float → Float → ℕ → Float → Float
 weighed n f tau j s = if eq (sup (vector n f j)) +0 then s else s ⊕ power tau (j + 1) ⊗ sup (vector n f j)
 

@@ -1,4 +1,4 @@
--- Worked examples, by computation: each with the row_sum norm as the bound. Assumes nothing.
+-- Worked examples, by computation: each with the row-sum norm as the bound. Assumes nothing.
 use mathlib.Core.List.{[], ◌∷◌}
 use mathlib.Core.Path.{◌≡◌, refl}
 use lib.Ieee.{Float, neg, nan}

@@ -15,7 +15,6 @@ use Rattle.answers.specs.Told.{Numbers}
 use Rattle.le_bytes.specs.Bytes.{numbers_of, doubles_of, written_over}
 use Rattle.byte_arrays.specs.Inner.{Cut, lengths_told}
 use Rattle.byte_arrays.proofs.Parts.{numbers_part, doubles_part, columns_part, mass_part}
-use Rattle.byte_arrays.proofs.Cuts.{Uncut}
 use Rattle.byte_arrays.proofs.Forward.{forward_refuses}
 use Rattle.byte_calls.specs.Inner.{told, called, revalued}
 use Rattle.byte_calls.specs.declared.Told.{Told}

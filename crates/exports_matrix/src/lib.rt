@@ -1,4 +1,6 @@
 // The check of a matrix and the join of two for programs in other languages: straight on slices, with no copy and no memory of its own.
+#![tactic(auto)]
+
 ghost use Rattle.std.specs.Prelude.{◌≡◌};
 ghost use Rattle.general_operator.specs.Csr.{csr};
 ghost use Rattle.generator_action.specs.Mass.{given};

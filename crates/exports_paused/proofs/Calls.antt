@@ -1,18 +1,17 @@
 -- A start and a step as they are told. Assumes nothing.
 use Rattle.std.specs.Prelude.{if◌then◌else◌}
-use mathlib.Core.Path.{◌≡◌, refl, sym, ap, ◌∙◌}
+use mathlib.Core.Path.{◌≡◌, refl, ap, ◌∙◌}
 use mathlib.Core.Bool.{Bool, true, false, not}
 use mathlib.Core.List.{List, [], ◌∷◌, ◌++◌, append_assoc}
 use Prim.Native.Nat.{ℕ, zero, ◌+◌, ◌-◌, ◌≤◌, ◌<◌}
 use native.Mathlib.Omega.{arith}
-use lib.Dec.{eqb}
 use lib.ListN.{length, take, drop}
 use lib.Seq.{take_all}
 use lib.Ieee.{Float, nan}
 use borrow.Author.Tests.{ne_eqb}
 use Rattle.lists.specs.Window.{window, splice}
 use Rattle.lists.proofs.Window.{length_window, splice_whole, splice_nil, splice_parts}
-use Rattle.checks.specs.First.{Check, refuse, first}
+use Rattle.checks.specs.First.{refuse, first}
 use Rattle.checks.proofs.First.{and_then, first_append, sound_append}
 use Rattle.checks.specs.declared.Checked.{Checked}
 use Rattle.checks.specs.declared.Checked.TheVariants.{Sound, Refused}
@@ -29,7 +28,7 @@ use Rattle.paused_run.specs.declared.PausedRun.{PausedRun}
 use Rattle.paused_run.specs.declared.Tolerance.{Tolerance}
 use Rattle.paused_run.specs.declared.StartAnswer.{StartAnswer}
 use Rattle.paused_run.specs.declared.StepAnswer.{StepAnswer}
-use Rattle.exports_paused.specs.Told.{fits, run_of, State, Told, told, start_state, step_state, state_checks, start_told, step_told}
+use Rattle.exports_paused.specs.Told.{fits, run_of, State, told, start_state, step_state, state_checks, start_told, step_told}
 
 -- ---- the last check of a list
 module _ (r : Checked) where

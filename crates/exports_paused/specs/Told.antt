@@ -5,7 +5,7 @@ use Rattle.doubles.specs.F64.{+0, 1f, at}
 use Rattle.checks.specs.First.{Check, refuse, first}
 use Rattle.krylov_advance.specs.Run.{empty_report}
 use Rattle.krylov_job.specs.declared.KrylovPhiOptions.{KrylovPhiOptions}
-use Rattle.paused_run.specs.Paused.{Job, Input, PausedCall, start_checks, start_unless, step}
+use Rattle.paused_run.specs.Paused.{Job, Input, start_checks, start_unless, step}
 use Rattle.paused_run.specs.declared.PausedRun.{PausedRun}
 use Rattle.paused_run.specs.declared.Tolerance.{Tolerance}
 use Rattle.paused_run.specs.declared.Tolerance.TheVariants.{Same, New}

@@ -1,4 +1,6 @@
 // Paused runs for programs in other languages, straight on slices: a run crosses as ten doubles and eight numbers.
+#![tactic(auto)]
+
 ghost use Rattle.std.specs.Prelude.{◌≡◌, ℕ, zero, length, Float, if◌then◌else◌};
 ghost use Rattle.general_operator.specs.Csr.{csr};
 ghost use Rattle.generator_action.specs.Mass.{given};

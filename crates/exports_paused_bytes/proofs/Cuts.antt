@@ -17,7 +17,7 @@ use Rattle.byte_arrays.specs.Inner.{Cut, lengths_told}
 use Rattle.byte_arrays.proofs.Parts.{whole, not_cut, numbers_part, doubles_part, words_part, columns_part, mass_part}
 use Rattle.byte_arrays.proofs.Bytes.{back, left, left_words}
 use Rattle.byte_arrays.proofs.Cuts.{Recut, retold, retold_refused, few_told, Uncut}
-use Rattle.paused_byte_calls.specs.Replies.{Slices, slices, packed, Reply, replies, packs}
+use Rattle.paused_byte_calls.specs.Replies.{Slices, slices, Reply, replies, packs}
 use Rattle.paused_byte_calls.specs.Inner.{job, called_run}
 use Rattle.paused_byte_calls.specs.declared.RunCall.{RunCall}
 use Rattle.exports_paused_bytes.proofs.Checks.{checks, refused, same_checks, whole_lent, few_rows, checks_cut}

@@ -1,4 +1,6 @@
 // Several barrels on one unit for programs in other languages, straight on slices: a unit crosses as 160 doubles and 144 numbers.
+#![tactic(auto)]
+
 ghost use Rattle.std.specs.Prelude.{◌≡◌, ◌&&◌, ◌*◌, ◌<◌, ltb, length, get_or};
 ghost use Rattle.lists.specs.Loop.{tabulate, stack};
 ghost use Rattle.lists.specs.Window.{window, splice};

@@ -3,10 +3,9 @@
 use mathlib.Core.Bool.{Bool, true, false, ◌||◌, cond}
 use mathlib.Core.List.{List, [], ◌∷◌, ◌++◌, append-nil}
 use mathlib.Core.Option.{none, some}
-use mathlib.Core.Path.{◌≡◌, refl, sym, ◌∙◌, ap, subst}
+use mathlib.Core.Path.{◌≡◌, refl, sym, ◌∙◌, ap}
 use native.Mathlib.Omega.{arith}
-use Prim.Native.Nat.{ℕ, ◌+◌, ◌*◌, ◌/◌, ◌≤◌, ◌<◌}
-use lib.Dec.{ltb}
+use Prim.Native.Nat.{ℕ, ◌+◌, ◌/◌, ◌≤◌, ◌<◌}
 use lib.ListN.{length, get_or, take, drop}
 use lib.Seq.{length-take-le}
 use lib.Ieee.{Float, nan}
@@ -20,11 +19,11 @@ use Rattle.generator_action.specs.Mass.{Mass, given, quotients, mass_checks, sum
 use Rattle.generator_action.specs.Generator.{Generator}
 use Rattle.generator_action.specs.Answer.{unless_refused}
 use Rattle.transpose.specs.Transpose.{Lent, Buffers, buffers, lengths, transpose, start_checks, forward_checks, short, lent_checks, before_transposing, transposed_checks, filled, buffers_after, transposed, transposed_answer}
-use Rattle.transpose.proofs.Passed.{Transposable, transposable, transposed_valid, transposed_length}
+use Rattle.transpose.proofs.Passed.{transposable, transposed_valid, transposed_length}
 use Rattle.combination.specs.Call.{Call}
 use Rattle.taylor_schedule.proofs.Stored.{quotients_rows}
 use Rattle.answers.specs.Told.{Numbers, numbers, run_numbers, matrix_numbers}
-use Rattle.le_bytes.specs.Bytes.{numbers_of, doubles_of, numbers_over, written_over}
+use Rattle.le_bytes.specs.Bytes.{numbers_of, doubles_of, written_over}
 use Rattle.le_bytes.proofs.Counts.{count_numbers, count_doubles}
 use Rattle.le_bytes.proofs.Fronts.{numbers_cut, doubles_cut}
 use Rattle.byte_arrays.specs.Inner.{Cut, long_told, lengths_told}

@@ -1,4 +1,6 @@
 // The Taylor combination on the transposed matrix for programs in other languages, the buffers of the transpose lent.
+#![tactic(auto)]
+
 ghost use Rattle.std.specs.Prelude.{◌≡◌};
 ghost use Rattle.general_operator.specs.Csr.{csr};
 ghost use Rattle.generator_action.specs.Mass.{given};

@@ -1,1 +1,3 @@
+#![tactic(auto)]
+
 // Matrices that two checks would refuse, and which of the two does, in proofs/. No code.

@@ -121,7 +121,7 @@ other_15 : let a = (first_step three_alone (two_by_two (replicate 3 (nat 7)))).a
 unfolding open_paused
 other_15 = (refl, refl)
 
--- ---- an all_zero start keeps the signs of its zeros, and a step on it is 31
+-- ---- an all-zero start keeps the signs of its zeros, and a step on it is 31
 abbrev -0 : Float
 -0 = bits 0x8000_0000_0000_0000
 

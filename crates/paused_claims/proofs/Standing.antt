@@ -308,7 +308,7 @@ module _ (o : KrylovPhiOptions) (j : Job) (f : Scale) where
       }
 
 -- ---- a run as it was left
--- an all_zero start
+-- an all-zero start
 pub record Resting (o : KrylovPhiOptions) (j : Job) (p : Past) : Type 0 where
   pub none : pow2_scale (values_of j) ≡ None
   pub run : p.run ≡ idle_run o j

@@ -301,7 +301,7 @@ ends_by {o} {j} {p} l (i ∷ is) h n = go p.run.ended refl (λ k m. ends_by {p =
 pub undivided_run : {o : KrylovPhiOptions} {j : Job} {p : Past} → LeftSame o j p → UndividedClaim o j p
 undivided_run {o} {j} {p} l = record { as_whole = as_whole l; few = few_steps l; goes_on = goes_on l; ends_by = λ is h n. ends_by l is h (le_trans n (omega arith)) }
 
--- ---- an all_zero start
+-- ---- an all-zero start
 pub zero_whole : (o : KrylovPhiOptions) (j : Job) (output memory field : List Float) → ZeroWhole o j output memory field
 unfolding phi_combination_krylov combination_run_krylov unless_refused expv expv_by idle after_run dimension clamp_m
 zero_whole o j output memory field s e z =

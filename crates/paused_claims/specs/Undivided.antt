@@ -57,7 +57,7 @@ pub record UndividedClaim (o : KrylovPhiOptions) (j : Job) (p : Past) : Type 0 w
   -- so it ends
   pub ends_by : (l : List Input) → Each (Served o j) l → o.max_substeps ≤ length l → (all_next o j p l).run.ended ≡ true
 
--- of an all_zero start the start's call itself
+-- of an all-zero start the start's call itself
 abbrev pub ZeroWhole : KrylovPhiOptions → Job → List Float → List Float → List Float → Type 0
 ZeroWhole o j output memory field =
     let c = start o j output memory field in

@@ -100,7 +100,7 @@ fresh o j f norm next ended =
       ended = ended;
     }
 
--- all_zero start: factors 1, norm and step 0, and it has ended
+-- all-zero start: factors 1, norm and step 0, and it has ended
 abbrev pub idle_run : KrylovPhiOptions → Job → PausedRun
 idle_run o j = fresh o j (record { down = 1f; up = 1f }) +0 +0 true
 

@@ -68,7 +68,7 @@ exponent x = pos (size (val (to_bits binary64 x))) -ℤ pos 1075
 abbrev pub scale_of : ℤ → Scale
 scale_of e = record { down = exact_pow2 (neg_ℤ e); up = exact_pow2 e }
 
--- `pow2_scale`: 2 ^ -e and 2 ^ e, e the exponent of the largest magnitude, moved toward 0 to where both are finite and not 0; none for an all_zero slice
+-- `pow2_scale`: 2 ^ -e and 2 ^ e, e the exponent of the largest magnitude, moved toward 0 to where both are finite and not 0; none for an all-zero slice
 unfoldable pub pow2_scale : List Float → Prescale
 pow2_scale rhs = if eq (sup rhs) +0 then None else By (scale_of (clamp (exponent (sup rhs)) (negsuc 1022) (pos 1023)))
 

@@ -3,14 +3,14 @@ use Rattle.std.specs.Prelude.{if◌then◌else◌}
 use mathlib.Core.Path.{◌≡◌, refl, sym, ap, ◌∙◌}
 use mathlib.Core.Bool.{Bool, true, false, ◌&&◌}
 use mathlib.Core.List.{List, [], ◌∷◌, ◌++◌, append_assoc}
-use Prim.Native.Nat.{ℕ, zero, suc, ◌+◌, ◌*◌}
+use Prim.Native.Nat.{ℕ, zero, suc}
 use native.Mathlib.Nat.{zero-mul}
 use native.Mathlib.Omega.{arith}
 use lib.IntN.{ℤ, pos, negsuc}
 use lib.Dec.{T}
 use lib.ListN.{length, length-append, replicate}
 use lib.Seq.{get_or-append_seam}
-use lib.Ieee.{Float, nan, inf, fin, up, down, lt, eq, of_bits}
+use lib.Ieee.{Float, nan, inf, fin, lt, eq, of_bits}
 use Rattle.lists.specs.Loop.{iter}
 use Rattle.lists.specs.Window.{window}
 use Rattle.lists.proofs.Loop.{iter_next}

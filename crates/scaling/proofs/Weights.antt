@@ -93,7 +93,7 @@ module _ (u v n d : ℕ) (w w' : List Float) (tau : Float) (time : T (fits binar
   behind_long : (k : ℕ) → k < d → (x : List Float) → (d + 1) * n ≤ length x → length (vector n (further n x) k) ≡ n
   behind_long k l x g = rw (further_vector n x k) (vector_long (k + 1) (omega arith) x g)
 
-  -- an all_zero vector stays one, so that the powers of tau that are taken are the same
+  -- an all-zero vector stays one, so that the powers of tau that are taken are the same
   gain_same : (k : ℕ) → k < d → gain n f tau k ≡ gain n f' tau k
   unfolding gain
   gain_same k l =

@@ -1,4 +1,6 @@
 // The schedule of a soak in stages, and the check of its lists.
+#![tactic(auto)]
+
 ghost use Rattle.std.specs.Prelude.{◌≡◌, not, ◌&&◌, ◌||◌, ◌-◌, eqb, ltb};
 ghost use Rattle.checks.specs.First.{first};
 ghost use Rattle.schedule_checks.specs.Schedule.{stage, schedule_checks};

@@ -1,4 +1,6 @@
 // One stage of a schedule, and its checks.
+#![tactic(auto)]
+
 ghost use Rattle.std.specs.Prelude.{◌≡◌, ◌&&◌, ◌++◌, ◌+◌, ◌-◌, ◌*◌, ◌≤◌, ◌<◌, eqb, length};
 ghost use Rattle.checks.specs.First.{first};
 ghost use Rattle.combination.specs.Checks.{finite_checks};

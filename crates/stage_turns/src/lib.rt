@@ -1,4 +1,6 @@
 // What a stage starts from, and what is counted behind it.
+#![tactic(auto)]
+
 ghost use Rattle.std.specs.Prelude.{◌≡◌, List, ◌+◌, ◌-◌, ◌*◌, ◌≤◌, length, Float};
 ghost use Rattle.lists.specs.Window.{splice};
 ghost use Rattle.checks.specs.First.{first};

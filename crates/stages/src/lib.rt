@@ -1,4 +1,6 @@
 // A soak in stages: single calls in a row over one matrix, the field of one being w_0 of the next.
+#![tactic(auto)]
+
 ghost use Rattle.std.specs.Prelude.{◌≡◌, List, ◌+◌, ◌-◌, length, Float};
 ghost use Rattle.lists.specs.Walk.{walk, on};
 ghost use Rattle.checks.specs.First.{first};

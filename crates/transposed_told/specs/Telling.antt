@@ -1,5 +1,4 @@
 -- A call on the transposed matrix as the numbers that an exported function hands back, with output, working memory and lent buffers (document 02, N3). Definitions only.
-use Rattle.combination.specs.Call.{Call}
 use Rattle.answers.specs.Told.{Numbers}
 use Rattle.phi_solver.specs.Combine.{answering}
 use Rattle.transpose.specs.Transpose.{Buffers}

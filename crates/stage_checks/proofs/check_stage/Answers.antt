@@ -1,0 +1,39 @@
+-- `stage_checks::check_stage` meets its contract. Assumes nothing.
+use borrow.Author.Rules.{rules}
+use native.Mathlib.Omega.{arith}
+use Prim.Native.Nat.{◌-◌, ◌*◌, ◌≤◌}
+use Rattle.checks.proofs.First.{refused_up, sound_on, stops_told, passes_told, ends_sound}
+use Rattle.schedule_checks.specs.Schedule.{stage_checks}
+use Rattle.schedule_checks.proofs.Checks.{count_some, few_counted}
+use Rattle.stage_checks.proofs.check_stage.Goals as goal
+
+pub returns-in_default : goal.returns-in_default
+unfolding stage_checks
+returns-in_default c = search refused_up
+
+pub returns-in_default-time : goal.returns-in_default-time
+unfolding stage_checks
+returns-in_default-time c = search (sound_on, refused_up)
+
+pub returns-in_default-lengths : goal.returns-in_default-lengths
+unfolding stage_checks
+returns-in_default-lengths c = search (sound_on, refused_up)
+
+pub overflow_sub-need : goal.overflow_sub-need
+overflow_sub-need c = search count_some
+
+pub overflow_mul-need : goal.overflow_mul-need
+overflow_mul-need c =
+    let h : (c.args.s.count - 1) * c.args.n ≤ 3000000 = search few_counted in
+    omega (arith, h)
+
+pub wrong_slice-requires : goal.wrong_slice-requires
+wrong_slice-requires c = search (rules, few_counted)
+
+pub returns-then-wrong_slice : goal.returns-then-wrong_slice
+unfolding stage_checks
+returns-then-wrong_slice c = search (sound_on, stops_told)
+
+pub returns : goal.returns
+unfolding stage_checks
+returns c = search (sound_on, passes_told, ends_sound)
