@@ -182,8 +182,8 @@ fewer_by false x y h = omega (arith, h)
 substeps_few : (p : ℕ) (u : Rotation) (l : List Act) → substeps_of_others p (events_from u l) ≤ turns_asked l
 unfolding turns_asked substeps_of_others events_from event_of unit_after
 substeps_few p u [] = zero-le
-substeps_few p u (joins o j output memory field ∷ l) = substeps_few p _ l
-substeps_few p u (takes_turn i y ∷ l) = fewer_by (not (eqb (turn u y i).place p) && substep_in (turn u y i).call.answer) _ _ (substeps_few p _ l)
+substeps_few p u (joins o j output memory field ∷ l) = substeps_few p (unit_after u (joins o j output memory field)) l
+substeps_few p u (takes_turn i y ∷ l) = fewer_by (not (eqb (turn u y i).place p) && substep_in (turn u y i).call.answer) _ _ (substeps_few p (unit_after u (takes_turn i y)) l)
 
 pub fifteen : FifteenClaim
 fifteen p h l e n =

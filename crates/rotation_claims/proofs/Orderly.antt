@@ -273,7 +273,7 @@ orderly_after h (takes_turn i y) = orderly_turn h y i
 pub orderly_from : {u : Rotation} {f : ℕ → Bool} → Orderly u f → (l : List Act) → Orderly (unit_from u l) (λ p. unfinished_from (f p) p (events_from u l))
 unfolding unit_from events_from unfinished_from
 orderly_from h [] = h
-orderly_from {u} {f} h (a ∷ l) = ordered (orderly_from (orderly_after h a) l) refl (λ p. flag_cons (f p) p (event_of u a) (events_from (unit_after u a) l))
+orderly_from {u} {f} h (a ∷ l) = ordered (orderly_from {u = unit_after u a} {f = λ p. flag_after (f p) p (event_of u a)} (orderly_after h a) l) refl (λ p. flag_cons (f p) p (event_of u a) (events_from (unit_after u a) l))
 
 pub orderly : (h : List Act) → Orderly (left_by h) (unfinished h)
 orderly h = orderly_from orderly_empty h

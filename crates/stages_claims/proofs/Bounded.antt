@@ -1,7 +1,7 @@
 -- The counts of the stages are within their bounds. Assumes nothing.
 use mathlib.Core.Path.{◌≡◌, refl, ◌∙◌}
 use mathlib.Core.List.{List}
-use Prim.Native.Nat.{ℕ, zero, suc, ◌-◌, ◌*◌, ◌≤◌}
+use Prim.Native.Nat.{ℕ, zero, suc, ◌*◌, ◌≤◌}
 use native.Mathlib.Nat.{one-mul, le_of_eq, le_trans}
 use native.Mathlib.Omega.{arith}
 use lib.ListN.{get_or}

@@ -2,16 +2,14 @@
 use Rattle.std.specs.Prelude.{if◌then◌else◌}
 use mathlib.Core.Path.{◌≡◌, refl, sym, ap, ◌∙◌}
 use mathlib.Core.Bool.{Bool, true, false}
-use mathlib.Core.List.{List, ◌++◌}
-use Prim.Native.Nat.{ℕ, zero, suc, ◌+◌, ◌-◌, ◌≤◌}
+use mathlib.Core.List.{List}
+use Prim.Native.Nat.{ℕ, zero, suc}
 use native.Mathlib.Omega.{arith}
 use lib.Dec.{ltb}
-use lib.ListN.{get_or, replicate, length-replicate, replicate-append-replicate}
+use lib.ListN.{get_or}
 use lib.Ieee.{Float, nan}
 use borrow.Author.Tests.{ltb-true, ltb-false}
-use Rattle.lists.specs.Window.{splice}
-use Rattle.lists.proofs.Window.{splice_splice, splice_append, splice_nil}
-use Rattle.doubles.specs.F64.{+0}
+use Rattle.lists.proofs.Window.{splice_nil}
 use Rattle.checks.specs.declared.Checked.{Checked}
 use Rattle.checks.specs.declared.Checked.TheVariants.{Sound, Refused}
 use Rattle.generator_action.specs.Generator.{Generator}

@@ -31,7 +31,7 @@ use Rattle.phi_solver.specs.declared.PhiAnswer.{PhiAnswer}
 use Rattle.phi_solver.specs.declared.PhiAnswer.TheVariants as phi
 use Rattle.schedule_checks.specs.declared.Stage.{Stage}
 use Rattle.schedule_checks.specs.declared.StagedAnswer.{StagedAnswer}
-use Rattle.schedule_checks.specs.declared.StagedAnswer.TheVariants.{Refusal, Staged}
+use Rattle.schedule_checks.specs.declared.StagedAnswer.TheVariants.{Staged}
 use Rattle.schedule_checks.specs.Schedule.{Schedule, stage, stages_of, schedule_checks, further_need, wrong_slice, time_checks_of, stage_checks, Progress, counted}
 use Rattle.schedule_checks.proofs.Checks.{count_known}
 use Rattle.stage_calls.specs.Stages.{stage_step, concluded, begun, staged}
