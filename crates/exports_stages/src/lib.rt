@@ -1,4 +1,6 @@
 // A soak in stages for programs in other languages: straight on slices, with no copy and no memory of its own.
+#![tactic(auto)]
+
 ghost use Rattle.std.specs.Prelude.{◌≡◌};
 ghost use Rattle.combination.specs.Call.{ends};
 ghost use Rattle.general_operator.specs.Csr.{csr};
