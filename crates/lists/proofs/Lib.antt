@@ -9,5 +9,4 @@ pub mod Places
 pub mod Begins
 pub mod Refill
 pub mod Greatest
-pub mod Descent
 pub mod Walk
