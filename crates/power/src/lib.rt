@@ -115,13 +115,13 @@ fn root_bits(t: f64, q: u64) -> u64
     let mut step = 0u64;
     while lo + 1 < hi {
         step = longer(step);
-        if power(f64::from_bits(trial), q) <= t {
+        let up = power(f64::from_bits(trial), q) <= t;
+        if up {
             lo = trial;
-            trial = next_trial(lo, hi, step, true);
         } else {
             hi = trial;
-            trial = next_trial(lo, hi, step, false);
         }
+        trial = next_trial(lo, hi, step, up);
     }
     lo
 }
