@@ -3,7 +3,7 @@ use mathlib.Core.Path.{◌≡◌, refl, sym, ap, ◌∙◌, subst}
 use mathlib.Core.Logic.{inl, inr}
 use mathlib.Core.Bool.{Bool, true, false, cond}
 use Prim.Native.Nat.{ℕ, zero, suc, ◌+◌, ◌*◌, ◌/◌, ◌^◌, ◌≤◌, ◌<◌}
-use native.Mathlib.Nat.{le_antisymm, le_of_eq, lt_of_lt_of_le, lt_of_le_of_lt, mul_assoc, mul-one, zero-mul, mul_comm, mul_left_comm, mul-mul-mul_comm, mul-pos, mul-lt-mul_of_pos_right, mul-div_cancel, add-zero}
+use native.Mathlib.Nat.{le_antisymm, le_of_eq, lt_of_lt_of_le, lt_of_le_of_lt, mul_assoc, mul-one, zero-mul, mul_comm, mul_left_comm, mul-pos, mul-lt-mul_of_pos_right, mul-div_cancel, add-zero}
 use native.Mathlib.Omega.{arith}
 use lib.IntN.{ℤ, pos}
 use lib.Dec.{T, eqb}
@@ -20,7 +20,7 @@ use Rattle.sqrt.specs.Sqrt.{isqrt, nearest_root, sqrt}
 use Rattle.sqrt.proofs.Squares.{square_lt}
 use Rattle.sqrt.proofs.Whole.{isqrt_is}
 use Rattle.sqrt.proofs.Near.{sticky, sticky_low, sticky_high, nearest_root_is}
-use Rattle.sqrt.proofs.Sandwich.{either, in_gap, units_is, root_big}
+use Rattle.sqrt.proofs.Sandwich.{either, square_scaled, in_gap, units_is, root_big}
 
 whole_root : (r n : ℕ) → r * r ≤ n → n < (r + 1) * (r + 1) → r ≡ isqrt n
 whole_root r n lo hi =
@@ -33,15 +33,12 @@ unfolding root_twice sticky
 twice_is n = ap (λ (r : ℕ). 2 * r + cond (eqb (r * r) n) 0 1) (whole_root _ n (whole_part n).0 (whole_part n).1)
 
 -- ---- the root of n times the square of X
-square_scaled : (a X : ℕ) → a * X * (a * X) ≡ a * a * (X * X)
-square_scaled a X = mul-mul-mul_comm a X a X
-
 exact : (n X : ℕ) → isqrt n * isqrt n ≡ n → sticky (n * (X * X)) ≡ 2 * (isqrt n * X)
 unfolding sticky
 exact n X e =
     let r = isqrt n * X in
     let N = n * (X * X) in
-    let same : r * r ≡ N = square_scaled (isqrt n) X ∙ ap (λ (z : ℕ). z * (X * X)) e in
+    let same : r * r ≡ N = sym (square_scaled (isqrt n) X) ∙ ap (λ (z : ℕ). z * (X * X)) e in
     ap (λ (z : ℕ). 2 * z + cond (eqb (z * z) N) 0 1) (sym (whole_root r N (le_of_eq same) (lt_of_le_of_lt (le_of_eq (sym same)) (grows r))))
     ∙ ap (λ b. 2 * r + cond b 0 1) (is_true (eqb (r * r) N) (eq→eqb same))
     ∙ add-zero (2 * r)
@@ -51,10 +48,10 @@ exact n X e =
 
 module _ (n X : ℕ) (h : 0 < X) where
   low : isqrt n * isqrt n < n → 2 * (isqrt n * X) < sticky (n * (X * X))
-  low l = sticky_low (n * (X * X)) (isqrt n * X) (lt_of_le_of_lt (le_of_eq (square_scaled (isqrt n) X)) (mul-lt-mul_of_pos_right l (mul-pos h h)))
+  low l = sticky_low (n * (X * X)) (isqrt n * X) (lt_of_le_of_lt (le_of_eq (sym (square_scaled (isqrt n) X))) (mul-lt-mul_of_pos_right l (mul-pos h h)))
 
   high : sticky (n * (X * X)) < 2 * ((isqrt n + 1) * X)
-  high = sticky_high (n * (X * X)) ((isqrt n + 1) * X) (lt_of_lt_of_le (mul-lt-mul_of_pos_right (isqrt_is n).1 (mul-pos h h)) (le_of_eq (sym (square_scaled (isqrt n + 1) X))))
+  high = sticky_high (n * (X * X)) ((isqrt n + 1) * X) (lt_of_lt_of_le (mul-lt-mul_of_pos_right (isqrt_is n).1 (mul-pos h h)) (le_of_eq (square_scaled (isqrt n + 1) X)))
 
 -- 2 ^ 2272 is both of these
 abbrev places : ℕ

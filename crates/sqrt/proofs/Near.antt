@@ -1,7 +1,7 @@
 -- The double nearest to √n / 2 ^ 1074, from the whole part of the root and whether it is exact. Assumes nothing.
 use mathlib.Core.Path.{◌≡◌, refl, sym, subst}
 use mathlib.Core.Logic.{◌⊎◌, inl, inr}
-use Prim.Native.Nat.{ℕ, ◌+◌, ◌*◌, ◌/◌, ◌^◌, ◌≤◌, ◌<◌}
+use Prim.Native.Nat.{ℕ, ◌+◌, ◌*◌, ◌^◌, ◌≤◌, ◌<◌}
 use native.Mathlib.Nat.{le_of_lt, lt_of_le_of_lt, lt_irrefl, eq-or-lt_of_le}
 use native.Mathlib.Omega.{arith}
 use mathlib.Core.Bool.{Bool, true, false, cond}
@@ -20,13 +20,6 @@ sticky n = 2 * isqrt n + cond (eqb (isqrt n * isqrt n) n) 0 1
 last_le : (b : Bool) → cond b 0 1 ≤ 1
 last_le true = omega arith
 last_le false = omega arith
-
-sticky_half : (n : ℕ) → sticky n / 2 ≡ isqrt n
-unfolding sticky
-sticky_half n = go (isqrt n) (cond (eqb (isqrt n * isqrt n) n) 0 1) (last_le (eqb (isqrt n * isqrt n) n))
-  where
-    go : (s t : ℕ) → t ≤ 1 → (2 * s + t) / 2 ≡ s
-    go s t h = omega arith
 
 pub sticky_high : (n c : ℕ) → n < c * c → sticky n < 2 * c
 unfolding sticky

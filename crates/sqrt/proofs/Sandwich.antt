@@ -119,7 +119,7 @@ square_le a b h = elim (lt_or_le b a) [ inl l ↦ absurd (not-le_of_lt (mul_lt l
     mul_lt : b < a → b * b < a * a
     mul_lt l = lt_of_le_of_lt (mul-le-mul (le_refl b) (le_of_lt l)) (mul-lt-mul_of_pos_right l (lt_of_le_of_lt zero-le l))
 
-square_scaled : (a q : ℕ) → a * a * (q * q) ≡ a * q * (a * q)
+pub square_scaled : (a q : ℕ) → a * a * (q * q) ≡ a * q * (a * q)
 square_scaled a q = mul-mul-mul_comm a a q q
 
 double_over : (p : ℕ) → p * 2 ^ 1075 ≡ 2 * (p * 2 ^ 1074)
