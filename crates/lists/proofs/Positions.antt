@@ -1,0 +1,60 @@
+-- The library's searches over a slice in the words of `find` and `exists`, and its folds as iterations by index. Assumes nothing.
+use mathlib.Core.Bool.{Bool, true, false, true≢false}
+use mathlib.Core.List.{List}
+use mathlib.Core.Path.{◌≡◌, refl, sym, ap, ◌∙◌}
+use Prim.Native.Nat.{ℕ, zero, suc, ◌+◌, ◌-◌, ◌≤◌, ◌<◌}
+use native.Mathlib.Numerals.{add-one}
+use native.Mathlib.Omega.{arith}
+use lib.ListN.{length, get_or, take, drop, length-drop}
+use Rattle.std.proofs.Common.{get_or-drop, take_all}
+use Rattle.std.proofs.lemmas.List.Sums.{fold_more}
+use Rattle.std.specs.List.{fold, slice_range}
+use Rattle.lists.specs.Loop.{iter}
+use native.Mathlib.Nat.{le_refl}
+use Rattle.std.specs.Prelude.{MatchBool}
+use Rattle.lists.specs.Find.{find, exists}
+use Rattle.lists.specs.Positions.{NoneBelow}
+use Rattle.lists.proofs.Find.{Passed, found_at, none_below, exists_at, exists_none}
+
+-- `position`: at its index
+module _ (p : ℕ → Bool) (n : ℕ) {i : ℕ} (h : (i < n) × (p i ≡ true) × NoneBelow p i) where
+  passed : Passed p i
+  passed = record { none = h.2 }
+
+  pub position_found : i ≡ find p n
+  position_found = found_at passed n h.0 h.1
+
+  pub position_exists : true ≡ exists p n
+  position_exists = exists_at passed n h.0 h.1
+
+-- and where it has none
+pub none_exists : (p : ℕ → Bool) (n : ℕ) → NoneBelow p n → false ≡ exists p n
+none_exists p n h = exists_none (record { none = h }) n (le_refl n)
+
+-- `any`
+pub any_exists : (p : ℕ → Bool) (n : ℕ) (b : Bool) → MatchBool b ((k : ℕ) × (k < n) × (p k ≡ true)) (NoneBelow p n) → b ≡ exists p n
+any_exists p n true h = told (exists p n) refl
+  where
+    told : (b : Bool) → exists p n ≡ b → true ≡ b
+    told true e = refl
+    told false e = absurd (true≢false (sym h.2 ∙ none_below p n e h.0 h.1))
+any_exists p n false h = none_exists p n h
+
+-- ---- `fold`: an iteration by index
+module _ {A B : Type 0} (f : B → A → B) (a : B) where
+  fold_front : (xs : List A) (n : ℕ) (d : A) → n ≤ length xs → fold f a (take n xs) ≡ iter (λ k s. f s (get_or xs k d)) n a
+  unfolding iter
+  fold_front xs zero d h = refl
+  fold_front xs (suc n) d h =
+      ap (λ (m : ℕ). fold f a (take m xs)) (sym (add-one n))
+      ∙ fold_more f a xs n d (omega arith)
+      ∙ ap (λ (s : B). f s (get_or xs n d)) (fold_front xs n d (omega arith))
+
+  pub fold_whole : (xs : List A) (d : A) → fold f a xs ≡ iter (λ k s. f s (get_or xs k d)) (length xs) a
+  fold_whole xs d = ap (fold f a) (sym (take_all (length xs) xs (le_refl (length xs)))) ∙ fold_front xs (length xs) d (le_refl (length xs))
+
+  -- over `xs[from..to]`
+  pub fold_range : (xs : List A) (from to : ℕ) (d : A) → from ≤ to → to ≤ length xs → fold f a (slice_range xs from to) ≡ iter (λ k s. f s (get_or xs (from + k) d)) (to - from) a
+  fold_range xs from to d h l =
+      fold_front (drop from xs) (to - from) d (simp length-drop (omega arith))
+      ∙ (λ i. iter (λ k s. f s (get_or-drop from xs k d i)) (to - from) a)
