@@ -1,4 +1,4 @@
-// The checks 7 to 11: the mass, the row sums, the norm and the first row that has it.
+// The checks 7 to 11: the mass, the row sums, the norm and the first row that has it. Rows are gone through by their number, which is part of the answer.
 #![tactic(auto)]
 
 ghost use Rattle.std.specs.Prelude.{◌≡◌, true, cond, List, ℕ, ◌+◌, ◌-◌, ◌≤◌, ◌<◌, length, fold, Float};

@@ -1,4 +1,5 @@
 // Rows of the two matrices of a join: whether their columns rise, how many entries they have together, and whether each sum is finite.
+// Rows are gone through by their number: a row is told by two places of two slices, and windows of both read no plainer.
 #![tactic(auto)]
 
 ghost use Rattle.std.specs.Prelude.{◌≡◌, List, true, ◌+◌, ◌-◌, ◌≤◌, ◌<◌, length, Float, MatchBool};

@@ -1,4 +1,5 @@
 // The weighted columns of a combination: powers of tau, their sum, eta, and what 21 and 22 refuse.
+// The loops are by index: j is the place and tells the vector too, so that an iterator over the places reads no plainer.
 #![tactic(auto)]
 
 ghost use Rattle.std.specs.Prelude.{◌≡◌, List, ◌+◌, ◌*◌, ◌≤◌, length, not, Float};

@@ -1,5 +1,5 @@
 -- `generator_checks::check_mass` meets its contract. Assumes nothing.
-use Rattle.checks.proofs.First.{chain, passes, not_eq, passes_none}
+use Rattle.checks.proofs.First.{chain, passes_none}
 use Rattle.generator_action.specs.Mass.{mass_checks}
 use Rattle.generator_checks.proofs.check_mass.Goals as goal
 
@@ -13,8 +13,8 @@ returns-in-Some c columns entries = search (chain, c.in-Some.ensures)
 
 pub returns-then-starts-ne0 : goal.returns-then-starts-ne0
 unfolding mass_checks
-returns-then-starts-ne0 c columns entries = passes 7 _ _ (not_eq c.if-mass-n.false) (passes_none _ _ _ _ _ c.in_default.ensures (search chain))
+returns-then-starts-ne0 c columns entries = search (chain, passes_none, c.in_default.ensures)
 
 pub returns : goal.returns
 unfolding mass_checks
-returns c columns entries = passes 7 _ _ (not_eq c.if-mass-n.false) (passes_none _ _ _ _ _ c.in_default.ensures (search chain))
+returns c columns entries = search (chain, passes_none, c.in_default.ensures)
