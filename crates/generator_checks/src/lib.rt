@@ -1,12 +1,11 @@
-// The checks 7 to 11: the mass, the row sums, the norm and the first row that has it.
+// The checks 7 to 11: the mass, the row sums, the norm and the first row that has it. Rows are gone through by their number, which is part of the answer.
 #![tactic(auto)]
 
-ghost use Rattle.std.specs.Prelude.{◌≡◌, true, cond, List, ℕ, ◌+◌, ◌-◌, ◌≤◌, ◌<◌, length, Float};
-ghost use Rattle.lists.specs.Find.{find};
-ghost use Rattle.doubles.specs.F64.{◌⊘◌, ◌⋖◌, at, abs};
-ghost use Rattle.doubles.specs.Sum.{sum};
+ghost use Rattle.std.specs.Prelude.{◌≡◌, true, cond, List, ℕ, ◌+◌, ◌-◌, ◌≤◌, ◌<◌, length, fold, Float};
+ghost use Rattle.lists.specs.Positions.{IsPosition};
+ghost use Rattle.doubles.specs.F64.{◌⊕◌, ◌⊘◌, ◌⋖◌, +0, at, abs};
 ghost use Rattle.checks.specs.First.{first};
-ghost use Rattle.general_operator.specs.Csr.{csr, Valid, size_sum};
+ghost use Rattle.general_operator.specs.Csr.{csr, Valid};
 ghost use Rattle.generator_action.specs.Mass.{given, normalise, stored, bad_mass, mass_checks, sum_checks, norm_checks};
 ghost use Rattle.generator_action.specs.Answer.{number, matrix_answer};
 ghost use Rattle.generator_action.specs.Known.{Finite, Dividing, Answered};
@@ -14,25 +13,18 @@ ghost use Rattle.generator_action.specs.Known.{Finite, Dividing, Answered};
 use checks::Checked;
 use generator_action::{Largest, MatrixAnswer};
 
+#[tactic(auto, unfolding(generator_action::specs::Mass::bad_mass))]
 fn is_bad_mass(x: f64) -> bool
     ensures { result ≡ bad_mass x }
 {
-    if float::is_finite(x) {
-        return x <= 0.0;
-    }
-    true
+    !float::is_finite(x) || x <= 0.0
 }
 
-// The first mass that 8 refuses, the length if none is.
-fn first_bad_mass(mass: &[f64]) -> usize
-    ensures { result ≡ find (λ i. bad_mass (at mass.now i)) (length mass.now) }
+// The first mass that 8 refuses.
+fn first_bad_mass(mass: &[f64]) -> Option<usize>
+    ensures { IsPosition (λ i. bad_mass (at mass.now i)) (length mass.now) result }
 {
-    for i in 0..mass.len() {
-        if is_bad_mass(mass[i]) {
-            return i;
-        }
-    }
-    mass.len()
+    mass.iter().position(|m| is_bad_mass(*m))
 }
 
 // 7 to 9, which do not depend on the columns and the entries.
@@ -43,8 +35,7 @@ pub fn check_mass(n: usize, starts: &[u32], mass: &[f64]) -> Checked
     if mass.len() != n {
         return Checked::Refused(7, float::count(mass.len()));
     }
-    let i = first_bad_mass(mass);
-    if i < mass.len() {
+    if let Some(i) = first_bad_mass(mass) {
         return Checked::Refused(8, mass[i]);
     }
     if starts[0] != 0 {
@@ -53,30 +44,18 @@ pub fn check_mass(n: usize, starts: &[u32], mass: &[f64]) -> Checked
     Checked::Sound
 }
 
-// The sum of the sizes of the entries from `from` up to `to`.
-fn size_sum(vals: &[f64], from: usize, to: usize) -> f64
-    requires { (from ≤ to) × (to ≤ length vals.now) }
-    ensures { result ≡ size_sum vals.now from to }
+// The sum of the sizes of a row's entries.
+fn size_sum(row: &[f64]) -> f64
+    ensures { result ≡ fold (λ s x. s ⊕ abs x) +0 row.now }
 {
-    let mut s = 0.0;
-    let count = to - from;
-    for k in 0..count {
-        s = s + float::abs(vals[from + k]);
-    }
-    s
+    row.iter().fold(0.0, |s, x| s + float::abs(*x))
 }
 
 // The same, each entry divided by m.
-fn quotient_sum(vals: &[f64], from: usize, to: usize, m: f64) -> f64
-    requires { (from ≤ to) × (to ≤ length vals.now) }
-    ensures { result ≡ sum (to - from) (λ k. abs (at vals.now (from + k) ⊘ m)) }
+fn quotient_sum(row: &[f64], m: f64) -> f64
+    ensures { result ≡ fold (λ s x. s ⊕ abs (x ⊘ m)) +0 row.now }
 {
-    let mut s = 0.0;
-    let count = to - from;
-    for k in 0..count {
-        s = s + float::abs(vals[from + k] / m);
-    }
-    s
+    row.iter().fold(0.0, |s, x| s + float::abs(*x / m))
 }
 
 // After row i, whose sum is s.
@@ -99,7 +78,7 @@ pub fn entry_norm(n: usize, starts: &[u32], cols: &[u32], vals: &[f64]) -> Matri
     for row in 0..n {
         let from = starts[row] as usize;
         let to = starts[row + 1] as usize;
-        let s = size_sum(vals, from, to);
+        let s = size_sum(&vals[from..to]);
         best = larger(best, s, row);
     }
     if !float::is_finite(best.norm) {
@@ -125,7 +104,7 @@ pub fn quotient_norm(
     for i in 0..n {
         let from = starts[i] as usize;
         let to = starts[i + 1] as usize;
-        let s = quotient_sum(vals, from, to, mass[i]);
+        let s = quotient_sum(&vals[from..to], mass[i]);
         if !float::is_finite(s) {
             return MatrixAnswer::Refusal(10, s);
         }

@@ -8,16 +8,17 @@ pub returns-in_default : goal.returns-in_default
 unfolding matrix_checks
 returns-in_default c = search refused_up
 
-pub check_rows-rows-requires : goal.check_rows-rows-requires
-check_rows-rows-requires c = search shape_rows
-
 pub returns-in_default-rows : goal.returns-in_default-rows
 unfolding matrix_checks
-returns-in_default-rows c = search (sound_on, refused_up)
+returns-in_default-rows c =
+    let rows = rw (shape_rows _ _ _ _ c.in-Sound.is c.check_shape-shape.ensures) at c.check_rows-rows.ensures in
+    search (sound_on, refused_up)
 
 pub check_entries-requires : goal.check_entries-requires
 check_entries-requires c = search shape_paired
 
 pub returns : goal.returns
 unfolding matrix_checks
-returns c = search sound_on
+returns c =
+    let rows = rw (shape_rows _ _ _ _ c.in-Sound.is c.check_shape-shape.ensures) at c.check_rows-rows.ensures in
+    search sound_on
