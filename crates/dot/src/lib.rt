@@ -19,8 +19,8 @@ fn tail(x: &[f64], y: &[f64], b: usize, n: usize) -> f64
     ensures { result ≡ tail b x.now y.now n }
 {
     let mut s = 0.0;
-    for j in 0..n {
-        s = s + term(x, y, b + j);
+    for (u, v) in x[b..b + n].iter().zip(&y[b..b + n]) {
+        s = s + *u * *v;
     }
     s
 }
