@@ -1,4 +1,4 @@
-// axpy, and the inner product of its result with the next vector, in one loop.
+// axpy, and the inner product of its result with the next vector, in one loop. By index: the three are windows of one slice.
 #![tactic(auto)]
 
 ghost use Rattle.std.specs.Prelude.{◌≡◌, ◌+◌, ◌*◌, ◌/◌, ◌<◌, ◌≤◌, length, set};
