@@ -1,6 +1,7 @@
 pub mod Tests
 pub mod Bounds
 pub mod Window
+pub mod Slices
 pub mod Loop
 pub mod Frame
 pub mod Stack
