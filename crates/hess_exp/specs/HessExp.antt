@@ -1,6 +1,6 @@
 -- `hess_exp_e1` (phi_krylov_arnoldi.rs): e ^ (t H) e_1 for the leading mx rows and columns of h, which is stored in columns of dim, row r with
 -- entries from column r - 1 on; by Taylor sweeps on the vector. Definitions only.
-use Rattle.std.specs.Prelude.{List, map, ℕ, ◌+◌, ◌*◌, replicate, set, Float, Option, Some, None}
+use Rattle.std.specs.Prelude.{List, map, ℕ, ◌+◌, replicate, set, Float, Option, Some, None}
 use Rattle.lists.specs.Loop.{iter, zip_with}
 use Rattle.doubles.specs.F64.{◌⊕◌, ◌⊗◌, ◌⊘◌, nat, +0, 1f, at, abs, max_num}
 use Rattle.doubles.specs.Sum.{sum, open_sum}

@@ -1,5 +1,4 @@
 -- `hess_exp::hess_exp_e1` meets its contract. Assumes nothing.
-use borrow.Author.Rules.{rules}
 use Rattle.std.specs.Prelude.{Option, Some, None}
 use native.Mathlib.Omega.{arith}
 use Prim.Native.Nat.{ℕ, ◌≤◌}
