@@ -9,6 +9,8 @@ ghost use Rattle.hess_exp.specs.HessExp.{column_sum_norm, term_step, hess_sweep,
 ghost use Rattle.hess_exp.specs.Parts.{column_sum, terms, small_of};
 ghost use Rattle.hess_rows.specs.Parts.{Leading};
 
+use expmv::Row;
+
 // Whether there was a plan; its argument; and where there was one, the column in the first places.
 #[derive(Drop)]
 pub struct SmallExp {
@@ -122,7 +124,7 @@ pub fn hess_exp_e1(h: &[f64], dim: usize, mx: usize, t: f64) -> SmallExp
     let mut w = [0.0; 130];
     let arg = t * column_sum_norm(h, dim, mx);
     let plan = expmv::select_s_m(expmv::M_MAX, arg);
-    let expmv::Selected::Row(s, deg) = plan else {
+    let Some(Row { s, m }) = plan else {
         return SmallExp {
             planned: false,
             argument: arg,
@@ -131,7 +133,7 @@ pub fn hess_exp_e1(h: &[f64], dim: usize, mx: usize, t: f64) -> SmallExp
     };
     y[0] = 1.0;
     let ts = t / float::count(s as usize);
-    hess_sweeps_in(h, dim, mx, ts, deg as usize, s as usize, &mut y, &mut w);
+    hess_sweeps_in(h, dim, mx, ts, m as usize, s as usize, &mut y, &mut w);
     SmallExp {
         planned: true,
         argument: arg,

@@ -12,3 +12,4 @@ pub mod Begins
 pub mod Refill
 pub mod Greatest
 pub mod Walk
+pub mod Ranges

@@ -15,7 +15,7 @@ ghost use Rattle.taylor_schedule.specs.Inner.{Coupled, matrix_of};
 ghost use Rattle.taylor_job.specs.Inner.{layout, plan_by, operator_by, job_end, Allowed};
 ghost use Rattle.taylor_job.specs.Calls.{report, swept_fields};
 
-use csr_shift::Shift;
+use csr_shift::Shifted;
 use phi_action_helpers::{Layout, SweepArgs, SweepPlan};
 use taylor_schedule::Job;
 
@@ -57,7 +57,7 @@ pub fn shift_at(
     work: &[f64],
     l: Layout,
     norm: f64,
-) -> Shift
+) -> Option<Shifted>
     requires valid { Valid (matrix_at l starts.now cols.now vals.now work.now) }
     requires vals_in_bounds { l.mass ≡ true → l.q + length vals.now ≤ length work.now }
     ensures { result ≡ negated_csr_shift (matrix_at l starts.now cols.now vals.now work.now) norm }
@@ -89,7 +89,7 @@ pub fn prepare(
     let q = l.q;
     stored_quotients::store_quotients(g.n, starts, cols, vals, g.with_mass, mass, work, q);
     let shift = shift_at(starts, cols, vals, work, l, g.norm);
-    phi_shift::with_shift(j.cap, j.tau, j.s, j.m, shift)
+    phi_shift::with_shift(j.cap, j.tau, j.row, shift)
 }
 
 // The sweeps, and their n values from `place` of the output on.
