@@ -7,10 +7,10 @@ use native.Mathlib.Omega.{arith}
 use lib.ListN.{length}
 use lib.Ieee.{Float}
 use borrow.Author.Tests.{lt-ltb, le-ltb}
+use Rattle.std.specs.Prelude.{Option, Some, None}
 use Rattle.lists.proofs.Bounds.{product_within, lt_or_le}
+use Rattle.pow2.specs.declared.Scale.{Scale}
 use Rattle.pow2.specs.Pow2.{pow2_scale}
-use Rattle.pow2.specs.declared.Prescale.{Prescale}
-use Rattle.pow2.specs.declared.Prescale.TheVariants.{By, None}
 use Rattle.phi_action_helpers.specs.Augmented.{Augmented}
 use Rattle.krylov_advance.specs.Run.{clamp_m, expv_by, expv}
 
@@ -59,9 +59,9 @@ pub expv_clamped : (b : Augmented) (tau anorm tol : Float) (m limit : ℕ) (y : 
 unfolding expv expv_by
 expv_clamped b tau anorm tol m limit y = go (pow2_scale y)
   where
-    go : (s : Prescale) → expv_by b tau anorm tol (clamp_m m (length y)) limit y s ≡ expv_by b tau anorm tol m limit y s
+    go : (s : Option Scale) → expv_by b tau anorm tol (clamp_m m (length y)) limit y s ≡ expv_by b tau anorm tol m limit y s
     go None = refl
-    go (By f) = rw (clamp_twice m (length y)) refl
+    go (Some f) = rw (clamp_twice m (length y)) refl
 
 -- ---- the places are numbers of a machine
 pub record Within (n d m : ℕ) : Type 0 where

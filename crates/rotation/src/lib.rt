@@ -65,14 +65,7 @@ pub fn empty() -> Rotation
 fn count_in(queue: [usize; 16]) -> usize
     ensures { result ≡ count_of queue }
 {
-    let mut k = 0;
-    while k < 16 {
-        if queue[k] >= 16 {
-            return k;
-        }
-        k += 1;
-    }
-    16
+    queue.iter().position(|p| *p >= 16).unwrap_or(16)
 }
 
 // The place whose turn is next, 16 if no run waits.
@@ -100,15 +93,7 @@ pub fn run_at(unit: Rotation, p: usize) -> PausedRun
 fn lowest_free(unit: Rotation) -> usize
     ensures { result ≡ lowest_free unit }
 {
-    let mut p = 0;
-    while p < 16 {
-        let run = unit.places[p];
-        if run.ended {
-            return p;
-        }
-        p += 1;
-    }
-    16
+    unit.places.iter().position(|run| run.ended).unwrap_or(16)
 }
 
 // Whether one more run can be taken.
@@ -124,13 +109,10 @@ fn shifted(queue: [usize; 16], from: usize, to: usize, last: usize) -> [usize; 1
     requires { (from ≤ to) × (to ≤ 16) × (to - from < 16) }
     ensures { result ≡ shifted queue from to last }
 {
+    let n = to - from;
     let mut moved = [16; 16];
-    let mut k = from;
-    while k < to {
-        moved[k - from] = queue[k];
-        k += 1;
-    }
-    moved[to - from] = last;
+    moved[..n].copy_from_slice(&queue[from..to]);
+    moved[n] = last;
     moved
 }
 
@@ -145,16 +127,13 @@ pub fn seated(unit: Rotation, run: PausedRun) -> Seat
         places[p] = run;
         return Seat {
             unit: Rotation {
-                places: places,
+                places,
                 queue: shifted(queue, 0, count_in(queue), p),
             },
             place: p,
         };
     }
-    Seat {
-        unit: unit,
-        place: 16,
-    }
+    Seat { unit, place: 16 }
 }
 
 // What a place whose turn is over puts at the end: 16 where its run has ended.
@@ -180,7 +159,7 @@ pub fn passed_on(unit: Rotation, run: PausedRun) -> Rotation
     let mut places = unit.places;
     places[p] = run;
     Rotation {
-        places: places,
+        places,
         queue: shifted(queue, 1, k, end_of(p, run.ended)),
     }
 }

@@ -1,5 +1,5 @@
 -- A start with a chain is not all zeros, since 1 / eta stands at its end. Assumes nothing.
-use Rattle.std.specs.Prelude.{if◌then◌else◌}
+use Rattle.std.specs.Prelude.{if◌then◌else◌, Option, Some, None}
 use mathlib.Core.Path.{◌≡◌, refl, sym, ap, ◌∙◌}
 use mathlib.Core.Bool.{Bool, true, false, ◌&&◌}
 use mathlib.Core.List.{List, [], ◌∷◌, ◌++◌, append_assoc}
@@ -20,8 +20,6 @@ use Rattle.doubles.proofs.Compare.{zero_below, zero_cases}
 use Rattle.doubles.proofs.Extremes.{nonneg_max}
 use Rattle.pow2.specs.Pow2.{clamp, ceil_log2, eta_of, eta_scaling, sup, pow2_scale}
 use Rattle.pow2.specs.declared.Scale.{Scale}
-use Rattle.pow2.specs.declared.Prescale.{Prescale}
-use Rattle.pow2.specs.declared.Prescale.TheVariants.{By, None}
 use Rattle.combination.specs.Combination.{vector, combination_start}
 use Rattle.rotation_joins.specs.Inner.{by_power}
 
@@ -74,7 +72,7 @@ power_of : (y : List Float) → (IsZero (sup y) → ⊥) → true ≡ by_power (
 unfolding pow2_scale
 power_of y h = go (eq (sup y) +0) _ h
   where
-    go : (b : Bool) (s : Scale) → (b ≡ true → ⊥) → true ≡ by_power (if b then None else By s)
+    go : (b : Bool) (s : Scale) → (b ≡ true → ⊥) → true ≡ by_power (if b then None else Some s)
     go true s h = absurd (h refl)
     go false s h = refl
 
@@ -106,5 +104,5 @@ unfolding combination_start vector
 no_chain n w zero inv h l = sym (ap (λ (k : ℕ). window k n w) (zero-mul n) ∙ window_whole n w l)
 no_chain n w (suc d) inv h l = absurd (omega (arith, h))
 
-pub starts_on : (n : ℕ) (w : List Float) (d : ℕ) (inv : Float) {b : Bool} {p : Prescale} → d ≡ 0 → length w ≡ n → p ≡ pow2_scale w → by_power p ≡ b → b ≡ by_power (pow2_scale (combination_start n w d inv))
+pub starts_on : (n : ℕ) (w : List Float) (d : ℕ) (inv : Float) {b : Bool} {p : Option Scale} → d ≡ 0 → length w ≡ n → p ≡ pow2_scale w → by_power p ≡ b → b ≡ by_power (pow2_scale (combination_start n w d inv))
 starts_on n w d inv h l ep eb = sym eb ∙ ap by_power (ep ∙ ap pow2_scale (no_chain n w d inv h l))

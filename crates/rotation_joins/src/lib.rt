@@ -17,9 +17,8 @@ ghost use Rattle.rotation_joins.specs.Inner.{by_power, full_answer, admitted_of}
 
 use checks::Checked;
 use generator_action::{MatrixAnswer, Shape};
-use krylov_job::{Eta, KrylovPhiOptions};
+use krylov_job::KrylovPhiOptions;
 use paused_run::StartAnswer;
-use pow2::Prescale;
 use rotation::Rotation;
 
 // The unit after a join, the place taken (16: none) and the start's answer.
@@ -35,14 +34,7 @@ fn goes_on(n: usize, w: &[f64], d: usize) -> bool
     requires { d ≡ 0 → length w.now ≡ n }
     ensures { (sum : Float) → result ≡ by_power (pow2_scale (combination_start n w.now d (eta_scaling sum).inv)) }
 {
-    if d != 0 {
-        return true;
-    }
-    let scaling = pow2::pow2_scale(w);
-    match scaling {
-        Prescale::None => false,
-        Prescale::By(_) => true,
-    }
+    d != 0 || pow2::pow2_scale(w).is_some()
 }
 
 // How a unit without room refuses a job over a generator that passed its checks, nothing being written.
@@ -59,8 +51,8 @@ fn refused_job(
     requires { (g.n ≤ 1000000) × (g.stored ≤ 16777216) }
     ensures { (gs : List Check) (starts cols : List ℕ) (vals mass output memory lent : List Float) → Sound ≡ first gs → Passed (csr g.n starts cols vals) (given g.with_mass mass) g → length output ≡ out → length memory ≡ work → length lent ≡ field → result ≡ full_answer (start o (job_over gs g starts cols vals mass tau count w.now) output memory lent).answer }
 {
-    let none = Checked::Sound;
-    let j = krylov_job::admit_job(g, tau, count, w, Eta::Own, o, out, none, work);
+    let others = Checked::Sound;
+    let j = krylov_job::admit_job(g, tau, count, w, None, o, out, others, work);
     let job = j.checked;
     let Checked::Sound = job else {
         return Checked::Refused(checks::number(job), checks::reported(job));
@@ -113,16 +105,16 @@ fn admitted(unit: Rotation, answer: StartAnswer) -> Joined
 {
     match answer {
         StartAnswer::Refusal(_, _) => Joined {
-            unit: unit,
+            unit,
             place: 16,
-            answer: answer,
+            answer,
         },
         StartAnswer::Started(run) => {
             if run.ended {
                 return Joined {
-                    unit: unit,
+                    unit,
                     place: 16,
-                    answer: answer,
+                    answer,
                 };
             }
             let seat = rotation::seated(unit, run);
@@ -130,7 +122,7 @@ fn admitted(unit: Rotation, answer: StartAnswer) -> Joined
             Joined {
                 unit: left,
                 place: seat.place,
-                answer: answer,
+                answer,
             }
         }
     }
@@ -173,7 +165,7 @@ pub fn join(
     );
     let Checked::Sound = full else {
         return Joined {
-            unit: unit,
+            unit,
             place: 16,
             answer: StartAnswer::Refusal(checks::number(full), checks::reported(full)),
         };

@@ -25,13 +25,13 @@ returns-in-None c =
     let p = sym (c.pow2_scale-scale.ensures ∙ ap pow2_scale (part_window a.k.y (a.l.n + a.l.d) a.work.now)) ∙ c.in-None.is in
     record { work_after = rw p refl; kept = kept_all _ _ _ _ }
 
-pub shape_of-work-in-By : goal.shape_of-work-in-By
-shape_of-work-in-By c = c.scaled_run.ensures.kept.long
+pub shape_of-work-in-Some : goal.shape_of-work-in-Some
+shape_of-work-in-Some c = c.scaled_run.ensures.kept.long
 
-pub returns-in-By : goal.returns-in-By
+pub returns-in-Some : goal.returns-in-Some
 unfolding expv
-returns-in-By c =
+returns-in-Some c =
     let r = c.scaled_run.ensures in
     let a = c.args in
-    let p = sym (c.pow2_scale-scale.ensures ∙ ap pow2_scale (part_window a.k.y (a.l.n + a.l.d) a.work.now)) ∙ c.in-By.is in
+    let p = sym (c.pow2_scale-scale.ensures ∙ ap pow2_scale (part_window a.k.y (a.l.n + a.l.d) a.work.now)) ∙ c.in-Some.is in
     record { work_after = rw p r.work_after; kept = r.kept }

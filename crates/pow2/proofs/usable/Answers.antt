@@ -3,13 +3,10 @@ use mathlib.Core.Path.{sym, ◌∙◌}
 use Rattle.pow2.specs.Pow2.{usable}
 use Rattle.pow2.proofs.usable.Goals as goal
 
-pub is_finite-requires : goal.is_finite-requires
-is_finite-requires c = tt
-
 pub returns-then-is_finite : goal.returns-then-is_finite
 unfolding usable
 returns-then-is_finite c = rw (sym c.is_finite.ensures ∙ c.if-is_finite.true)
 
-pub returns : goal.returns
+pub returns-else-is_finite : goal.returns-else-is_finite
 unfolding usable
-returns c = rw (sym c.is_finite.ensures ∙ c.if-is_finite.false)
+returns-else-is_finite c = rw (c.if-is_finite.false, sym c.is_finite.ensures ∙ c.if-is_finite.false)
