@@ -245,10 +245,7 @@ pub fn hazhendu_krylov_start(
 pub fn tolerance(with_tol: bool, tol: f64) -> Option<f64>
     ensures { result ≡ tolerance with_tol tol }
 {
-    if with_tol {
-        return Tolerance::New(tol);
-    }
-    Tolerance::Same
+    with_tol.then_some(tol)
 }
 
 // `paused_step::step`, told by `step_state`.

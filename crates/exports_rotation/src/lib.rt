@@ -38,12 +38,9 @@ fn held_places(numbers: &[f64], counts: &[usize]) -> [PausedRun; 16]
     requires { (length numbers.now ≡ 160) × (length counts.now ≡ 144) }
     ensures { result ≡ tabulate 16 (λ p. held (window (10 * p) 10 numbers.now) (window (8 * p) 8 counts.now)) }
 {
-    let run = rotation::vacant();
-    let mut places = [run; 16];
-    let mut p = 0;
-    while p < 16 {
-        places[p] = held_at(numbers, counts, p);
-        p += 1;
+    let mut places = [rotation::vacant(); 16];
+    for (p, place) in places.iter_mut().enumerate() {
+        *place = held_at(numbers, counts, p);
     }
     places
 }
@@ -53,11 +50,7 @@ fn held_queue(counts: &[usize]) -> [usize; 16]
     ensures { result ≡ window 128 16 counts.now }
 {
     let mut queue = [16; 16];
-    let mut k = 0;
-    while k < 16 {
-        queue[k] = counts[128 + k];
-        k += 1;
-    }
+    queue.copy_from_slice(&counts[128..144]);
     queue
 }
 
@@ -92,9 +85,8 @@ fn unread() -> PausedRun
 fn no_unit() -> Rotation
     ensures { result ≡ no_unit }
 {
-    let run = unread();
     Rotation {
-        places: [run; 16],
+        places: [unread(); 16],
         queue: [16; 16],
     }
 }
@@ -126,11 +118,8 @@ fn write_places(unit: Rotation, numbers: &mut [f64], counts: &mut [usize])
     ensures numbers_after { numbers.new ≡ unit_numbers unit }
     ensures counts_after { counts.new ≡ splice 0 (stack 16 (λ p. counts_of (run_at unit p))) counts.old }
 {
-    let mut p = 0;
-    while p < 16 {
-        let run = unit.places[p];
-        write_at(run, p, numbers, counts);
-        p += 1;
+    for (p, run) in unit.places.iter().enumerate() {
+        write_at(*run, p, numbers, counts);
     }
 }
 
@@ -138,11 +127,7 @@ fn write_queue(queue: [usize; 16], counts: &mut [usize])
     requires { length counts.old ≡ 144 }
     ensures { counts.new ≡ splice 128 (tabulate 16 (λ k. get_or queue k 0)) counts.old }
 {
-    let mut k = 0;
-    while k < 16 {
-        counts[128 + k] = queue[k];
-        k += 1;
-    }
+    counts[128..144].copy_from_slice(&queue);
 }
 
 // A unit that took a run or had a turn, to slices that fit it.
@@ -150,12 +135,9 @@ fn keep_unit(unit: Rotation, place: usize, numbers: &mut [f64], counts: &mut [us
     ensures numbers_after { numbers.new ≡ kept_or (ltb place 16 && unit_fits numbers.old counts.old) (unit_numbers unit) numbers.old }
     ensures counts_after { counts.new ≡ kept_or (ltb place 16 && unit_fits numbers.old counts.old) (unit_counts unit) counts.old }
 {
-    if place < 16 {
-        if unit_fits(numbers, counts) {
-            let queue = unit.queue;
-            write_places(unit, numbers, counts);
-            write_queue(queue, counts);
-        }
+    if place < 16 && unit_fits(numbers, counts) {
+        write_places(unit, numbers, counts);
+        write_queue(unit.queue, counts);
     }
 }
 
@@ -178,9 +160,8 @@ pub extern "C" fn hazhendu_rotation_next(queues: &[usize]) -> usize
     ensures { result ≡ next_told queues.now }
 {
     if queues.len() == 144 {
-        let run = rotation::vacant();
         let unit = Rotation {
-            places: [run; 16],
+            places: [rotation::vacant(); 16],
             queue: held_queue(queues),
         };
         return rotation::next_place(unit);
@@ -234,11 +215,9 @@ pub extern "C" fn hazhendu_rotation_join(
         work,
         &mut field[0..to],
     );
-    let left = joined.unit;
-    let answer = joined.answer;
     *place = joined.place;
-    keep_unit(left, joined.place, units, queues);
-    exports_paused::start_state(answer, numbers, counts, value)
+    keep_unit(joined.unit, joined.place, units, queues);
+    exports_paused::start_state(joined.answer, numbers, counts, value)
 }
 
 // `rotation_turns::turn`, told by `exports_paused::step_state`; `place` is the place whose turn it was, 16 if none.
@@ -272,9 +251,7 @@ pub extern "C" fn hazhendu_rotation_turn(
     let turned = rotation_turns::turn(
         unit, t, n, starts, cols, vals, with_mass, mass, tau, count, w, out, work, field,
     );
-    let left = turned.unit;
-    let answer = turned.answer;
     *place = turned.place;
-    keep_unit(left, turned.place, units, queues);
-    exports_paused::step_state(answer, numbers, counts, value)
+    keep_unit(turned.unit, turned.place, units, queues);
+    exports_paused::step_state(turned.answer, numbers, counts, value)
 }

@@ -109,6 +109,7 @@ pub fn options_in(run: PausedRun, tol: f64) -> KrylovPhiOptions
 }
 
 // 31: ended, or with counts that no unfinished run has.
+#[tactic(auto, unfolding(crate::specs::Paused::over))]
 pub fn over(run: PausedRun) -> bool
     ensures { result ≡ over run }
 {

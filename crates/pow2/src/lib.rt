@@ -92,6 +92,7 @@ fn pow2_f64(k: i32) -> f64
     exact_pow2(half) * exact_pow2(k - half)
 }
 
+#[tactic(auto, unfolding(crate::specs::Pow2::usable))]
 fn usable(x: f64) -> bool
     ensures { result ≡ usable x }
 {

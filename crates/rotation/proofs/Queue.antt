@@ -1,17 +1,19 @@
 -- The queue as the code moves it, and what waits in it. Assumes nothing.
 use mathlib.Core.Path.{◌≡◌, refl, sym, ap, ◌∙◌, subst}
-use mathlib.Core.Bool.{Bool, true, false, ◌&&◌}
+use mathlib.Core.Logic.{inl, inr}
+use mathlib.Core.Bool.{Bool, true, false, ◌&&◌, true≢false}
 use mathlib.Core.List.{List, [], ◌∷◌, ◌++◌, append_assoc, append-nil}
-use Prim.Native.Nat.{ℕ, zero, suc, ◌+◌, ◌-◌, ◌≤◌, ◌<◌}
+use Prim.Native.Nat.{ℕ, zero, suc, ◌+◌, ◌-◌, ◌≤◌, ◌<◌, min}
 use native.Mathlib.Omega.{arith}
 use native.Mathlib.Nat.{zero-add}
 use lib.Dec.{ltb, leb}
 use lib.ListN.{length, length-append, get_or, set, drop, replicate}
-use borrow.Author.Tests.{ltb-true, leb-false}
+use borrow.Author.Tests.{ltb-true, leb-false, le-leb, lt-leb}
 use Rattle.lists.specs.Loop.{tabulate}
 use Rattle.lists.specs.Window.{splice}
 use Rattle.lists.proofs.Tests.{and_both}
-use Rattle.lists.proofs.Find.{find_le, find_before}
+use Rattle.lists.proofs.Bounds.{lt_or_le}
+use Rattle.lists.proofs.Find.{passed_start, found_at, find_le, find_before, find_holds}
 use Rattle.lists.proofs.Loop.{Filled, started, turned₀, length_tabulate, tabulate_ext}
 use Rattle.lists.proofs.Window.{splice_snoc, splice_parts}
 use Rattle.paused_run.specs.declared.PausedRun.{PausedRun}
@@ -116,13 +118,24 @@ module _ (u : Rotation) where
       go zero h = absurd (h refl)
       go (suc k) h = omega arith
 
-  pub next_none : count_of u.queue ≡ 0 → 16 ≡ next_place u
+  next_none : count_of u.queue ≡ 0 → 16 ≡ next_place u
   unfolding next_place
   next_none e = rw (waits_none e) refl
 
-  pub next_some : (count_of u.queue ≡ 0 → ⊥) → at_place 0 ≡ next_place u
+  next_some : (count_of u.queue ≡ 0 → ⊥) → at_place 0 ≡ next_place u
   unfolding next_place
   next_some h = rw (waits_some h) refl
+
+  pub next_is : min (at_place 0) 16 ≡ next_place u
+  next_is = elim (lt_or_le (at_place 0) 16) [
+    | inl l ↦ (let e : min (at_place 0) 16 ≡ at_place 0 = omega (arith, l) in e ∙ next_some (λ z. some l z))
+    | inr l ↦ (let e : min (at_place 0) 16 ≡ 16 = omega (arith, l) in e ∙ next_none (sym (found_at (passed_start (λ k. leb 16 (at_place k))) 16 (omega arith) (le-leb _ _ l))))
+  ]
+    where
+      some : at_place 0 < 16 → count_of u.queue ≡ 0 → ⊥
+      some l z =
+          let here = find_holds (λ k. leb 16 (at_place k)) 16 (omega (arith, z)) in
+          true≢false (sym (rw z at here) ∙ lt-leb 16 (at_place 0) l)
 
   -- a run goes behind those that wait
   pub behind_all : (k p : ℕ) → k ≡ count_of u.queue → shifted u.queue 0 k p ≡ queue_of (waiting u ++ (p ∷ []))

@@ -54,9 +54,8 @@ pub fn vacant() -> PausedRun
 pub fn empty() -> Rotation
     ensures { result ≡ empty }
 {
-    let run = vacant();
     Rotation {
-        places: [run; 16],
+        places: [vacant(); 16],
         queue: [16; 16],
     }
 }
@@ -72,11 +71,7 @@ fn count_in(queue: [usize; 16]) -> usize
 pub fn next_place(unit: Rotation) -> usize
     ensures { result ≡ next_place unit }
 {
-    let queue = unit.queue;
-    if count_in(queue) == 0 {
-        return 16;
-    }
-    queue[0]
+    unit.queue[0].min(16)
 }
 
 // The run in a place; beyond the last that of a place never taken.
@@ -100,8 +95,7 @@ fn lowest_free(unit: Rotation) -> usize
 pub fn room(unit: Rotation) -> bool
     ensures { result ≡ room unit }
 {
-    let queue = unit.queue;
-    lowest_free(unit) < 16 && count_in(queue) < 16
+    lowest_free(unit) < 16 && count_in(unit.queue) < 16
 }
 
 // A queue's numbers in `from..to`, then `last` (16: none), then none.
@@ -122,13 +116,12 @@ pub fn seated(unit: Rotation, run: PausedRun) -> Seat
 {
     if room(unit) {
         let p = lowest_free(unit);
-        let queue = unit.queue;
         let mut places = unit.places;
         places[p] = run;
         return Seat {
             unit: Rotation {
                 places,
-                queue: shifted(queue, 0, count_in(queue), p),
+                queue: shifted(unit.queue, 0, count_in(unit.queue), p),
             },
             place: p,
         };
@@ -150,16 +143,15 @@ fn end_of(p: usize, ended: bool) -> usize
 pub fn passed_on(unit: Rotation, run: PausedRun) -> Rotation
     ensures { result ≡ passed_of unit (waiting unit) run }
 {
-    let queue = unit.queue;
-    let k = count_in(queue);
+    let k = count_in(unit.queue);
     if k == 0 {
         return unit;
     }
-    let p = queue[0];
+    let p = unit.queue[0];
     let mut places = unit.places;
     places[p] = run;
     Rotation {
         places,
-        queue: shifted(queue, 1, k, end_of(p, run.ended)),
+        queue: shifted(unit.queue, 1, k, end_of(p, run.ended)),
     }
 }

@@ -1,7 +1,7 @@
 // A new run on a unit.
 #![tactic(auto)]
 
-ghost use Rattle.std.specs.Prelude.{◌≡◌, List, ℕ, ◌≤◌, length, Float, if◌then◌else◌};
+ghost use Rattle.std.specs.Prelude.{◌≡◌, List, ℕ, ◌≤◌, length, is_some, Float, if◌then◌else◌};
 ghost use Rattle.pow2.specs.Pow2.{eta_scaling, pow2_scale};
 ghost use Rattle.checks.specs.First.{Check, first};
 ghost use Rattle.checks.specs.declared.Checked.TheVariants.{Sound};
@@ -13,7 +13,7 @@ ghost use Rattle.combination.specs.Combination.{combination_start};
 ghost use Rattle.paused_run.specs.Paused.{leaves, start};
 ghost use Rattle.paused_run.specs.Inner.{job_over};
 ghost use Rattle.rotation.specs.Unit.{room, unit_call, join};
-ghost use Rattle.rotation_joins.specs.Inner.{by_power, full_answer, admitted_of};
+ghost use Rattle.rotation_joins.specs.Inner.{full_answer, admitted_of};
 
 use checks::Checked;
 use generator_action::{MatrixAnswer, Shape};
@@ -32,7 +32,7 @@ pub struct Joined {
 // Whether the n + d values of a start are not all zeros: 1 / eta stands at the end of a chain.
 fn goes_on(n: usize, w: &[f64], d: usize) -> bool
     requires { d ≡ 0 → length w.now ≡ n }
-    ensures { (sum : Float) → result ≡ by_power (pow2_scale (combination_start n w.now d (eta_scaling sum).inv)) }
+    ensures { (sum : Float) → result ≡ is_some (pow2_scale (combination_start n w.now d (eta_scaling sum).inv)) }
 {
     d != 0 || pow2::pow2_scale(w).is_some()
 }
