@@ -5,6 +5,7 @@ pub mod Loop
 pub mod Frame
 pub mod Stack
 pub mod Find
+pub mod Firsts
 pub mod Places
 pub mod Begins
 pub mod Refill

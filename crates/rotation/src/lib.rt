@@ -1,7 +1,8 @@
 // Up to sixteen paused runs on one unit, in rotation, one substep at a time: the places and the queue.
 #![tactic(auto)]
 
-ghost use Rattle.std.specs.Prelude.{◌≡◌, ◌-◌, ◌≤◌, ◌<◌};
+ghost use Rattle.std.specs.Prelude.{◌≡◌, ◌-◌, ◌≤◌, ◌<◌, leb, position};
+ghost use Rattle.paused_run.specs.declared.PausedRun.{PausedRun};
 ghost use Rattle.rotation.specs.Unit.{vacant, empty, waiting, next_place, lowest_free, room};
 ghost use Rattle.rotation.specs.Inner.{count_of, shifted, run_in_place, seat_of, end_of, passed_of};
 
@@ -60,11 +61,18 @@ pub fn empty() -> Rotation
     }
 }
 
+// The first number in a queue that is no place.
+fn queue_end(queue: &[usize]) -> Option<usize>
+    ensures { result ≡ position (λ p. leb 16 p) queue.now }
+{
+    queue.iter().position(|p| *p >= 16)
+}
+
 // How many places wait.
 fn count_in(queue: [usize; 16]) -> usize
     ensures { result ≡ count_of queue }
 {
-    queue.iter().position(|p| *p >= 16).unwrap_or(16)
+    queue_end(&queue).unwrap_or(16)
 }
 
 // The place whose turn is next, 16 if no run waits.
@@ -84,11 +92,18 @@ pub fn run_at(unit: Rotation, p: usize) -> PausedRun
     vacant()
 }
 
+// The first run that has ended.
+fn first_ended(runs: &[PausedRun]) -> Option<usize>
+    ensures { result ≡ position (λ (run : PausedRun). run.ended) runs.now }
+{
+    runs.iter().position(|run| run.ended)
+}
+
 // The lowest place whose run has ended, 16 if there is none.
 fn lowest_free(unit: Rotation) -> usize
     ensures { result ≡ lowest_free unit }
 {
-    unit.places.iter().position(|run| run.ended).unwrap_or(16)
+    first_ended(&unit.places).unwrap_or(16)
 }
 
 // Whether one more run can be taken.
