@@ -1,5 +1,6 @@
 -- `rotation_joins::goes_on` meets its contract. Assumes nothing.
 use mathlib.Core.Path.{ap, ◌∙◌}
+use borrow.Author.Tests.{ne_eqb}
 use Rattle.std.specs.Prelude.{is_some}
 use Rattle.rotation_joins.proofs.Chain.{chain_on, starts_on}
 use Rattle.rotation_joins.proofs.goes_on.Goals as goal
@@ -7,7 +8,7 @@ use Rattle.rotation_joins.proofs.goes_on.Goals as goal
 pub returns-then-d-ne0 : goal.returns-then-d-ne0
 returns-then-d-ne0 c sum =
     let a = c.args in
-    chain_on a.n a.w.now a.d c.if-d-ne0.true sum
+    rw (ne_eqb _ _ c.if-d-ne0.true) (chain_on a.n a.w.now a.d c.if-d-ne0.true sum)
 
 pub returns-else-d-ne0 : goal.returns-else-d-ne0
 returns-else-d-ne0 c sum =
