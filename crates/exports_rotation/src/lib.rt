@@ -38,9 +38,12 @@ fn held_places(numbers: &[f64], counts: &[usize]) -> [PausedRun; 16]
     requires { (length numbers.now ≡ 160) × (length counts.now ≡ 144) }
     ensures { result ≡ tabulate 16 (λ p. held (window (10 * p) 10 numbers.now) (window (8 * p) 8 counts.now)) }
 {
-    let mut places = [rotation::vacant(); 16];
-    for (p, place) in places.iter_mut().enumerate() {
-        *place = held_at(numbers, counts, p);
+    let run = rotation::vacant();
+    let mut places = [run; 16];
+    let mut p = 0;
+    while p < 16 {
+        places[p] = held_at(numbers, counts, p);
+        p += 1;
     }
     places
 }
@@ -50,7 +53,11 @@ fn held_queue(counts: &[usize]) -> [usize; 16]
     ensures { result ≡ window 128 16 counts.now }
 {
     let mut queue = [16; 16];
-    queue.copy_from_slice(&counts[128..144]);
+    let mut k = 0;
+    while k < 16 {
+        queue[k] = counts[128 + k];
+        k += 1;
+    }
     queue
 }
 
@@ -85,8 +92,9 @@ fn unread() -> PausedRun
 fn no_unit() -> Rotation
     ensures { result ≡ no_unit }
 {
+    let run = unread();
     Rotation {
-        places: [unread(); 16],
+        places: [run; 16],
         queue: [16; 16],
     }
 }
@@ -118,8 +126,11 @@ fn write_places(unit: Rotation, numbers: &mut [f64], counts: &mut [usize])
     ensures numbers_after { numbers.new ≡ unit_numbers unit }
     ensures counts_after { counts.new ≡ splice 0 (stack 16 (λ p. counts_of (run_at unit p))) counts.old }
 {
-    for (p, run) in unit.places.iter().enumerate() {
-        write_at(*run, p, numbers, counts);
+    let mut p = 0;
+    while p < 16 {
+        let run = unit.places[p];
+        write_at(run, p, numbers, counts);
+        p += 1;
     }
 }
 
@@ -127,7 +138,11 @@ fn write_queue(queue: [usize; 16], counts: &mut [usize])
     requires { length counts.old ≡ 144 }
     ensures { counts.new ≡ splice 128 (tabulate 16 (λ k. get_or queue k 0)) counts.old }
 {
-    counts[128..144].copy_from_slice(&queue);
+    let mut k = 0;
+    while k < 16 {
+        counts[128 + k] = queue[k];
+        k += 1;
+    }
 }
 
 // A unit that took a run or had a turn, to slices that fit it.
@@ -135,9 +150,12 @@ fn keep_unit(unit: Rotation, place: usize, numbers: &mut [f64], counts: &mut [us
     ensures numbers_after { numbers.new ≡ kept_or (ltb place 16 && unit_fits numbers.old counts.old) (unit_numbers unit) numbers.old }
     ensures counts_after { counts.new ≡ kept_or (ltb place 16 && unit_fits numbers.old counts.old) (unit_counts unit) counts.old }
 {
-    if place < 16 && unit_fits(numbers, counts) {
-        write_places(unit, numbers, counts);
-        write_queue(unit.queue, counts);
+    if place < 16 {
+        if unit_fits(numbers, counts) {
+            let queue = unit.queue;
+            write_places(unit, numbers, counts);
+            write_queue(queue, counts);
+        }
     }
 }
 
@@ -160,8 +178,9 @@ pub extern "C" fn hazhendu_rotation_next(queues: &[usize]) -> usize
     ensures { result ≡ next_told queues.now }
 {
     if queues.len() == 144 {
+        let run = rotation::vacant();
         let unit = Rotation {
-            places: [rotation::vacant(); 16],
+            places: [run; 16],
             queue: held_queue(queues),
         };
         return rotation::next_place(unit);
@@ -215,9 +234,11 @@ pub extern "C" fn hazhendu_rotation_join(
         work,
         &mut field[0..to],
     );
+    let left = joined.unit;
+    let answer = joined.answer;
     *place = joined.place;
-    keep_unit(joined.unit, joined.place, units, queues);
-    exports_paused::start_state(joined.answer, numbers, counts, value)
+    keep_unit(left, joined.place, units, queues);
+    exports_paused::start_state(answer, numbers, counts, value)
 }
 
 // `rotation_turns::turn`, told by `exports_paused::step_state`; `place` is the place whose turn it was, 16 if none.
@@ -251,7 +272,9 @@ pub extern "C" fn hazhendu_rotation_turn(
     let turned = rotation_turns::turn(
         unit, t, n, starts, cols, vals, with_mass, mass, tau, count, w, out, work, field,
     );
+    let left = turned.unit;
+    let answer = turned.answer;
     *place = turned.place;
-    keep_unit(turned.unit, turned.place, units, queues);
-    exports_paused::step_state(turned.answer, numbers, counts, value)
+    keep_unit(left, turned.place, units, queues);
+    exports_paused::step_state(answer, numbers, counts, value)
 }

@@ -3,4 +3,4 @@ use mathlib.Core.Path.{refl}
 use Rattle.exports_rotation.proofs.no_unit.Goals as goal
 
 pub returns : goal.returns
-returns c = rw c.unread.ensures refl
+returns c = rw c.unread-run.ensures refl
