@@ -1,6 +1,6 @@
 -- What the checks of a run hand back beside their answer, and what the run takes from them: cited by contracts of inner functions, and by no
 -- definition of a call. Definitions only.
-use Rattle.std.specs.Prelude.{List, ◌++◌, ◌≡◌, ℕ, ◌+◌, ◌-◌, ◌≤◌, Float}
+use Rattle.std.specs.Prelude.{List, ◌++◌, ◌≡◌, ℕ, ◌+◌, ◌-◌, ◌≤◌, Option, Some, None, Float}
 use Rattle.doubles.specs.F64.{1f}
 use Rattle.checks.specs.First.{Check, first}
 use Rattle.checks.specs.declared.Checked.TheVariants.{Sound}
@@ -24,8 +24,6 @@ use Rattle.krylov_job.specs.declared.KrylovPhiOptions.{KrylovPhiOptions}
 use Rattle.krylov_job.specs.declared.KrylovAnswer.{KrylovAnswer}
 use Rattle.krylov_job.specs.declared.KrylovAnswer.TheVariants.{Refusal, Result}
 use Rattle.krylov_job.specs.declared.RunJob.{RunJob}
-use Rattle.krylov_job.specs.declared.Eta.{Eta}
-use Rattle.krylov_job.specs.declared.Eta.TheVariants.{Own, Began}
 
 -- 21, 22 by eta, 24 and 26 of a combination of dimension M over a generator with the numbers g: the answer, and what was found
 abbrev pub run_job_by : Shape → Float → ℕ → List Float → Scaling → KrylovPhiOptions → ℕ → ℕ → RunJob
@@ -42,11 +40,11 @@ run_job_by g tau d f eta o M memory =
     }
 
 -- eta of the sum of a job's shares, or what a run began with
-unfoldable pub scaling_by : Eta → Float → Scaling
-scaling_by Own sum = eta_scaling sum
-scaling_by (Began x) sum = record { eta = x; inv = 1f }
+unfoldable pub scaling_by : Option Float → Float → Scaling
+scaling_by None sum = eta_scaling sum
+scaling_by (Some x) sum = record { eta = x; inv = 1f }
 
-abbrev pub scaling_of : Shape → Float → ℕ → List Float → Eta → Scaling
+abbrev pub scaling_of : Shape → Float → ℕ → List Float → Option Float → Scaling
 scaling_of g tau count w eta = scaling_by eta (magnitude g.n (further g.n w) tau (count - 1))
 
 -- 12 to 22, 24 and 26 over a generator with the numbers g

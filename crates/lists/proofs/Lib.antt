@@ -7,6 +7,7 @@ pub mod Frame
 pub mod Stack
 pub mod Find
 pub mod Positions
+pub mod Firsts
 pub mod Places
 pub mod Begins
 pub mod Refill

@@ -1,6 +1,6 @@
 -- Paused runs as the last call left them, and what each substep so far was made with (document 02, N5: 'State and field come back at each step as the last one
 -- left them: what is claimed here and in N6 is claimed of such runs'). Definitions only.
-use Rattle.std.specs.Prelude.{◌≡◌, List, [], ◌∷◌, ◌++◌, ℕ, ◌+◌, ◌-◌, eqb, length, Float, if◌then◌else◌}
+use Rattle.std.specs.Prelude.{◌≡◌, List, [], ◌∷◌, ◌++◌, ℕ, ◌+◌, ◌-◌, eqb, length, Float, if◌then◌else◌, Option, Some, None}
 use Rattle.doubles.specs.F64.{◌⊗◌}
 use Rattle.checks.specs.First.{first}
 use Rattle.checks.specs.declared.Checked.{Checked}
@@ -13,8 +13,6 @@ use Rattle.krylov_job.specs.KrylovCall.{bound}
 use Rattle.krylov_job.specs.declared.KrylovPhiOptions.{KrylovPhiOptions}
 use Rattle.paused_run.specs.Paused.{Job, PausedCall, start, Input, step_checks, step}
 use Rattle.paused_run.specs.declared.PausedRun.{PausedRun}
-use Rattle.paused_run.specs.declared.Tolerance.{Tolerance}
-use Rattle.paused_run.specs.declared.Tolerance.TheVariants.{Same, New}
 use Rattle.paused_run.specs.declared.StartAnswer.TheVariants.{Started}
 use Rattle.paused_run.specs.declared.StepAnswer.{StepAnswer}
 use Rattle.paused_run.specs.declared.StepAnswer.TheVariants.{Refusal, Stepped}
@@ -74,9 +72,9 @@ run_in (Refusal k x s) = s
 run_in (Stepped s) = s
 
 -- the tol in force at a step: 'a new tol for itself and the later ones'
-abbrev pub in_force : Tolerance → Float → Float
-in_force Same tol = tol
-in_force (New x) tol = x
+abbrev pub in_force : Option Float → Float → Float
+in_force None tol = tol
+in_force (Some x) tol = x
 
 -- the tol after it: an early refusal, 28 and 29 leave the one before
 abbrev pub tol_kept : Checked → StepAnswer → Float → Float → Float

@@ -18,9 +18,9 @@ ghost use Rattle.paused_run.specs.Inner.{job_over, first_of, begun_of};
 
 use checks::Checked;
 use generator_action::{MatrixAnswer, Shape};
-use krylov_job::{Eta, KrylovPhiOptions, RunJob};
+use krylov_job::{KrylovPhiOptions, RunJob};
 use paused_run::{PausedRun, StartAnswer};
-use pow2::{Prescale, Scale};
+use pow2::Scale;
 
 // A run from a field that is not all zeros, which is scaled by a power of two.
 fn first_run(
@@ -58,15 +58,12 @@ fn begin(
     let n = j.g.n;
     start_vectors::combination_start(n, w, j.d, j.eta.inv, field);
     vectors::clear_in(work, 0, j.need);
-    let scaling = pow2::pow2_scale(field);
-    match scaling {
-        Prescale::None => {
-            vectors::copy_from(out, 0, field, 0, n);
-            let one = Scale { down: 1.0, up: 1.0 };
-            StartAnswer::Started(paused_run::fresh(o, j, one, 0.0, 0.0, true))
-        }
-        Prescale::By(f) => StartAnswer::Started(first_run(o, j, f, out, field)),
-    }
+    let Some(f) = pow2::pow2_scale(field) else {
+        vectors::copy_from(out, 0, field, 0, n);
+        let one = Scale { down: 1.0, up: 1.0 };
+        return StartAnswer::Started(paused_run::fresh(o, j, one, 0.0, 0.0, true));
+    };
+    StartAnswer::Started(first_run(o, j, f, out, field))
 }
 
 // A start over a generator that passed its checks.
@@ -83,8 +80,8 @@ pub fn started(
     requires { (g.n ≤ 1000000) × (g.stored ≤ 16777216) }
     ensures { (gs : List Check) (starts cols : List ℕ) (vals mass : List Float) → Sound ≡ first gs → Passed (csr g.n starts cols vals) (given g.with_mass mass) g → leaves result out.new work.new field.new ≡ start o (job_over gs g starts cols vals mass tau count w.now) out.old work.old field.old }
 {
-    let none = Checked::Sound;
-    let j = krylov_job::admit_job(g, tau, count, w, Eta::Own, o, out.len(), none, work.len());
+    let others = Checked::Sound;
+    let j = krylov_job::admit_job(g, tau, count, w, None, o, out.len(), others, work.len());
     let job = j.checked;
     let Checked::Sound = job else {
         return StartAnswer::Refusal(checks::number(job), checks::reported(job));

@@ -14,7 +14,7 @@ ghost use Rattle.krylov_job.specs.KrylovCall.{phi_combination_krylov};
 
 use checks::Checked;
 use generator_action::{MatrixAnswer, Shape};
-use krylov_job::{Eta, KrylovAnswer, KrylovPhiOptions};
+use krylov_job::{KrylovAnswer, KrylovPhiOptions};
 
 // The combination over a generator that passed its checks.
 pub fn combined(
@@ -35,7 +35,7 @@ pub fn combined(
 {
     let n = g.n;
     let sound = Checked::Sound;
-    let j = krylov_job::admit_job(g, tau, count, w, Eta::Own, o, out.len(), sound, work.len());
+    let j = krylov_job::admit_job(g, tau, count, w, None, o, out.len(), sound, work.len());
     let run = j.checked;
     let Checked::Sound = run else {
         return KrylovAnswer::Refusal(checks::number(run), checks::reported(run));

@@ -1,13 +1,12 @@
 -- One barrel among any others (document 02, N6: 'Suppose the other runs are exchanged for any others and the same steps are given to one barrel: its field, report and run
 -- refusals are as if it were alone'). Definitions only.
-use Rattle.std.specs.Prelude.{◌≡◌, List, [], ◌∷◌, map, ℕ, ◌<◌, eqb, length, Float, if◌then◌else◌}
+use Rattle.std.specs.Prelude.{◌≡◌, List, [], ◌∷◌, map, ℕ, ◌<◌, eqb, length, Float, if◌then◌else◌, Option}
 use Rattle.checks.specs.First.{first}
 use Rattle.checks.specs.declared.Checked.{Checked}
 use Rattle.checks.specs.declared.Checked.TheVariants.{Sound, Refused}
 use Rattle.krylov_job.specs.declared.KrylovPhiOptions.{KrylovPhiOptions}
 use Rattle.paused_run.specs.Paused.{Job, Input, PausedCall, start, step_checks, step}
 use Rattle.paused_run.specs.declared.PausedRun.{PausedRun}
-use Rattle.paused_run.specs.declared.Tolerance.{Tolerance}
 use Rattle.paused_run.specs.declared.StartAnswer.{StartAnswer}
 use Rattle.paused_run.specs.declared.StartAnswer.TheVariants.{Started}
 use Rattle.paused_run.specs.declared.StepAnswer.{StepAnswer}
@@ -122,7 +121,7 @@ Only31Claim =
 -- ---- two histories
 -- a step that is given: a new tol or none, matrix, tau and vectors
 pub record Given : Type 0 where
-  pub tolerance : Tolerance
+  pub tolerance : Option Float
   pub job : Job
 
 -- what it tells: the report is in the answer's run, a run refusal in the answer

@@ -8,7 +8,7 @@ ghost use Rattle.generator_action.specs.Generator.{forward};
 ghost use Rattle.paused_run.specs.Paused.{leaves};
 ghost use Rattle.rotation.specs.Unit.{unit_call, run_left, turn};
 
-use paused_run::{PausedRun, StepAnswer, Tolerance};
+use paused_run::{PausedRun, StepAnswer};
 use rotation::Rotation;
 
 // The unit after a turn, the place whose turn it was (16: none) and the step's answer.
@@ -32,7 +32,7 @@ fn run_left(answer: StepAnswer) -> PausedRun
 // One step of the run whose turn is next; 31 if no run waits.
 pub fn turn(
     unit: Rotation,
-    tolerance: Tolerance,
+    tolerance: Option<f64>,
     n: usize,
     starts: &[u32],
     cols: &[u32],
@@ -51,7 +51,7 @@ pub fn turn(
     let p = rotation::next_place(unit);
     if p == 16 {
         return Turned {
-            unit: unit,
+            unit,
             place: 16,
             answer: StepAnswer::Refusal(31, float::not_a_number(), rotation::vacant()),
         };
@@ -64,6 +64,6 @@ pub fn turn(
     Turned {
         unit: rotation::passed_on(unit, left),
         place: p,
-        answer: answer,
+        answer,
     }
 }

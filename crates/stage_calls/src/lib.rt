@@ -19,7 +19,7 @@ ghost use Rattle.stage_calls.specs.Inner.{Whole, stage_end};
 
 use checks::Checked;
 use generator_action::Shape;
-use krylov_job::{Eta, KrylovAnswer, KrylovPhiOptions};
+use krylov_job::{KrylovAnswer, KrylovPhiOptions};
 use phi_solver::{PhiAnswer, PhiSolver};
 use schedule_checks::Stage;
 use taylor_job::TaylorAnswer;
@@ -85,7 +85,7 @@ fn krylov_stage(
     let Checked::Sound = early else {
         return KrylovAnswer::Refusal(checks::number(early), checks::reported(early));
     };
-    let j = krylov_job::admit_run(g, tau, d, vectors, Eta::Own, o, m, work.len());
+    let j = krylov_job::admit_run(g, tau, d, vectors, None, o, m, work.len());
     let checked = j.checked;
     let Checked::Sound = checked else {
         return KrylovAnswer::Refusal(checks::number(checked), checks::reported(checked));

@@ -47,4 +47,4 @@ pub returns : goal.returns
 unfolding dimension
 returns c os e =
     let a = c.args in
-    admitted a.g a.tau a.count a.w.now a.o a.output os (c.check_job-early.ensures os e) _ _ c.in-Sound.is ((rw part_further at c.admit_run.ensures) ∙ ap (λ (m : ℕ). run_job_by a.g a.tau (a.count - 1) (further a.g.n a.w.now) (scaling_of a.g a.tau a.count a.w.now a.eta) a.o m a.memory) c.clamp_m-m.ensures)
+    admitted a.g a.tau a.count a.w.now a.o a.output os (c.check_job-early.ensures os e) _ _ c.in-Sound.is ((rw part_further at c.admit_run.ensures) ∙ ap (λ (m : ℕ). run_job_by a.g a.tau (a.count - 1) (further a.g.n a.w.now) (scaling_of a.g a.tau a.count a.w.now a.began) a.o m a.memory) c.clamp_m-m.ensures)
