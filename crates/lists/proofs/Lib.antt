@@ -11,3 +11,4 @@ pub mod Refill
 pub mod Greatest
 pub mod Descent
 pub mod Walk
+pub mod Folds
