@@ -86,7 +86,7 @@ fn substeps(
     let c = Control {
         time: 0.0,
         next: phi_krylov_arnoldi::first_length(k.m, k.anorm, k.tol, beta),
-        beta: beta,
+        beta,
     };
     let r = KrylovPhiReport {
         matvecs: 0,
@@ -140,12 +140,8 @@ fn scaled_run(
     vectors::scale(&mut work[y..end], f.down);
     let beta = gram_schmidt::norm2(&work[y..end]);
     let scaled = Krylov {
-        m: k.m,
-        h: k.h,
-        y: k.y,
-        tau: k.tau,
-        anorm: k.anorm,
         tol: k.tol * beta,
+        ..k
     };
     let o = substeps(starts, cols, vals, vectors, work, l, b, scaled, limit);
     vectors::scale(&mut work[y..end], f.up);

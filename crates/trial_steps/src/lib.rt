@@ -13,7 +13,7 @@ ghost use Rattle.gram_schmidt.specs.Memory.{setting_at, basis_at, Counted};
 ghost use Rattle.trial_steps.specs.Trials.{MAX_REJECT, local_error, try_step, exact_step, trials};
 ghost use Rattle.trial_steps.specs.Memory.{trial_at, Modest, columns_in};
 
-use gram_schmidt::{BasisAnswer, Krylov};
+use gram_schmidt::{Broken, Full, Krylov};
 
 // How many lengths may be rejected on one basis.
 const MAX_REJECT: usize = 10;
@@ -172,7 +172,7 @@ pub fn trial_steps(
     beta: f64,
     next: f64,
     remaining: f64,
-    basis: BasisAnswer,
+    basis: Result<Full, Broken>,
 ) -> Trial
     requires m_bound { (k.m ≤ 128) × Counted k.m basis }
     requires h_len { length h.now ≡ (k.m + 2) * (k.m + 2) }
@@ -180,11 +180,7 @@ pub fn trial_steps(
     ensures modest { Modest (MAX_REJECT + 1) (columns_in k basis) result }
 {
     match basis {
-        BasisAnswer::Breakdown(applied, mb, hn) => {
-            exact_step(h, k.m + 2, mb, beta, hn, remaining)
-        }
-        BasisAnswer::Full(applied, avnorm) => {
-            try_lengths(h, k, beta, avnorm, float::min(next, remaining))
-        }
+        Ok(b) => try_lengths(h, k, beta, b.avnorm, float::min(next, remaining)),
+        Err(e) => exact_step(h, k.m + 2, e.mb, beta, e.hn, remaining),
     }
 }
