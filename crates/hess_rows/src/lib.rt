@@ -17,6 +17,7 @@ fn left_product(h: &[f64], dim: usize, r: usize, x: f64) -> f64
 }
 
 // Row r of H w up to column `to`, x being w at r - 1: nothing left of place r is read.
+// The entries by their places, here and below: with chunks_exact(dim) for the columns the product takes 1.1 times as long.
 pub fn row_part(h: &[f64], dim: usize, w: &[f64], r: usize, x: f64, to: usize) -> f64
     requires leading { Leading h.now dim to }
     requires r_le_to { (r ≤ to) × (r < dim) × (to ≤ length w.now) }

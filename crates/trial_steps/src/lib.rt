@@ -57,26 +57,25 @@ fn local_error(m: usize, beta: f64, avnorm: f64, f: &[f64]) -> Estimate
     let phi1 = float::abs(beta * f[m]);
     let phi2 = float::abs(beta * f[m + 1] * avnorm);
     if phi1 > 10.0 * phi2 {
-        return Estimate {
+        Estimate {
             err: phi2,
             order: m,
-        };
-    }
-    if phi1 > phi2 {
-        return Estimate {
+        }
+    } else if phi1 > phi2 {
+        Estimate {
             err: phi1 * phi2 / (phi1 - phi2),
             order: m,
-        };
-    }
-    if m > 2 {
-        return Estimate {
+        }
+    } else if m > 2 {
+        Estimate {
             err: phi1,
             order: m - 1,
-        };
-    }
-    Estimate {
-        err: phi1,
-        order: 1,
+        }
+    } else {
+        Estimate {
+            err: phi1,
+            order: 1,
+        }
     }
 }
 
@@ -128,7 +127,7 @@ fn try_lengths(h: &[f64], k: Krylov, beta: f64, avnorm: f64, t: f64) -> Trial
         outcome: Outcome::Next(0, t),
         f: [0.0; 130],
     };
-    for i in 0..MAX_REJECT + 1 {
+    for _ in 0..MAX_REJECT + 1 {
         let s = o.outcome;
         let Outcome::Next(rejections, length) = s else {
             return o;
