@@ -40,7 +40,7 @@ fn run_substeps(
     ensures kept { Kept 0 l.q +0 work.old work.new }
 {
     let mut o = Progress::On(c, r);
-    for i in 0..limit {
+    for _ in 0..limit {
         let Progress::On(control, report) = o else {
             return o;
         };

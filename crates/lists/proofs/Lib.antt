@@ -14,3 +14,4 @@ pub mod Refill
 pub mod Greatest
 pub mod Walk
 pub mod Ranges
+pub mod Folds

@@ -13,7 +13,7 @@ ghost use Rattle.krylov_advance.specs.Run.{first_length, substep, relative_repor
 ghost use Rattle.krylov_advance.specs.declared.KrylovPhiReport.{KrylovPhiReport};
 ghost use Rattle.krylov_advance.specs.Memory.{products, state_at, progress_at};
 
-use gram_schmidt::{BasisAnswer, Krylov};
+use gram_schmidt::{Broken, Full, Krylov};
 use krylov_advance::{Control, KrylovPhiReport, Progress};
 use phi_action_helpers::{Coupling, Layout};
 use trial_steps::Outcome;
@@ -37,12 +37,12 @@ pub fn first_length(m: usize, anorm: f64, tol: f64, beta: f64) -> f64
 }
 
 // The products with the generator that a basis took.
-fn products(basis: BasisAnswer) -> usize
+fn products(basis: Result<Full, Broken>) -> usize
     ensures { result ≡ products basis }
 {
     match basis {
-        BasisAnswer::Breakdown(applied, _, _) => applied,
-        BasisAnswer::Full(applied, _) => applied,
+        Ok(b) => b.applied,
+        Err(e) => e.applied,
     }
 }
 
@@ -90,11 +90,7 @@ pub fn relative_report(r: KrylovPhiReport, beta: f64) -> KrylovPhiReport
     ensures { result ≡ relative_report r beta }
 {
     KrylovPhiReport {
-        matvecs: r.matvecs,
-        substeps: r.substeps,
-        rejected: r.rejected,
         est_error: r.est_error / beta,
-        shortest: r.shortest,
-        last: r.last,
+        ..r
     }
 }
