@@ -129,6 +129,7 @@ fn cleared_up_to(work: &[u8], cleared: usize) -> bool
         .all(|(k, b)| *b == if k < cleared { 0 } else { 90 })
 }
 
+// What a Krylov call hands back, on bytes or on slices.
 fn krylov_answer<F>(call: F) -> Answer
 where
     F: FnOnce(&mut f64, &mut usize, &mut usize, &mut usize, &mut f64, &mut f64) -> u32,
@@ -159,6 +160,7 @@ where
     }
 }
 
+// One of the three; a bound `Fn` takes at most twelve arguments.
 type TaylorCall = fn(
     usize,
     &[u8],
@@ -268,6 +270,7 @@ fn last_word(b: &[u8]) -> u64 {
     b.last_chunk().map_or(0, |word| u64::from_le_bytes(*word))
 }
 
+// Whether the answer is the one expected, to the last bit.
 fn same(answer: Answer, wanted: Answer, out: &[u8], wanted_out: &[u8]) -> bool
     ensures { IsTrue result ↔ (answer ≡ wanted) × (out.now ≡ wanted_out.now) }
 {
