@@ -19,7 +19,7 @@ pub enum PhiCall {
 }
 
 // What is handed back as numbers: the counts of a Taylor call, or those of a Krylov call.
-#[derive(Clone, Copy)]
+#[derive(Clone, Copy, Default)]
 pub struct Told {
     pub number: u32,
     pub value: f64,
@@ -33,54 +33,22 @@ pub struct Told {
     pub last: f64,
 }
 
-fn told_taylor(number: u32, value: f64, s: u32, m: u32, applications: u64) -> Told
-    ensures { taylor_told result ≡ numbers number value s m applications }
-{
-    Told {
-        number: number,
-        value: value,
-        s: s,
-        m: m,
-        applications: applications,
-        substeps: 0,
-        matvecs: 0,
-        rejected: 0,
-        shortest: 0.0,
-        last: 0.0,
-    }
-}
-
-fn told_krylov(
-    number: u32,
-    value: f64,
-    substeps: usize,
-    matvecs: usize,
-    rejected: usize,
-    shortest: f64,
-    last: f64,
-) -> Told
-    ensures { krylov_told result ≡ run_numbers number value substeps matvecs rejected shortest last }
-{
-    Told {
-        number: number,
-        value: value,
-        s: 0,
-        m: 0,
-        applications: 0,
-        substeps: substeps,
-        matvecs: matvecs,
-        rejected: rejected,
-        shortest: shortest,
-        last: last,
-    }
-}
-
 pub fn of_taylor(answer: TaylorAnswer) -> Told
     ensures { taylor_told result ≡ taylor_numbers answer }
 {
     match answer {
-        TaylorAnswer::Refusal(k, x) => told_taylor(k, x, 0, 0, 0),
-        TaylorAnswer::Result(r) => told_taylor(0, r.mu, r.s, r.m, r.applications),
+        TaylorAnswer::Refusal(number, value) => Told {
+            number,
+            value,
+            ..Told::default()
+        },
+        TaylorAnswer::Result(r) => Told {
+            value: r.mu,
+            s: r.s,
+            m: r.m,
+            applications: r.applications,
+            ..Told::default()
+        },
     }
 }
 
@@ -88,16 +56,20 @@ pub fn of_krylov(answer: KrylovAnswer) -> Told
     ensures { krylov_told result ≡ krylov_numbers answer }
 {
     match answer {
-        KrylovAnswer::Refusal(k, x) => told_krylov(k, x, 0, 0, 0, 0.0, 0.0),
-        KrylovAnswer::Result(r) => told_krylov(
-            0,
-            r.est_error,
-            r.substeps,
-            r.matvecs,
-            r.rejected,
-            r.shortest,
-            r.last,
-        ),
+        KrylovAnswer::Refusal(number, value) => Told {
+            number,
+            value,
+            ..Told::default()
+        },
+        KrylovAnswer::Result(r) => Told {
+            value: r.est_error,
+            substeps: r.substeps,
+            matvecs: r.matvecs,
+            rejected: r.rejected,
+            shortest: r.shortest,
+            last: r.last,
+            ..Told::default()
+        },
     }
 }
 
@@ -105,9 +77,10 @@ pub fn of_krylov(answer: KrylovAnswer) -> Told
 pub fn reported(t: Told, starts: usize, mass: usize, out: usize, v: usize) -> Told
     ensures { result ≡ revalued t (lengths_told starts mass out v t.number t.value) }
 {
-    let mut r = t;
-    r.value = byte_arrays::reported(t.number, t.value, starts, mass, out, v);
-    r
+    Told {
+        value: byte_arrays::reported(t.number, t.value, starts, mass, out, v),
+        ..t
+    }
 }
 
 pub fn taylor_numbers(
