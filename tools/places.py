@@ -28,7 +28,7 @@ LINES = [
     ("3", "for over numbers", r"^\s*for \w+ in .*\.\."),
     ("3", "while or loop", r"^\s*(while\b|loop \{)"),
     # 4. by hand
-    ("4", "field: field", r"\b(\w+): \1,?$|[{ ](\w+): \2[,} ]"),
+    ("4", "field: field", r"\b(\w+): \1,?$|[{ ](\w+): \2(?=,| \})"),
     ("4", "x != x", r"\b(\w+(?:\.\w+)*) != \1\b"),
     # 6. buffers with a length beside, parallel arrays
     ("6", "array of fixed length", r"^\s*(pub )?\w+: \[\w+; \w+\]|\b\w+: \[(usize|f64|u32|u64|bool); \w+\]|-> \[\w+; \w+\]"),

@@ -40,12 +40,12 @@ pub fn layout(n: usize, d: usize, mass: bool) -> Layout
     ensures { result ≡ layout n d mass }
 {
     Layout {
-        n: n,
-        d: d,
+        n,
+        d,
         w: n + d,
         av: 2 * (n + d),
         q: 3 * n + 2 * d,
-        mass: mass,
+        mass,
     }
 }
 
@@ -150,10 +150,10 @@ pub fn run_job(
     let b = j.b;
     let p = prepare(starts, cols, vals, mass, work, j);
     let x = SweepArgs {
-        l: l,
-        b: b,
+        l,
+        b,
         tau: j.tau,
-        p: p,
+        p,
     };
     let applied = swept_out(starts, cols, vals, vectors, out, 0, work, x);
     finish(work, j.need, p, applied)

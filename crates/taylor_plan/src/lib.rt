@@ -41,12 +41,12 @@ fn quotients_alone(n: usize, mass: bool) -> Layout
     ensures { result ≡ quotients_alone n mass }
 {
     Layout {
-        n: n,
+        n,
         d: 0,
         w: 0,
         av: 0,
         q: 0,
-        mass: mass,
+        mass,
     }
 }
 

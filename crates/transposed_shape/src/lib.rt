@@ -40,10 +40,10 @@ pub fn transposed_shape(
         MatrixAnswer::Norm(norm, _) => {
             let forward = generator_action::generator_shape(n, with_mass, vals.len(), norm);
             ShapeAnswer::Passed(Shape {
-                n: n,
+                n,
                 with_mass: false,
                 stored: forward.stored,
-                norm: norm,
+                norm,
             })
         }
     }
