@@ -25,7 +25,7 @@ pub fn scale_into(load: &[f64], level: f64, out: &mut [f64])
     requires { length load.now ≡ length out.old }
     ensures { out.new ≡ scale level load.now }
 {
-    for i in 0..load.len() {
-        out[i] = load[i] * level;
+    for (i, value) in out.iter_mut().enumerate() {
+        *value = load[i] * level;
     }
 }

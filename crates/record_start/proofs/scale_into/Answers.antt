@@ -9,13 +9,13 @@ use Rattle.vectors.specs.Vectors.{scale}
 use Rattle.record_start.proofs.scale_into.Goals as goal
 
 pub loop-i-init : goal.loop-i-init
-loop-i-init c = (omega arith, started _ _ _)
+loop-i-init c = started _ _ _
 
 pub loop-i-preserved : goal.loop-i-preserved
-loop-i-preserved c = (omega arith, turned₀ c.loop-i.invariant.1 refl)
+loop-i-preserved c = turned₀ c.loop-i.invariant refl
 
 pub returns : goal.returns
 unfolding scale
 returns c =
     let a = c.args in
-    finished_all c.loop-i.invariant.1 (length a.load.now) (omega arith) (omega arith) (omega arith) ∙ sym (map_tabulate (λ e. e ⊗ a.level) a.load.now nan)
+    finished_all c.loop-i.invariant (length a.load.now) (omega arith) (omega arith) (omega arith) ∙ sym (map_tabulate (λ e. e ⊗ a.level) a.load.now nan)
