@@ -1,0 +1,128 @@
+#!/usr/bin/env python3
+"""What changed since a commit, old and new side by side: public signatures, clauses and types; definitions; public laws in proofs/.
+What is gone or new stands with one side alone. Layout does not count.
+
+    tools/side_by_side.py COMMIT
+"""
+import re
+import subprocess
+import sys
+from collections import defaultdict
+from pathlib import Path
+
+BASE = sys.argv[1]
+ROOT = Path(__file__).resolve().parent.parent
+
+
+def git(*args):
+    done = subprocess.run(["git", *args], cwd=ROOT, capture_output=True, text=True)
+    return done.stdout if done.returncode == 0 else ""
+
+
+def was(path):
+    return git("show", f"{BASE}:{path}")
+
+
+def now(path):
+    file = ROOT / path
+    return file.read_text() if file.exists() else ""
+
+
+def paths(kind):
+    names = git("diff", "--name-only", BASE, "--", "crates").split() + git("ls-files", "-o", "--exclude-standard", "crates").split()
+    return sorted({name for name in names if f"/{kind}/" in name})
+
+
+def bare(text):
+    return re.sub(r"\s+", "", text)
+
+
+def signatures(text):
+    """Public functions up to their body, and public types and constants."""
+    found = {}
+    for m in re.finditer(r"^(    )?pub (?:extern \"C\" )?(?:const )?fn (\w+).*?^(?:\1)?\{", text, re.S | re.M):
+        head = m.group(0).rsplit("{", 1)[0].rstrip()
+        head = re.sub(r",\n\s+\)", ")", re.sub(r"\(\n\s+", "(", head))
+        head = re.sub(r",\n\s+(?=\w+:)", ", ", head)
+        found[m.group(2)] = re.sub(r"\n    (?=    )", "\n", head) if m.group(1) else head
+    for m in re.finditer(r"^(?:#\[derive[^\n]*\n)?pub (enum|struct) (\w+).*?^\}", text, re.S | re.M):
+        line = re.sub(r"\n\s+", " ", m.group(0))
+        found[f"{m.group(1)} {m.group(2)}"] = line.replace(",\n}", " }").replace("\n}", " }")
+    for m in re.finditer(r"^pub const (\w+).*?;", text, re.S | re.M):
+        found["const " + m.group(1)] = re.sub(r"\s+", " ", m.group(0))
+    return found
+
+
+def definitions(text):
+    """Public definitions of a room of specs/, each up to an empty line or a comment."""
+    found = {}
+    lines = text.split("\n")
+    at = 0
+    while at < len(lines):
+        m = re.match(r"^(?:  )?(?:(?:unfoldable |abbrev )?pub (?:record |data )?([^\s:({]+)).*", lines[at])
+        if not m:
+            at += 1
+            continue
+        end = at + 1
+        while end < len(lines) and lines[end].strip() and not lines[end].startswith("--"):
+            end += 1
+        if not m.group(1).startswith("open_"):
+            found[m.group(1)] = "\n".join(line for line in lines[at:end] if not line.startswith("unfolding"))
+        at = end
+    return found
+
+
+def laws(text, found):
+    """Statements of a room of proofs/, each up to its first equation."""
+    lines = text.split("\n")
+    at = 0
+    while at < len(lines):
+        m = re.match(r"^(?:unfoldable |abbrev )?(?:pub )?(?:record |data )?([^\s:({]+)(?: .*)? : .*", lines[at])
+        end = at + 1
+        if m and not lines[at].startswith(("use", "open", "--", " ")):
+            while end < len(lines) and lines[end].startswith("    ") and not re.match(r"^\s+(where|rewrite)\b", lines[end]):
+                end += 1
+            found[m.group(1)].append("\n".join(lines[at:end]))
+        at = end
+
+
+def pair(crate, name, old, new):
+    print(f"\n`{crate}`, {name}:\n\n```diff")
+    for mark, text in (("-", old), ("+", new)):
+        for line in text.split("\n") if text else []:
+            print(f"{mark} {line}")
+    print("```")
+
+
+def compare(kind, reader):
+    for path in paths(kind):
+        old, new = reader(was(path)), reader(now(path))
+        for name in sorted(set(old) | set(new)):
+            if bare(old.get(name, "")) != bare(new.get(name, "")):
+                pair(path.split("/")[1], name, old.get(name, ""), new.get(name, ""))
+
+
+def compare_laws():
+    for crate in sorted({path.split("/")[1] for path in paths("proofs")}):
+        old, new = defaultdict(list), defaultdict(list)
+        room = f"crates/{crate}/proofs"
+        before = git("ls-tree", "-r", "--name-only", BASE, room).split()
+        after = [str(file.relative_to(ROOT)) for file in sorted((ROOT / room).rglob("*.antt"))]
+        for files, read, found in ((before, was, old), (after, now, new)):
+            for path in files:
+                if Path(path).name not in ("Answers.antt", "Invariants.antt"):
+                    laws(read(path), found)
+        for name in sorted(set(old) & set(new)):
+            stood, stand = {bare(s) for s in old[name]}, {bare(s) for s in new[name]}
+            fresh = [s for s in new[name] if bare(s) not in stood]
+            for statement in old[name]:
+                if statement.startswith("pub") and bare(statement) not in stand and fresh:
+                    pair(crate, name, statement, fresh[0])
+
+
+print("### Public signatures, clauses and types")
+compare("src", signatures)
+print("\n### Definitions")
+compare("specs", definitions)
+print("\n### Laws in proofs/")
+compare_laws()
