@@ -9,21 +9,27 @@ use lib.ListN.{get_or}
 use borrow.Author.Tests.{eq-eqb, ne_eqb, lt-ltb, le-ltb}
 use lib.Ieee.{Float, nan, binary64, of_int}
 use Rattle.lists.specs.Find.{find, exists}
-use Rattle.checks.specs.First.{Check, refuse, first, number, reported}
-use Rattle.checks.specs.declared.Checked.{Checked}
-use Rattle.checks.specs.declared.Checked.TheVariants.{Sound, Refused}
+use Rattle.checks.specs.First.{Check, refuse, first}
+use Rattle.checks.specs.declared.Reason.{Reason}
+use Rattle.checks.specs.declared.Refusal.{Refusal}
+use Rattle.std.specs.Prelude.{Result}
+use Rattle.std.specs.Result.{IsErrAnd}
+use Rattle.std.proofs.lemmas.Result.{err_from_is_err_and}
+use Rattle.checks.specs.First.{Checked}
+use Rattle.checks.specs.Reasons.{Sound, Refused}
+use Rattle.std.specs.Prelude.{Ok, Err}
 
 -- what is answered where the checks before have passed
 unfoldable pub and_then : Checked → Checked → Checked
-and_then Sound r = r
-and_then (Refused k x) r = Refused k x
+and_then (Ok _) r = r
+and_then (Err e) r = Err e
 
 -- one check before the others: by a function of its condition, which `rw` and `simp` look into
-abbrev pub unless : Bool → ℕ → Float → Checked → Checked
+abbrev pub unless : Bool → Reason → Float → Checked → Checked
 unless true k x r = Refused k x
 unless false k x r = r
 
-pub first_cons : (k : ℕ) (b : Bool) (x : Float) (cs : List Check) → first (refuse k b x ∷ cs) ≡ unless b k x (first cs)
+pub first_cons : (k : Reason) (b : Bool) (x : Float) (cs : List Check) → first (refuse k b x ∷ cs) ≡ unless b k x (first cs)
 unfolding first
 first_cons k true x cs = refl
 first_cons k false x cs = refl
@@ -32,7 +38,7 @@ pub first_none : first [] ≡ Sound
 unfolding first
 first_none = refl
 
-append_by : (b : Bool) (k : ℕ) (x : Float) (r t u : Checked) → r ≡ and_then t u → unless b k x r ≡ and_then (unless b k x t) u
+append_by : (b : Bool) (k : Reason) (x : Float) (r t u : Checked) → r ≡ and_then t u → unless b k x r ≡ and_then (unless b k x t) u
 unfolding and_then
 append_by true k x r t u e = refl
 append_by false k x r t u e = e
@@ -41,17 +47,26 @@ pub first_append : (xs ys : List Check) → first (xs ++ ys) ≡ and_then (first
 unfolding first and_then
 first_append [] ys = refl
 first_append (c ∷ cs) ys =
-    first_cons c.number c.holds c.reported (cs ++ ys)
-    ∙ append_by c.holds c.number c.reported (first (cs ++ ys)) (first cs) (first ys) (first_append cs ys)
-    ∙ ap (λ (r : Checked). and_then r (first ys)) (sym (first_cons c.number c.holds c.reported cs))
+    first_cons c.reason c.holds c.reported (cs ++ ys)
+    ∙ append_by c.holds c.reason c.reported (first (cs ++ ys)) (first cs) (first ys) (first_append cs ys)
+    ∙ ap (λ (r : Checked). and_then r (first ys)) (sym (first_cons c.reason c.holds c.reported cs))
 
 -- ---- what a function that makes some of the checks hands to its caller
--- a refusal taken apart by its number and its double
-pub passed_up : {r : Checked} {j k : ℕ} {x y : Float} → r ≡ Refused j x → k ≡ number r → y ≡ reported r → r ≡ Refused k y
-unfolding number reported
-passed_up e ek ey = rw (ek, ey, e)
+-- two refusals are one where their reasons and their doubles are
+err_is : {A E : Type 0} {x y : E} → ◌≡◌ {A = Result A E} (Err x) (Err y) → x ≡ y
+err_is e = cc
 
-pub refused_up : (xs ys : List Check) {r : Checked} {k : ℕ} {x : Float} → r ≡ Refused k x → r ≡ first xs → r ≡ first (xs ++ ys)
+pub same_reason : {A : Type 0} {j k : Reason} {x y : Float} → Refused {A = A} j x ≡ Refused {A = A} k y → j ≡ k
+same_reason e = ap (λ (r : Refusal). r.reason) (err_is e)
+
+pub same_double : {A : Type 0} {j k : Reason} {x y : Float} → Refused {A = A} j x ≡ Refused {A = A} k y → x ≡ y
+same_double e = ap (λ (r : Refusal). r.value) (err_is e)
+
+-- what `?` returns is the refusal that it was given
+pub handed : {A : Type 0} {r : Result A Refusal} {e : Refusal} → IsErrAnd r (λ d. d ≡ e) → r ≡ Err e
+handed {r = r} h = let p = err_from_is_err_and r h in p.1 ∙ ap Err p.2
+
+pub refused_up : (xs ys : List Check) {r : Checked} {k : Reason} {x : Float} → r ≡ Refused k x → r ≡ first xs → r ≡ first (xs ++ ys)
 unfolding and_then
 refused_up xs ys e d = rw (first_append xs ys, ← d, e)
 
@@ -60,17 +75,17 @@ unfolding and_then
 sound_on xs ys e d f = rw (first_append xs ys, ← d, e) f
 
 -- no check of a list holds: the first fails, and no other holds
-unless_sound : (k : ℕ) (b : Bool) (x : Float) (r : Checked) → Sound ≡ unless b k x r → (b ≡ false) × (Sound ≡ r)
+unless_sound : (k : Reason) (b : Bool) (x : Float) (r : Checked) → Sound ≡ unless b k x r → (b ≡ false) × (Sound ≡ r)
 unless_sound k true x r e = (cc, cc)
 unless_sound k false x r e = (refl, e)
 
-pub sound_cons : (k : ℕ) (b : Bool) (x : Float) (cs : List Check) → Sound ≡ first (refuse k b x ∷ cs) → (b ≡ false) × (Sound ≡ first cs)
+pub sound_cons : (k : Reason) (b : Bool) (x : Float) (cs : List Check) → Sound ≡ first (refuse k b x ∷ cs) → (b ≡ false) × (Sound ≡ first cs)
 sound_cons k b x cs e = unless_sound k b x (first cs) (e ∙ first_cons k b x cs)
 
 and_then_sound : (r s : Checked) → Sound ≡ and_then r s → (Sound ≡ r) × (Sound ≡ s)
 unfolding and_then
-and_then_sound Sound s e = (refl, e)
-and_then_sound (Refused k x) s e = (cc, cc)
+and_then_sound (Ok _) s e = (refl, e)
+and_then_sound (Err r) s e = (cc, cc)
 
 -- no check of two lists in a row holds
 pub sound_append : (xs ys : List Check) → Sound ≡ first (xs ++ ys) → (Sound ≡ first xs) × (Sound ≡ first ys)
@@ -79,46 +94,46 @@ sound_append xs ys e = and_then_sound (first xs) (first ys) (e ∙ first_append 
 -- ---- a check that cannot hold where those of gs pass may stand behind them or not
 module _ (c : Check) where
   same_behind : (p : Check) (xs ys : List Check) → first xs ≡ first ys → first (p ∷ xs) ≡ first (p ∷ ys)
-  same_behind p xs ys e = first_cons p.number p.holds p.reported xs ∙ ap (unless p.holds p.number p.reported) e ∙ sym (first_cons p.number p.holds p.reported ys)
+  same_behind p xs ys e = first_cons p.reason p.holds p.reported xs ∙ ap (unless p.holds p.reason p.reported) e ∙ sym (first_cons p.reason p.holds p.reported ys)
 
   skipped : c.holds ≡ false → (ps cs : List Check) → first (ps ++ (c ∷ cs)) ≡ first (ps ++ cs)
-  skipped e [] cs = first_cons c.number c.holds c.reported cs ∙ rw e refl
+  skipped e [] cs = first_cons c.reason c.holds c.reported cs ∙ rw e refl
   skipped e (p ∷ ps) cs = same_behind p _ _ (skipped e ps cs)
 
   pub never_holds : (gs ps cs : List Check) → (Sound ≡ first gs → c.holds ≡ false) → first (gs ++ (ps ++ (c ∷ cs))) ≡ first (gs ++ (ps ++ cs))
   unfolding first
   never_holds [] ps cs h = skipped (h refl) ps cs
   never_holds (g ∷ gs) ps cs h =
-      first_cons g.number g.holds g.reported (gs ++ (ps ++ (c ∷ cs)))
+      first_cons g.reason g.holds g.reported (gs ++ (ps ++ (c ∷ cs)))
       ∙ by (λ k. never_holds gs ps cs k) g.holds refl
-      ∙ sym (first_cons g.number g.holds g.reported (gs ++ (ps ++ cs)))
+      ∙ sym (first_cons g.reason g.holds g.reported (gs ++ (ps ++ cs)))
     where
       by : ((Sound ≡ first gs → c.holds ≡ false) → first (gs ++ (ps ++ (c ∷ cs))) ≡ first (gs ++ (ps ++ cs))) → (b : Bool) → g.holds ≡ b
-          → unless b g.number g.reported (first (gs ++ (ps ++ (c ∷ cs)))) ≡ unless b g.number g.reported (first (gs ++ (ps ++ cs)))
+          → unless b g.reason g.reported (first (gs ++ (ps ++ (c ∷ cs)))) ≡ unless b g.reason g.reported (first (gs ++ (ps ++ cs)))
       by f true e = refl
-      by f false e = ap (unless false g.number g.reported) (f (λ s. h (s ∙ sym (first_cons g.number g.holds g.reported gs ∙ rw e refl))))
+      by f false e = ap (unless false g.reason g.reported) (f (λ s. h (s ∙ sym (first_cons g.reason g.holds g.reported gs ∙ rw e refl))))
 
 -- ---- a chain of tests: what `search` needs. A check whose condition fails, and one whose condition holds
-pub passes : (k : ℕ) {b : Bool} (x : Float) (cs : List Check) {r : Checked} → b ≡ false → r ≡ first cs → r ≡ first (refuse k b x ∷ cs)
+pub passes : (k : Reason) {b : Bool} (x : Float) (cs : List Check) {r : Checked} → b ≡ false → r ≡ first cs → r ≡ first (refuse k b x ∷ cs)
 passes k {b} x cs e g = rw (first_cons, e) g
 
-pub stops : {k : ℕ} {b : Bool} {x y : Float} (cs : List Check) → b ≡ true → y ≡ x → Refused k y ≡ first (refuse k b x ∷ cs)
+pub stops : {k : Reason} {b : Bool} {x y : Float} (cs : List Check) → b ≡ true → y ≡ x → Refused k y ≡ first (refuse k b x ∷ cs)
 stops {k} {b} {x} {y} cs e g = rw (first_cons, e, g)
 
 pub ends_sound : Sound ≡ first []
 ends_sound = sym first_none
 
 -- the same where a condition is decided by the answer t of a function, or by its negation
-pub passes_told : (k : ℕ) {t b : Bool} (x : Float) (cs : List Check) {r : Checked} → t ≡ b → t ≡ false → r ≡ first cs → r ≡ first (refuse k b x ∷ cs)
+pub passes_told : (k : Reason) {t b : Bool} (x : Float) (cs : List Check) {r : Checked} → t ≡ b → t ≡ false → r ≡ first cs → r ≡ first (refuse k b x ∷ cs)
 passes_told k x cs e f g = passes k x cs (sym e ∙ f) g
 
-pub stops_told : {k : ℕ} {t b : Bool} {x y : Float} (cs : List Check) → t ≡ b → t ≡ true → y ≡ x → Refused k y ≡ first (refuse k b x ∷ cs)
+pub stops_told : {k : Reason} {t b : Bool} {x y : Float} (cs : List Check) → t ≡ b → t ≡ true → y ≡ x → Refused k y ≡ first (refuse k b x ∷ cs)
 stops_told cs e f g = stops cs (sym e ∙ f) g
 
-pub passes_not : (k : ℕ) {t b : Bool} (x : Float) (cs : List Check) {r : Checked} → t ≡ b → not t ≡ false → r ≡ first cs → r ≡ first (refuse k (not b) x ∷ cs)
+pub passes_not : (k : Reason) {t b : Bool} (x : Float) (cs : List Check) {r : Checked} → t ≡ b → not t ≡ false → r ≡ first cs → r ≡ first (refuse k (not b) x ∷ cs)
 passes_not k x cs e f g = passes k x cs (ap not (sym e) ∙ f) g
 
-pub stops_not : {k : ℕ} {t b : Bool} {x y : Float} (cs : List Check) → t ≡ b → not t ≡ true → y ≡ x → Refused k y ≡ first (refuse k (not b) x ∷ cs)
+pub stops_not : {k : Reason} {t b : Bool} {x y : Float} (cs : List Check) → t ≡ b → not t ≡ true → y ≡ x → Refused k y ≡ first (refuse k (not b) x ∷ cs)
 stops_not cs e f g = stops cs (ap not (sym e) ∙ f) g
 
 -- the same where it is decided by a comparison of numbers: with `lt-ltb`, `le-ltb`, `eq-eqb`, `ne_eqb`
@@ -129,15 +144,15 @@ pub not_ne : {a b : ℕ} → (a ≡ b → ⊥) → not (eqb a b) ≡ true
 not_ne {a} {b} e = ap not (ne_eqb a b e)
 
 -- the same where it is decided by a search, whose place i is told: the element there is reported, or the place
-pub passes_find : (k : ℕ) (x : Float) (cs : List Check) (p : ℕ → Bool) (n : ℕ) {i : ℕ} {r : Checked} → i ≡ find p n → n ≤ i → r ≡ first cs → r ≡ first (refuse k (exists p n) x ∷ cs)
+pub passes_find : (k : Reason) (x : Float) (cs : List Check) (p : ℕ → Bool) (n : ℕ) {i : ℕ} {r : Checked} → i ≡ find p n → n ≤ i → r ≡ first cs → r ≡ first (refuse k (exists p n) x ∷ cs)
 unfolding exists
 passes_find k x cs p n {i} e l g = passes k x cs (rw (← e) (le-ltb i n l)) g
 
-pub stops_find : (k : ℕ) (w : List Float) (cs : List Check) (p : ℕ → Bool) (n : ℕ) {i : ℕ} → i ≡ find p n → i < n → Refused k (get_or w i nan) ≡ first (refuse k (exists p n) (get_or w (find p n) nan) ∷ cs)
+pub stops_find : (k : Reason) (w : List Float) (cs : List Check) (p : ℕ → Bool) (n : ℕ) {i : ℕ} → i ≡ find p n → i < n → Refused k (get_or w i nan) ≡ first (refuse k (exists p n) (get_or w (find p n) nan) ∷ cs)
 unfolding exists
 stops_find k w cs p n {i} e l = stops cs (rw (← e) (lt-ltb i n l)) (ap (λ (j : ℕ). get_or w j nan) e)
 
-pub stops_place : (k : ℕ) (cs : List Check) (p : ℕ → Bool) (n : ℕ) {i : ℕ} {y : Float} → i ≡ find p n → i < n → y ≡ of_int binary64 (pos i) → Refused k y ≡ first (refuse k (exists p n) (of_int binary64 (pos (find p n))) ∷ cs)
+pub stops_place : (k : Reason) (cs : List Check) (p : ℕ → Bool) (n : ℕ) {i : ℕ} {y : Float} → i ≡ find p n → i < n → y ≡ of_int binary64 (pos i) → Refused k y ≡ first (refuse k (exists p n) (of_int binary64 (pos (find p n))) ∷ cs)
 unfolding exists
 stops_place k cs p n {i} e l d = stops cs (rw (← e) (lt-ltb i n l)) (d ∙ ap (λ (j : ℕ). of_int binary64 (pos j)) e)
 

@@ -7,7 +7,7 @@ ghost use Rattle.checks.specs.First.{first};
 ghost use Rattle.general_operator.specs.Csr.{csr};
 ghost use Rattle.general_operator.specs.Checks.{wrong_rows, wrong_entries, too_large, falls, bad_entry, shape_checks, row_checks, entry_checks, matrix_checks};
 
-use checks::Checked;
+use checks::{Checked, Reason, Refusal};
 
 // n + 1 is not formed: n may be the largest number.
 fn wrong_rows(n: usize, len: usize) -> bool
@@ -50,15 +50,24 @@ fn check_shape(n: usize, starts: &[u32], columns: usize, entries: usize) -> Chec
     ensures { result ≡ first (shape_checks n starts.now columns entries) }
 {
     if wrong_rows(n, starts.len()) {
-        return Checked::Refused(1, float::count(starts.len()));
+        return Err(Refusal {
+            reason: Reason::RowStartsLength,
+            value: float::count(starts.len()),
+        });
     }
     if wrong_entries(n, starts, columns, entries) {
-        return Checked::Refused(2, float::count(entries));
+        return Err(Refusal {
+            reason: Reason::EntryCount,
+            value: float::count(entries),
+        });
     }
     if too_large(n, entries) {
-        return Checked::Refused(3, float::not_a_number());
+        return Err(Refusal {
+            reason: Reason::MatrixTooLarge,
+            value: float::not_a_number(),
+        });
     }
-    Checked::Sound
+    Ok(())
 }
 
 // The first row whose start falls, n if none does.
@@ -81,9 +90,12 @@ fn check_rows(n: usize, starts: &[u32]) -> Checked
 {
     let i = first_fall(starts, n);
     if i < n {
-        return Checked::Refused(4, float::count(i));
+        return Err(Refusal {
+            reason: Reason::RowStartsFall,
+            value: float::count(i),
+        });
     }
-    Checked::Sound
+    Ok(())
 }
 
 fn is_bad_entry(n: usize, cols: &[u32], vals: &[f64], k: usize) -> bool
@@ -119,24 +131,24 @@ fn check_entries(n: usize, cols: &[u32], vals: &[f64]) -> Checked
     if k < vals.len() {
         let c = cols[k] as usize;
         if n <= c {
-            return Checked::Refused(5, float::count(c));
+            return Err(Refusal {
+                reason: Reason::ColumnRange,
+                value: float::count(c),
+            });
         }
-        return Checked::Refused(6, vals[k]);
+        return Err(Refusal {
+            reason: Reason::EntryNotFinite,
+            value: vals[k],
+        });
     }
-    Checked::Sound
+    Ok(())
 }
 
 // 1 to 6.
 pub fn validate_csr(n: usize, starts: &[u32], cols: &[u32], vals: &[f64]) -> Checked
     ensures { result ≡ first (matrix_checks (csr n starts.now cols.now vals.now)) }
 {
-    let shape = check_shape(n, starts, cols.len(), vals.len());
-    let Checked::Sound = shape else {
-        return shape;
-    };
-    let rows = check_rows(n, starts);
-    let Checked::Sound = rows else {
-        return rows;
-    };
+    check_shape(n, starts, cols.len(), vals.len())?;
+    check_rows(n, starts)?;
     check_entries(n, cols, vals)
 }
