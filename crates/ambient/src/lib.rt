@@ -5,7 +5,7 @@ ghost use Rattle.std.specs.Prelude.{◌≡◌, ◌-◌, ◌≤◌, length};
 ghost use Rattle.lists.specs.Walk.{walk, on};
 ghost use Rattle.lists.specs.Window.{window, splice};
 ghost use Rattle.checks.specs.First.{first};
-ghost use Rattle.checks.specs.declared.Checked.TheVariants.{Sound};
+ghost use Rattle.checks.specs.Reasons.{Sound};
 ghost use Rattle.general_operator.specs.Csr.{csr};
 ghost use Rattle.generator_action.specs.Mass.{given, quotient_need, generator_checks};
 ghost use Rattle.generator_action.specs.Generator.{forward};
@@ -15,7 +15,6 @@ ghost use Rattle.ambient_turns.specs.Ambient.{settle, record_step, ended, conclu
 ghost use Rattle.ambient_turns.specs.Inner.{results_of, shown_in, Logs, results, logging};
 
 use ambient_turns::AmbientAnswer;
-use checks::Checked;
 use generator_action::{MatrixAnswer, Shape};
 
 // The records in order: the first starts from `field`, each other from what the one before it left in the output.
@@ -108,7 +107,7 @@ pub fn ambient(
         smallest.len(),
     );
     let checked = combination::and_then(fields, log);
-    let Checked::Sound = checked else {
+    let Ok(()) = checked else {
         return AmbientAnswer::Refusal(checks::number(checked), checks::reported(checked), 0);
     };
     let g = generator_action::generator_shape(n, with_mass, vals.len(), norm);

@@ -12,6 +12,7 @@ use Rattle.ambient_checks.specs.Inner.{log_of}
 use Rattle.ambient_turns.specs.declared.AmbientAnswer.TheVariants.{Refusal, NotANumber, Logged}
 use Rattle.ambient_turns.specs.Ambient.{Logging, ambient, open_ambient}
 use Rattle.ambient_turns.specs.Inner.{results, logging}
+use Rattle.checks.specs.declared.Reason.TheVariants.{RowStartsLength, TauRange, VectorNotFinite, WorkLength}
 
 -- no entries, of one row and of two
 abbrev empty : Csr
@@ -51,13 +52,13 @@ cancelling = refl
 
 -- NaN at another node does not end the work: record 1 has a result, and 17 of record 2 tells NaN, with the field of record 1
 elsewhere : ambient (forward (csr 2 (0 ∷ 0 ∷ 2 ∷ []) (1 ∷ 1 ∷ []) (nat 2 ∷ -2 ∷ [])) none) (log_of (1f ∷ 1f ∷ []) (1f ∷ 1f ∷ [])) (1f ∷ bigger ∷ []) (+0 ∷ +0 ∷ []) 3 0 (nat 7 ∷ nat 7 ∷ []) (nines 10) (results sevens sevens sevens)
-    ≡ logging (Refusal 17 nan 2) (1f ∷ nan ∷ []) (replicate 10 +0) (1f ∷ nat 7 ∷ []) (1f ∷ nat 7 ∷ []) (1f ∷ nat 7 ∷ [])
+    ≡ logging (Refusal VectorNotFinite nan 2) (1f ∷ nan ∷ []) (replicate 10 +0) (1f ∷ nat 7 ∷ []) (1f ∷ nat 7 ∷ []) (1f ∷ nat 7 ∷ [])
 unfolding open_ambient
 elsewhere = refl
 
 -- an infinite temperature is shown and counted; 17 of record 2 tells it
 infinite : ambient (forward empty none) (log_of (1f ∷ 1f ∷ []) (1f ∷ 1f ∷ [])) (bigger ∷ []) (bigger ∷ []) 3 0 (nat 7 ∷ []) (nines 6) (results sevens sevens sevens)
-    ≡ logging (Refusal 17 +∞ 2) (+∞ ∷ []) (replicate 6 +0) (+∞ ∷ nat 7 ∷ []) (+∞ ∷ nat 7 ∷ []) (+∞ ∷ nat 7 ∷ [])
+    ≡ logging (Refusal VectorNotFinite +∞ 2) (+∞ ∷ []) (replicate 6 +0) (+∞ ∷ nat 7 ∷ []) (+∞ ∷ nat 7 ∷ []) (+∞ ∷ nat 7 ∷ [])
 unfolding open_ambient
 infinite = refl
 
@@ -81,7 +82,7 @@ window_of_2 = refl
 
 -- 5 doubles are one too few for a record of one row: 26 at record 1, and nothing is changed
 short_memory : ambient (forward empty none) (log_of (1f ∷ []) (1f ∷ [])) (+0 ∷ []) (1f ∷ []) 1 0 (nat 7 ∷ []) (nines 5) (results sevens sevens sevens)
-    ≡ logging (Refusal 26 nan 1) (nat 7 ∷ []) (nines 5) sevens sevens sevens
+    ≡ logging (Refusal WorkLength nan 1) (nat 7 ∷ []) (nines 5) sevens sevens sevens
 unfolding open_ambient
 short_memory = refl
 
@@ -90,7 +91,7 @@ abbrev one_entry : Csr
 one_entry = csr 1 (0 ∷ 1 ∷ []) (0 ∷ []) (1f ∷ [])
 
 short_of_entries : ambient (forward one_entry (some (nat 2 ∷ []))) (log_of (1f ∷ []) (1f ∷ [])) (+0 ∷ []) (1f ∷ []) 1 0 (nat 7 ∷ []) (nines 6) (results sevens sevens sevens)
-    ≡ logging (Refusal 26 nan 1) (nat 7 ∷ []) (nines 6) sevens sevens sevens
+    ≡ logging (Refusal WorkLength nan 1) (nat 7 ∷ []) (nines 6) sevens sevens sevens
 unfolding open_ambient
 short_of_entries = refl
 
@@ -101,13 +102,13 @@ enough_for_entries = refl
 
 -- a negative duration at record 2: the field of record 1
 negative_time : ambient (forward empty none) (log_of (1f ∷ -1 ∷ []) (1f ∷ 1f ∷ [])) (+0 ∷ []) (1f ∷ []) 1 0 (nat 7 ∷ []) (nines 7) (results sevens sevens sevens)
-    ≡ logging (Refusal 14 -1 2) (1f ∷ []) (replicate 6 +0 ++ nines 1) (1f ∷ nat 7 ∷ []) (1f ∷ nat 7 ∷ []) (1f ∷ nat 7 ∷ [])
+    ≡ logging (Refusal TauRange -1 2) (1f ∷ []) (replicate 6 +0 ++ nines 1) (1f ∷ nat 7 ∷ []) (1f ∷ nat 7 ∷ []) (1f ∷ nat 7 ∷ [])
 unfolding open_ambient
 negative_time = refl
 
 -- an infinite level: 17 of record 1 tells load x level
 infinite_level : ambient (forward empty none) (log_of (1f ∷ []) (+∞ ∷ [])) (+0 ∷ []) (-1 ∷ []) 1 0 (nat 7 ∷ []) (nines 6) (results sevens sevens sevens)
-    ≡ logging (Refusal 17 (bits 0xfff0000000000000) 1) (nat 7 ∷ []) (nines 6) sevens sevens sevens
+    ≡ logging (Refusal VectorNotFinite (bits 0xfff0000000000000) 1) (nat 7 ∷ []) (nines 6) sevens sevens sevens
 unfolding open_ambient
 infinite_level = refl
 
@@ -167,6 +168,6 @@ module _ (memory : List Float) where
   no_places = refl
 
 -- the matrix before all: no rows
-no_rows : ambient (forward (csr 0 (0 ∷ []) [] []) none) (log_of [] []) [] [] 0 0 (nat 7 ∷ []) [] (results [] [] []) ≡ logging (Refusal 1 (nat 1) 0) (nat 7 ∷ []) [] [] [] []
+no_rows : ambient (forward (csr 0 (0 ∷ []) [] []) none) (log_of [] []) [] [] 0 0 (nat 7 ∷ []) [] (results [] [] []) ≡ logging (Refusal RowStartsLength (nat 1) 0) (nat 7 ∷ []) [] [] [] []
 unfolding open_ambient
 no_rows = refl

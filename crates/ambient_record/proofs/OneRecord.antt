@@ -15,8 +15,7 @@ use Rattle.lists.proofs.Window.{length_splice, window_splice_same}
 use Rattle.vectors.specs.Vectors.{scale}
 use Rattle.vectors.proofs.Laws.{length_scale}
 use Rattle.checks.specs.First.{Check, first}
-use Rattle.checks.specs.declared.Checked.{Checked}
-use Rattle.checks.specs.declared.Checked.TheVariants.{Sound, Refused}
+use Rattle.checks.specs.First.{Checked}
 use Rattle.checks.proofs.First.{and_then, first_append, sound_on, refused_up, passes, ends_sound, not_eq}
 use Rattle.general_operator.specs.Csr.{Csr, csr, row_sum_norm}
 use Rattle.generator_action.specs.Mass.{Mass, given, quotients}
@@ -38,12 +37,14 @@ use Rattle.combination.proofs.Cleared.{clear_over, cleared_less}
 use Rattle.taylor_schedule.proofs.Stored.{quotients_rows}
 use Rattle.taylor_job.specs.Calls.{Fields, after_plan, report, swept_fields, combination_checks, combination_run, phi_combination}
 use Rattle.taylor_job.specs.Inner.{Allowed, plan_by, operator_by, job_end}
-use Rattle.taylor_job.specs.declared.TaylorAnswer.{TaylorAnswer}
-use Rattle.taylor_job.specs.declared.TaylorAnswer.TheVariants as taylor
+use Rattle.taylor_job.specs.Answer.{TaylorAnswer}
 use Rattle.taylor_job.proofs.Jobs.{planned}
 use Rattle.ambient_checks.specs.Inner.{early_checks, record_job}
 use Rattle.ambient_record.specs.Record.{wider, record_call}
 use Rattle.ambient_record.specs.Inner.{record_end}
+use Rattle.checks.specs.Reasons.{Sound, Refused}
+use Rattle.checks.specs.declared.Reason.TheVariants.{OutputLength, VectorLength}
+use Rattle.checks.specs.declared.Reason.{Reason}
 
 pub spliced_long : (p : ℕ) (xs w₀ : List Float) {w₁ : List Float} → w₁ ≡ splice p xs w₀ → length w₁ ≡ length w₀
 spliced_long p xs w₀ e = ap length e ∙ length_splice p xs w₀
@@ -128,7 +129,7 @@ module _
 
   lengths_pass : Sound ≡ first (length_checks (length out) g.n (length w) (2 * g.n))
   unfolding length_checks
-  lengths_pass = passes 15 _ _ (not_eq lo) (passes 16 _ [] (not_eq (length-append v f ∙ omega (arith, lv, long))) ends_sound)
+  lengths_pass = passes OutputLength _ _ (not_eq lo) (passes VectorLength _ [] (not_eq (length-append v f ∙ omega (arith, lv, long))) ends_sound)
 
   early : {r : Checked} → r ≡ first (early_checks tau level v load) → r ≡ first (vector_checks g.n (plan_checks tau M_MAX) 2 w (length out))
   unfolding vector_checks vector_checks_by
@@ -137,10 +138,10 @@ module _
       (e ∙ between (plan_checks tau M_MAX) (length_checks (length out) g.n (length w) (2 * g.n)) (finite_checks w) lengths_pass)
 
   module _ (gs : List Check) (sound : Sound ≡ first gs) {r : Checked} (fr : r ≡ first (early_checks tau level v load)) where
-    pub record_refused : {k : ℕ} {x : Float} → r ≡ Refused k x → ends (taylor.Refusal k x) out w₀ ≡ record_call (after_checks gs a m g) tau level v load out w₀
+    pub record_refused : {k : Reason} {x : Float} → r ≡ Refused k x → ends (Refused k x) out w₀ ≡ record_call (after_checks gs a m g) tau level v load out w₀
     unfolding record_call phi_combination combination_checks
     record_refused e =
-        refused_by taylor.Refusal _ out w₀ _ e (sound_on gs _ refl sound (rw rows (refused_up (vector_checks g.n (plan_checks tau M_MAX) 2 w (length out)) _ e (early fr))))
+        refused_by Refused _ out w₀ _ e (sound_on gs _ refl sound (rw rows (refused_up (vector_checks g.n (plan_checks tau M_MAX) 2 w (length out)) _ e (early fr))))
 
   module _ {j : Job} (ej : j ≡ record_job g tau level load (length w₀)) (ec : j.checked ≡ Sound) where
     room : taylor_need g.n 1 g.stored ≤ length w₀ - g.n
@@ -170,9 +171,9 @@ module _
         (rw (← ok.norm, rows, behind) (sound_on (vector_checks g.n (plan_checks tau M_MAX) 2 w (length out)) _ er (early fr) refl))
         ∙ ap first (sym (checks_wider (after_checks gs a m g) tau M_MAX w (length out) (length w₀)))
 
-    pub record_not_admitted : {k : ℕ} {x : Float} → j.checked ≡ Refused k x → ends (taylor.Refusal k x) out w₀ ≡ record_call (after_checks gs a m g) tau level v load out w₀
+    pub record_not_admitted : {k : Reason} {x : Float} → j.checked ≡ Refused k x → ends (Refused k x) out w₀ ≡ record_call (after_checks gs a m g) tau level v load out w₀
     unfolding record_call phi_combination
-    record_not_admitted e = refused_by taylor.Refusal _ out w₀ _ e told
+    record_not_admitted e = refused_by Refused _ out w₀ _ e told
 
     module _ (ec : j.checked ≡ Sound) where
       -- the end with n doubles more
@@ -205,7 +206,7 @@ module _
           let ly = length_start g.n v 1 J.inv (omega (arith, lv)) in
           let field : window 0 (g.n + 1) w₁ ≡ y = ap (window 0 (g.n + 1)) start ∙ window_splice_same 0 (g.n + 1) y w₀ ly (omega (arith, record_fits ej ec)) in
           let clear = clear_over more 0 y w₀ start (within ly) in
-          runs taylor.Refusal _ out w₀ _ ec told
+          runs Refused _ out w₀ _ ec told
           (ran
           ∙ (λ i. ends (report p (run (field i) p).applied) (run (field i) p).fields (clear i))
           ∙ (rw ej at (planned_wider (run y)))

@@ -4,7 +4,7 @@
 ghost use Rattle.std.specs.Prelude.{◌≡◌, List, ◌+◌, ◌≤◌, length};
 ghost use Rattle.lists.specs.Window.{window};
 ghost use Rattle.checks.specs.First.{Check, first};
-ghost use Rattle.checks.specs.declared.Checked.TheVariants.{Sound};
+ghost use Rattle.checks.specs.Reasons.{Sound};
 ghost use Rattle.general_operator.specs.Csr.{csr};
 ghost use Rattle.generator_action.specs.Mass.{given};
 ghost use Rattle.generator_action.specs.Known.{Passed};
@@ -16,7 +16,7 @@ ghost use Rattle.ambient_checks.specs.Inner.{field_of};
 ghost use Rattle.ambient_record.specs.Record.{record_call};
 ghost use Rattle.ambient_record.specs.Inner.{record_end};
 
-use checks::Checked;
+use checks::Refusal;
 use generator_action::Shape;
 use phi_action_helpers::SweepArgs;
 use taylor_job::TaylorAnswer;
@@ -31,7 +31,7 @@ fn run_record(
     out: &mut [f64],
     work: &mut [f64],
     j: Job,
-) -> TaylorAnswer
+) -> Result<TaylorReport, Refusal>
     requires allowed { Allowed starts.now cols.now vals.now mass.now work.old j }
     requires coupled { Coupled j.b j.g.n j.d (length out.old) × (length out.old ≡ j.g.n) × (j.need + j.g.n ≤ length work.old) }
     ensures { ends result out.new work.new ≡ record_end j (matrix_of j.g starts.now cols.now vals.now mass.now) (swept_fields (operator_by j (matrix_of j.g starts.now cols.now vals.now mass.now) out.old) j.tau (window 0 (j.g.n + j.d) work.old)) work.old }
@@ -66,20 +66,14 @@ pub fn record_call(
     load: &[f64],
     out: &mut [f64],
     work: &mut [f64],
-) -> TaylorAnswer
+) -> Result<TaylorReport, Refusal>
     requires passed { Passed (csr g.n starts.now cols.now vals.now) (given g.with_mass mass.now) g }
     requires field_len { (length field.now ≡ g.n) × (length load.now ≡ g.n) × (length out.old ≡ g.n) }
     ensures { (gs : List Check) → Sound ≡ first gs → ends result out.new work.new ≡ record_call (after_checks gs (csr g.n starts.now cols.now vals.now) (given g.with_mass mass.now) g) duration level (field_of initial field.now out.old) load.now out.old work.old }
 {
-    let early = record_checks::check_record(duration, level, initial, field, out, load);
-    let Checked::Sound = early else {
-        return TaylorAnswer::Refusal(checks::number(early), checks::reported(early));
-    };
+    record_checks::check_record(duration, level, initial, field, out, load)?;
     let j = record_checks::admit_record(g, duration, level, load, work.len());
-    let checked = j.checked;
-    let Checked::Sound = checked else {
-        return TaylorAnswer::Refusal(checks::number(checked), checks::reported(checked));
-    };
+    j.checked?;
     record_start::start_record(initial, field, out, g.n, j.inv, work);
     record_start::scale_into(load, level, out);
     run_record(starts, cols, vals, mass, out, work, j)

@@ -7,6 +7,7 @@ ghost use Rattle.combination.specs.Call.{ends};
 ghost use Rattle.ambient_turns.specs.Ambient.{settle};
 ghost use Rattle.ambient_turns.specs.Inner.{turn_at, results_of, shown_in};
 
+use checks::Refusal;
 use taylor_job::TaylorAnswer;
 
 // A refusal's number and double with the record that met it, from 1 (0: before any record); the record after which the temperature is NaN; or all done.
@@ -21,7 +22,7 @@ pub enum AmbientAnswer {
 pub fn settle(
     i: usize,
     node: usize,
-    answer: TaylorAnswer,
+    answer: Result<TaylorReport, Refusal>,
     out: &[f64],
     temperatures: &mut [f64],
 ) -> AmbientAnswer
@@ -31,7 +32,7 @@ pub fn settle(
 {
     let record = i as u32 + 1;
     match answer {
-        TaylorAnswer::Refusal(k, x) => AmbientAnswer::Refusal(k, x, record),
+        Err(Refusal { reason: k, value: x }) => AmbientAnswer::Refusal(k, x, record),
         TaylorAnswer::Result(_) => {
             let t = out[node];
             if t != t {

@@ -4,6 +4,7 @@
 ghost use Rattle.std.specs.Prelude.{◌≡◌};
 ghost use Rattle.answers.specs.Told.{numbers, matrix_numbers, join_numbers, taylor_numbers, krylov_numbers, phi_numbers, run_numbers, options, solver};
 
+use checks::Refusal;
 use generator_action::MatrixAnswer;
 use join_rows::JoinAnswer;
 use krylov_job::{KrylovAnswer, KrylovPhiOptions};
@@ -11,11 +12,11 @@ use phi_solver::{PhiAnswer, PhiSolver};
 use taylor_job::TaylorAnswer;
 
 // The result is 0 or the refusal's number; `value` is the norm or the refusal's double.
-pub fn matrix_numbers(answer: MatrixAnswer, value: &mut f64, row: &mut usize) -> u32
+pub fn matrix_numbers(answer: Result<Largest, Refusal>, value: &mut f64, row: &mut usize) -> u32
     ensures { numbers result value.new row.new 0 0 ≡ matrix_numbers answer }
 {
     match answer {
-        MatrixAnswer::Refusal(k, x) => {
+        Err(Refusal { reason: k, value: x }) => {
             *value = x;
             *row = 0;
             k
@@ -29,11 +30,11 @@ pub fn matrix_numbers(answer: MatrixAnswer, value: &mut f64, row: &mut usize) ->
 }
 
 // The result is 0 or the refusal's number; `value` is 0 or the refusal's double.
-pub fn join_numbers(answer: JoinAnswer, value: &mut f64, entries: &mut usize) -> u32
+pub fn join_numbers(answer: Result<usize, Refusal>, value: &mut f64, entries: &mut usize) -> u32
     ensures { numbers result value.new entries.new 0 0 ≡ join_numbers answer }
 {
     match answer {
-        JoinAnswer::Refusal(k, x) => {
+        Err(Refusal { reason: k, value: x }) => {
             *value = x;
             *entries = 0;
             k
@@ -48,7 +49,7 @@ pub fn join_numbers(answer: JoinAnswer, value: &mut f64, entries: &mut usize) ->
 
 // The result is 0 or the refusal's number; `value` is mu or the refusal's double.
 pub fn taylor_numbers(
-    answer: TaylorAnswer,
+    answer: Result<TaylorReport, Refusal>,
     value: &mut f64,
     s: &mut u32,
     m: &mut u32,
@@ -57,7 +58,7 @@ pub fn taylor_numbers(
     ensures { numbers result value.new s.new m.new applications.new ≡ taylor_numbers answer }
 {
     match answer {
-        TaylorAnswer::Refusal(k, x) => {
+        Err(Refusal { reason: k, value: x }) => {
             *value = x;
             *s = 0;
             *m = 0;
@@ -76,7 +77,7 @@ pub fn taylor_numbers(
 
 // The result is 0 or the refusal's number; `value` is the estimate or the refusal's double. A refusal has the counts and steps 0.
 pub fn krylov_numbers(
-    answer: KrylovAnswer,
+    answer: Result<KrylovPhiReport, Refusal>,
     value: &mut f64,
     substeps: &mut usize,
     matvecs: &mut usize,
@@ -87,7 +88,7 @@ pub fn krylov_numbers(
     ensures { run_numbers result value.new substeps.new matvecs.new rejected.new shortest.new last.new ≡ krylov_numbers answer }
 {
     match answer {
-        KrylovAnswer::Refusal(k, x) => {
+        Err(Refusal { reason: k, value: x }) => {
             *value = x;
             *substeps = 0;
             *matvecs = 0;

@@ -9,10 +9,12 @@ use lib.Ieee.{Float}
 use borrow.Author.Tests.{eq-eqb, ne_eqb}
 use Rattle.doubles.specs.F64.{nat}
 use Rattle.checks.specs.First.{Check, refuse, first, before}
-use Rattle.checks.specs.declared.Checked.{Checked}
-use Rattle.checks.specs.declared.Checked.TheVariants.{Sound, Refused}
+use Rattle.checks.specs.First.{Checked}
 use Rattle.checks.proofs.First.{and_then, first_cons, first_append, stops, not_ne}
 use Rattle.checks.proofs.Numbers.{before_number}
+use Rattle.checks.specs.Reasons.{Refused}
+use Rattle.std.specs.Prelude.{Ok, Err}
+use Rattle.checks.specs.declared.Reason.{Reason}
 
 -- both refuse; where the number is k, the first reports x
 pub record Alike (k : ℕ) (x : Float) (c d : Checked) : Type 0 where
@@ -23,7 +25,7 @@ pub record Alike (k : ℕ) (x : Float) (c d : Checked) : Type 0 where
 
 module _ {k : ℕ} {x : Float} where
   -- the same refusal, by a check of another number
-  same : {c d : Checked} (j : ℕ) (y : Float) → (j ≡ k → ⊥) → c ≡ Refused j y → d ≡ Refused j y → Alike k x c d
+  same : {c d : Checked} (j : Reason) (y : Float) → (j ≡ k → ⊥) → c ≡ Refused j y → d ≡ Refused j y → Alike k x c d
   same j y other ec ed = record { number = j; reported = y; here = ec ∙ ap (λ (b : Bool). Refused j (cond b x y)) (sym (ne_eqb j k other)); there = ed }
 
   -- the check numbered k holds in both: whatever stands behind it
@@ -42,8 +44,8 @@ module _ {k : ℕ} {x : Float} where
   behind ps cs ds none a = go (first ps) refl
     where
       go : (r : Checked) → r ≡ first ps → Alike k x (first (ps ++ cs)) (first (ps ++ ds))
-      go Sound e = rw (first_append ps cs, first_append ps ds, ← e) a
-      go (Refused j y) e = same j y (before_number k ps (e ∙ ap first (sym none))) (rw (first_append ps cs, ← e)) (rw (first_append ps ds, ← e))
+      go (Ok _) e = rw (first_append ps cs, first_append ps ds, ← e) a
+      go (Err r) e = same r.reason r.value (before_number k ps (e ∙ ap first (sym none))) (rw (first_append ps cs, ← e)) (rw (first_append ps ds, ← e))
 
   -- behind one check of another number, which then fails
   pub past : (c : Check) (cs ds : List Check) → (c.number ≡ k → ⊥) → (c.holds ≡ false → Alike k x (first cs) (first ds)) → Alike k x (first (c ∷ cs)) (first (c ∷ ds))

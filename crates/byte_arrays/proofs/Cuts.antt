@@ -13,19 +13,22 @@ use lib.Ieee.{Float}
 use borrow.Author.Tests.{lt-ltb, le-ltb}
 use Rattle.doubles.specs.F64.{nat}
 use Rattle.checks.specs.First.{Check, refuse, first, before}
-use Rattle.checks.specs.declared.Checked.{Checked}
-use Rattle.checks.specs.declared.Checked.TheVariants.{Sound, Refused}
+use Rattle.checks.specs.First.{Checked}
 use Rattle.checks.proofs.First.{and_then, first_append, refused_up}
 use Rattle.checks.proofs.Numbers.{before_append}
 use Rattle.generator_action.specs.Mass.{Mass, given}
 use Rattle.byte_arrays.specs.Inner.{long_told, lengths_told}
 use Rattle.byte_arrays.proofs.Alike.{Alike, in_front, behind, wrong_lengths}
 use Rattle.byte_arrays.proofs.Parts.{Part, Columns}
+use Rattle.checks.specs.Reasons.{Sound, Refused}
+use Rattle.std.specs.Prelude.{Ok, Err}
+use Rattle.checks.specs.declared.Reason.TheVariants.{RowStartsLength, MassLength, OutputLength, VectorLength}
+use Rattle.checks.specs.declared.Reason.{Reason}
 
 -- ---- an answer, with the double of number k where a list of c elements was cut
 unfoldable pub again : ℕ → ℕ → Checked → Checked
-again k c Sound = Sound
-again k c (Refused j x) = Refused j (long_told k c j x)
+again k c (Ok _) = Sound
+again k c (Err r) = Refused r.reason (long_told k c r.reason r.value)
 
 pub long_few : (k c j : ℕ) (x : Float) → c ≤ 512 → long_told k c j x ≡ x
 unfolding long_told
@@ -33,8 +36,8 @@ long_few k c j x few = rw (le-ltb 512 c few)
 
 again_few : (k c : ℕ) (y : Checked) → c ≤ 512 → y ≡ again k c y
 unfolding again
-again_few k c Sound few = refl
-again_few k c (Refused j x) few = ap (Refused j) (sym (long_few k c j x few))
+again_few k c (Ok _) few = refl
+again_few k c (Err r) few = ap (Refused r.reason) (sym (long_few k c r.reason r.value few))
 
 again_alike : {k c : ℕ} {x y : Checked} → 512 < c → Alike k (nat c) x y → x ≡ again k c y
 unfolding again long_told
@@ -47,7 +50,7 @@ again_sound : (k c : ℕ) {x y : Checked} → x ≡ again k c y → y ≡ Sound 
 unfolding again
 again_sound k c e s = e ∙ ap (again k c) s
 
-pub not_sound : {A : Type 0} {j : ℕ} {x : Float} → Refused j x ≡ Sound → A
+pub not_sound : {A : Type 0} {j : Reason} {x : Float} → Refused j x ≡ Sound → A
 not_sound e = let z : zero ≡ 1 = cc in absurd (omega (arith, z))
 
 -- x is what a list answers, y what its part does
@@ -80,19 +83,19 @@ both_in ps xs ys cs ds β = (e xs cs β.here ∙ sym (e ys ds β.there), λ s. n
     e zs rs d = first_append ps (zs ++ rs) ∙ ap (and_then (first ps)) (first_append zs rs ∙ ap (λ (r : Checked). and_then r (first rs)) d)
 
     never : (r : Checked) → and_then r (Refused β.number β.reported) ≡ Sound → ⊥
-    never Sound s = not_sound s
-    never (Refused j x) s = not_sound s
+    never (Ok _) s = not_sound s
+    never (Err r) s = not_sound s
 
 -- ---- the checks of a matrix, by its row starts, columns and mass: too long lists are refused alike, and none of the checks is numbered 15 or 16
 pub record Refuses (entries : ℕ) (G : List ℕ → List ℕ → Mass → List Check) : Type 0 where
   pub long_starts : (s t cols : List ℕ) (mass : Mass) → 512 < length s → 512 ≤ length t → Alike 1 (nat (length s)) (first (G s cols mass)) (first (G t cols mass))
   pub long_mass : (s cols : List ℕ) (m p : List Float) → 512 < length m → 512 ≤ length p → Alike 7 (nat (length m)) (first (G s cols (some m))) (first (G s cols (some p)))
   pub other_columns : (s cols other : List ℕ) (mass : Mass) → (length cols ≡ entries → ⊥) → (length other ≡ entries → ⊥) → Both (first (G s cols mass)) (first (G s other mass))
-  pub not_15 : (s cols : List ℕ) (mass : Mass) → before 15 (G s cols mass) ≡ G s cols mass
-  pub not_16 : (s cols : List ℕ) (mass : Mass) → before 16 (G s cols mass) ≡ G s cols mass
+  pub not_15 : (s cols : List ℕ) (mass : Mass) → before OutputLength (G s cols mass) ≡ G s cols mass
+  pub not_16 : (s cols : List ℕ) (mass : Mass) → before VectorLength (G s cols mass) ≡ G s cols mass
 
 -- with more checks behind
-pub refuses_on : {entries : ℕ} {G : List ℕ → List ℕ → Mass → List Check} → Refuses entries G → (H : List ℕ → List ℕ → Mass → List Check) → ((s cols : List ℕ) (mass : Mass) → before 15 (H s cols mass) ≡ H s cols mass) → ((s cols : List ℕ) (mass : Mass) → before 16 (H s cols mass) ≡ H s cols mass) → Refuses entries (λ s cols mass. G s cols mass ++ H s cols mass)
+pub refuses_on : {entries : ℕ} {G : List ℕ → List ℕ → Mass → List Check} → Refuses entries G → (H : List ℕ → List ℕ → Mass → List Check) → ((s cols : List ℕ) (mass : Mass) → before OutputLength (H s cols mass) ≡ H s cols mass) → ((s cols : List ℕ) (mass : Mass) → before VectorLength (H s cols mass) ≡ H s cols mass) → Refuses entries (λ s cols mass. G s cols mass ++ H s cols mass)
 refuses_on {G = G} R H h h' =
     record {
       long_starts = λ s t cols mass ls lt. in_front _ _ _ _ (R.long_starts s t cols mass ls lt);
@@ -107,7 +110,7 @@ abbrev pub Uncut : List ℕ → List ℕ → List ℕ → List ℕ → Mass → 
 Uncut s s₁ cols cols₁ mass mass₁ cs cm = (s₁ ≡ s) × (cols₁ ≡ cols) × (mass₁ ≡ mass) × (cs ≤ 512) × (cm ≤ 512)
 
 -- ---- between checks ps in front and checks J behind
-module _ (entries : ℕ) (few : entries ≤ 512) (G : List ℕ → List ℕ → Mass → List Check) (R : Refuses entries G) (ps : List Check) (free_1 : before 1 ps ≡ ps) (free_7 : before 7 ps ≡ ps) (J : List ℕ → List ℕ → Mass → List Check) where
+module _ (entries : ℕ) (few : entries ≤ 512) (G : List ℕ → List ℕ → Mass → List Check) (R : Refuses entries G) (ps : List Check) (free_1 : before RowStartsLength ps ≡ ps) (free_7 : before MassLength ps ≡ ps) (J : List ℕ → List ℕ → Mass → List Check) where
   abbrev pub answers : List ℕ → List ℕ → Mass → Checked
   answers s cols mass = first (ps ++ (G s cols mass ++ J s cols mass))
 
@@ -149,7 +152,7 @@ pub record Recut (cs cm co cv : ℕ) (x y : Checked) (Same : Type 0) : Type 0 wh
   pub told : x ≡ retold cs cm co cv y
   pub same : y ≡ Sound → Same × (co ≤ 512) × (cv ≤ 512)
 
-pub retold_refused : (cs cm co cv j : ℕ) (x : Float) → retold cs cm co cv (Refused j x) ≡ Refused j (lengths_told cs cm co cv j x)
+pub retold_refused : (j : Reason) (cs cm co cv : ℕ) (x : Float) → retold cs cm co cv (Refused j x) ≡ Refused j (lengths_told cs cm co cv j x)
 unfolding again
 retold_refused cs cm co cv j x = refl
 
@@ -162,13 +165,13 @@ few_told cs cm co cv j x ls lm lo lv =
     ∙ long_few 16 cv j x lv
 
 -- ---- a job: a limit, checks `times`, 15 and 16, and others
-module _ (entries : ℕ) (few : entries ≤ 512) (G : List ℕ → List ℕ → Mass → List Check) (R : Refuses entries G) (ps : List Check) (free : (before 1 ps ≡ ps) × (before 7 ps ≡ ps) × (before 15 ps ≡ ps) × (before 16 ps ≡ ps))
-    (limit : Check) (low : limit.number ≤ 13) (times : List Check) (not_15 : before 15 times ≡ times) (not_16 : (c : Check) → before 16 (times ++ (refuse 15 c.holds c.reported ∷ [])) ≡ times ++ (refuse 15 c.holds c.reported ∷ []))
+module _ (entries : ℕ) (few : entries ≤ 512) (G : List ℕ → List ℕ → Mass → List Check) (R : Refuses entries G) (ps : List Check) (free : (before RowStartsLength ps ≡ ps) × (before MassLength ps ≡ ps) × (before OutputLength ps ≡ ps) × (before VectorLength ps ≡ ps))
+    (limit : Check) (low : limit.number ≤ 13) (times : List Check) (not_15 : before OutputLength times ≡ times) (not_16 : (c : Check) → before VectorLength (times ++ (refuse OutputLength c.holds c.reported ∷ [])) ≡ times ++ (refuse OutputLength c.holds c.reported ∷ []))
     (wanted expected : List ℕ → List ℕ → Mass → ℕ) (few_wanted : (s cols : List ℕ) (mass : Mass) → limit.holds ≡ false → wanted s cols mass ≤ 256) (few_expected : (s cols : List ℕ) (mass : Mass) → limit.holds ≡ false → expected s cols mass ≤ 256)
     (others : List ℕ → List ℕ → Mass → List Float → List Check) where
   abbrev of_job : ℕ → List Float → List ℕ → List ℕ → Mass → List Check
   of_job o v s cols mass =
-      limit ∷ (times ++ (refuse 15 (not (eqb o (wanted s cols mass))) (nat o) ∷ refuse 16 (not (eqb (length v) (expected s cols mass))) (nat (length v)) ∷ others s cols mass v))
+      limit ∷ (times ++ (refuse OutputLength (not (eqb o (wanted s cols mass))) (nat o) ∷ refuse VectorLength (not (eqb (length v) (expected s cols mass))) (nat (length v)) ∷ others s cols mass v))
 
   abbrev pub job_answers : List ℕ → List ℕ → Mass → List Float → ℕ → Checked
   job_answers s cols mass v o = first (ps ++ (G s cols mass ++ of_job o v s cols mass))
@@ -179,10 +182,10 @@ module _ (entries : ℕ) (few : entries ≤ 512) (G : List ℕ → List ℕ → 
       (wrong_lengths 15 (G s cols mass) limit times o p (wanted s cols mass) _ _ (R.not_15 s cols mass) (λ e. omega (arith, low, e)) not_15 (few_wanted s cols mass) (omega (arith, lo)) (omega (arith, lp)))
 
   abbrev of_output : List ℕ → List ℕ → Mass → ℕ → Check
-  of_output s cols mass o = refuse 15 (not (eqb o (wanted s cols mass))) (nat o)
+  of_output s cols mass o = refuse OutputLength (not (eqb o (wanted s cols mass))) (nat o)
 
   abbrev of_vectors : List ℕ → List ℕ → Mass → List Float → List Check
-  of_vectors s cols mass v = refuse 16 (not (eqb (length v) (expected s cols mass))) (nat (length v)) ∷ others s cols mass v
+  of_vectors s cols mass v = refuse VectorLength (not (eqb (length v) (expected s cols mass))) (nat (length v)) ∷ others s cols mass v
 
   alike_vectors : (s cols : List ℕ) (mass : Mass) (v p : List Float) (o : ℕ) → 512 < length v → 512 ≤ length p → Alike 16 (nat (length v)) (job_answers s cols mass v o) (job_answers s cols mass p o)
   alike_vectors s cols mass v p o lv lp =

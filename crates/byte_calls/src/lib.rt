@@ -6,6 +6,7 @@ ghost use Rattle.answers.specs.Told.{numbers, run_numbers, taylor_numbers, krylo
 ghost use Rattle.byte_arrays.specs.Inner.{lengths_told};
 ghost use Rattle.byte_calls.specs.Inner.{taylor_told, krylov_told, revalued};
 
+use checks::Refusal;
 use krylov_job::KrylovAnswer;
 use taylor_job::TaylorAnswer;
 
@@ -75,20 +76,20 @@ fn told_krylov(
     }
 }
 
-pub fn of_taylor(answer: TaylorAnswer) -> Told
+pub fn of_taylor(answer: Result<TaylorReport, Refusal>) -> Told
     ensures { taylor_told result ≡ taylor_numbers answer }
 {
     match answer {
-        TaylorAnswer::Refusal(k, x) => told_taylor(k, x, 0, 0, 0),
+        Err(Refusal { reason: k, value: x }) => told_taylor(k, x, 0, 0, 0),
         TaylorAnswer::Result(r) => told_taylor(0, r.mu, r.s, r.m, r.applications),
     }
 }
 
-pub fn of_krylov(answer: KrylovAnswer) -> Told
+pub fn of_krylov(answer: Result<KrylovPhiReport, Refusal>) -> Told
     ensures { krylov_told result ≡ krylov_numbers answer }
 {
     match answer {
-        KrylovAnswer::Refusal(k, x) => told_krylov(k, x, 0, 0, 0, 0.0, 0.0),
+        Err(Refusal { reason: k, value: x }) => told_krylov(k, x, 0, 0, 0, 0.0, 0.0),
         KrylovAnswer::Result(r) => told_krylov(
             0,
             r.est_error,

@@ -53,8 +53,11 @@ first_append (c ∷ cs) ys =
 
 -- ---- what a function that makes some of the checks hands to its caller
 -- two refusals are one where their reasons and their doubles are
-err_is : {A E : Type 0} {x y : E} → ◌≡◌ {A = Result A E} (Err x) (Err y) → x ≡ y
+pub err_is : {A E : Type 0} {x y : E} → ◌≡◌ {A = Result A E} (Err x) (Err y) → x ≡ y
 err_is e = cc
+
+pub ok_is : {A E : Type 0} {x y : A} → ◌≡◌ {A = Result A E} (Ok x) (Ok y) → x ≡ y
+ok_is e = cc
 
 pub same_reason : {A : Type 0} {j k : Reason} {x y : Float} → Refused {A = A} j x ≡ Refused {A = A} k y → j ≡ k
 same_reason e = ap (λ (r : Refusal). r.reason) (err_is e)

@@ -16,10 +16,11 @@ use Rattle.lists.proofs.Bounds.{lt_or_le}
 use Rattle.lists.proofs.Find.{find_ext, find_front, find_behind}
 use Rattle.doubles.specs.F64.{+0, is_finite}
 use Rattle.checks.specs.First.{Check, first}
-use Rattle.checks.specs.declared.Checked.TheVariants.{Refused}
 use Rattle.checks.proofs.First.{passes_find, stops_find}
 use Rattle.combination.specs.Combination.{further, vector, combination_start}
 use Rattle.combination.specs.Checks.{not_finite_at, finite_checks}
+use Rattle.checks.specs.Reasons.{Refused}
+use Rattle.checks.specs.declared.Reason.TheVariants.{VectorNotFinite}
 
 -- ---- the vectors behind w_0
 -- as they are lent, a part from n to the end
@@ -69,7 +70,7 @@ module _ (xs ys : List Float) (cs : List Check) where
       let e = find_ext (not_finite_at (xs ++ ys)) (not_finite_at xs) (length xs) within in
       let found = sym e ∙ find_front (not_finite_at (xs ++ ys)) (length xs) (length ys) (omega (arith, e)) ∙ ap (find (not_finite_at (xs ++ ys))) (sym (length-append xs ys)) in
       sym (stops_find 17 (xs ++ ys) cs (not_finite_at (xs ++ ys)) (length (xs ++ ys)) found (omega (arith, length-append xs ys)))
-      ∙ ap (Refused 17) (get_or-append xs ys nan _ l)
+      ∙ ap (Refused VectorNotFinite) (get_or-append xs ys nan _ l)
       ∙ stops_find 17 xs (finite_checks ys ++ cs) (not_finite_at xs) (length xs) refl l
 
   found_behind : length xs ≤ find (not_finite_at xs) (length xs) → length xs + find (not_finite_at ys) (length ys) ≡ find (not_finite_at (xs ++ ys)) (length (xs ++ ys))
@@ -83,7 +84,7 @@ module _ (xs ys : List Float) (cs : List Check) where
   unfolding finite_checks
   then_behind l = elim (lt_or_le (find (not_finite_at ys) (length ys)) (length ys)) [
     | inl h ↦ sym (stops_find 17 (xs ++ ys) cs (not_finite_at (xs ++ ys)) (length (xs ++ ys)) (found_behind l) (omega (arith, length-append xs ys)))
-        ∙ ap (Refused 17) (get_or-append-add xs ys _ nan)
+        ∙ ap (Refused VectorNotFinite) (get_or-append-add xs ys _ nan)
         ∙ stops_find 17 ys cs (not_finite_at ys) (length ys) refl h
     | inr h ↦ sym (passes_find 17 _ cs (not_finite_at (xs ++ ys)) (length (xs ++ ys)) (found_behind l) (omega (arith, length-append xs ys)) refl)
         ∙ passes_find 17 _ cs (not_finite_at ys) (length ys) refl h refl

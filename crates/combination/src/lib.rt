@@ -6,7 +6,8 @@ ghost use Rattle.checks.specs.First.{Check, first};
 ghost use Rattle.expmv.specs.Select.{M_MAX};
 ghost use Rattle.combination.specs.Checks.{count_checks, index_checks, out_of_range, time_checks, degree_checks, plan_checks, memory_checks};
 
-use checks::Checked;
+use checks::{Checked, Reason, Refusal};
+
 
 fn wrong_count(count: usize) -> bool
     ensures { result ≡ (eqb count 0 || ltb 4 count) }
@@ -22,9 +23,9 @@ pub fn check_count(count: usize) -> Checked
     ensures { result ≡ first (count_checks count) }
 {
     if wrong_count(count) {
-        return Checked::Refused(12, float::count(count));
+        return Err(Refusal { reason: Reason::VectorCount, value: float::count(count) });
     }
-    Checked::Sound
+    Ok(())
 }
 
 // 13.
@@ -32,9 +33,9 @@ pub fn check_index(k: usize) -> Checked
     ensures { result ≡ first (index_checks k) }
 {
     if k > 3 {
-        return Checked::Refused(13, float::count(k));
+        return Err(Refusal { reason: Reason::IndexRange, value: float::count(k) });
     }
-    Checked::Sound
+    Ok(())
 }
 
 fn out_of_range(x: f64) -> bool
@@ -51,9 +52,9 @@ pub fn check_time(tau: f64) -> Checked
     ensures { result ≡ first (time_checks tau) }
 {
     if out_of_range(tau) {
-        return Checked::Refused(14, tau);
+        return Err(Refusal { reason: Reason::TauRange, value: tau });
     }
-    Checked::Sound
+    Ok(())
 }
 
 fn wrong_degree(cap: u32) -> bool
@@ -70,9 +71,9 @@ fn check_degree(cap: u32) -> Checked
     ensures { result ≡ first (degree_checks cap) }
 {
     if wrong_degree(cap) {
-        return Checked::Refused(33, float::not_a_number());
+        return Err(Refusal { reason: Reason::DegreeRange, value: float::not_a_number() });
     }
-    Checked::Sound
+    Ok(())
 }
 
 // 14 and 33 of a Taylor job.
@@ -89,16 +90,16 @@ pub fn check_memory(memory: usize, need: usize) -> Checked
     ensures { result ≡ first (memory_checks memory need) }
 {
     if memory < need {
-        return Checked::Refused(26, float::not_a_number());
+        return Err(Refusal { reason: Reason::WorkLength, value: float::not_a_number() });
     }
-    Checked::Sound
+    Ok(())
 }
 
 // The first of two answers in a row that refuses.
 pub fn and_then(a: Checked, b: Checked) -> Checked
     ensures { (xs ys : List Check) → a ≡ first xs → b ≡ first ys → result ≡ first (xs ++ ys) }
 {
-    let Checked::Sound = a else {
+    let Ok(()) = a else {
         return a;
     };
     b

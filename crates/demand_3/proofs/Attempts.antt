@@ -1,4 +1,4 @@
--- Each length tried was accepted or rejected: the substeps and the rejections together are the lengths tried, and before 28 eleven more. Assumes nothing.
+-- Each length tried was accepted or rejected: the substeps and the rejections together are the lengths tried, and before LengthsRejected eleven more. Assumes nothing.
 use mathlib.Core.Path.{◌≡◌, refl, sym, ap, ◌∙◌, subst}
 use mathlib.Core.Bool.{Bool, true, false}
 use mathlib.Core.List.{List, [], ◌∷◌}
@@ -17,6 +17,7 @@ use Rattle.krylov_advance.specs.Run.{State, End, finished, refused, applied_of, 
 use Rattle.demand_3.specs.Trace.{accepted_in, made, runs, trace, total, lengths, tried_on, attempts, Run, status_of, accepted_by, tried_by}
 use Rattle.trial_steps.proofs.Few.{Few, trials_few}
 use Rattle.demand_3.proofs.Counts.{reached, basis_of, trials_of, total_append, standing_state}
+use Rattle.checks.specs.declared.Reason.TheVariants.{LengthsRejected}
 
 -- the lengths judged: accepted or rejected
 abbrev pub judged : State → ℕ

@@ -8,7 +8,6 @@ use Prim.Native.Nat.{ℕ, ◌-◌}
 use lib.ListN.{length}
 use lib.Ieee.{Float}
 use Rattle.checks.specs.First.{Check, refuse, first, before}
-use Rattle.checks.specs.declared.Checked.TheVariants.{Sound}
 use Rattle.checks.proofs.First.{never_holds}
 use Rattle.checks.proofs.Numbers.{before_append}
 use Rattle.general_operator.specs.Csr.{Csr, row_sum_norm}
@@ -23,6 +22,7 @@ use Rattle.combination.proofs.Range.{in_range, no_23}
 use Rattle.taylor_job.specs.Calls.{combination_checks, action_checks}
 use Rattle.krylov_job.specs.KrylovCall.{bound, dimension, option_checks, bound_checks, run_checks, krylov_need, krylov_checks_by, krylov_checks}
 use Rattle.krylov_job.specs.declared.KrylovPhiOptions.{KrylovPhiOptions}
+use Rattle.checks.specs.Reasons.{Sound}
 
 -- what 23 was
 abbrev pub check_23 : Generator → Check

@@ -8,6 +8,7 @@ ghost use Rattle.generator_action.specs.Generator.{forward};
 ghost use Rattle.answers.specs.Told.{options};
 ghost use Rattle.exports_paused.specs.Told.{numbers_of, flag, counts_of, fits, held, no_run, run_of, state, written, start_state, ran, step_state, told, start_told, tolerance, step_told};
 
+use checks::Refusal;
 use krylov_advance::KrylovPhiReport;
 use paused_run::{PausedRun, StartAnswer, StepAnswer, Tolerance};
 use pow2::Scale;
@@ -137,7 +138,7 @@ pub fn write_run(run: PausedRun, numbers: &mut [f64], counts: &mut [usize])
 
 // The result is 0 or the refusal's number; `value` is the estimate or the refusal's double.
 pub fn start_state(
-    answer: StartAnswer,
+    answer: Result<PausedRun, Refusal>,
     numbers: &mut [f64],
     counts: &mut [usize],
     value: &mut f64,
@@ -145,7 +146,7 @@ pub fn start_state(
     ensures { state result value.new numbers.new counts.new ≡ start_state answer numbers.old counts.old }
 {
     match answer {
-        StartAnswer::Refusal(k, x) => {
+        Err(Refusal { reason: k, value: x }) => {
             *value = x;
             k
         }

@@ -16,6 +16,7 @@ ghost use Rattle.krylov_advance.specs.Run.{substep, spent, started, run, back, c
 ghost use Rattle.krylov_advance.specs.declared.KrylovPhiReport.{KrylovPhiReport};
 ghost use Rattle.krylov_advance.specs.Memory.{state_at, progress_at, end_at};
 
+use checks::{Reason, Refusal};
 use gram_schmidt::Krylov;
 use krylov_advance::{Control, KrylovPhiReport, Progress, RunAnswer};
 use phi_action_helpers::{Coupling, Layout};
@@ -57,7 +58,7 @@ fn spent(o: Progress) -> RunAnswer
     ensures { (l : Layout) (k : Krylov) (w : List Float) → end_at l k result w ≡ spent (progress_at l k o w) }
 {
     match o {
-        Progress::On(c, r) => RunAnswer::Refused(27, r.est_error, c, r),
+        Progress::On(c, r) => Err(Refusal { reason: Reason::SubstepLimit, value: r.est_error, c, r }),
         Progress::Finished(c, r) => RunAnswer::Finished(c, r),
         Progress::Refused(number, x, c, r) => RunAnswer::Refused(number, x, c, r),
     }

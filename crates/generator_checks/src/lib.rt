@@ -8,11 +8,11 @@ ghost use Rattle.doubles.specs.Sum.{sum};
 ghost use Rattle.checks.specs.First.{first};
 ghost use Rattle.general_operator.specs.Csr.{csr, Valid, size_sum};
 ghost use Rattle.generator_action.specs.Mass.{given, normalise, stored, bad_mass, mass_checks, sum_checks, norm_checks};
-ghost use Rattle.generator_action.specs.Answer.{number, matrix_answer};
+ghost use Rattle.generator_action.specs.Answer.{matrix_answer};
 ghost use Rattle.generator_action.specs.Known.{Finite, Dividing, Answered};
 
-use checks::Checked;
-use generator_action::{Largest, MatrixAnswer};
+use checks::{Checked, Reason, Refusal};
+use generator_action::Largest;
 
 fn is_bad_mass(x: f64) -> bool
     ensures { result ≡ bad_mass x }
@@ -41,16 +41,25 @@ pub fn check_mass(n: usize, starts: &[u32], mass: &[f64]) -> Checked
     ensures { (columns : List ℕ) (entries : List Float) → result ≡ first (mass_checks (csr n starts.now columns entries) mass.now) }
 {
     if mass.len() != n {
-        return Checked::Refused(7, float::count(mass.len()));
+        return Err(Refusal {
+            reason: Reason::MassLength,
+            value: float::count(mass.len()),
+        });
     }
     let i = first_bad_mass(mass);
     if i < mass.len() {
-        return Checked::Refused(8, mass[i]);
+        return Err(Refusal {
+            reason: Reason::MassRange,
+            value: mass[i],
+        });
     }
     if starts[0] != 0 {
-        return Checked::Refused(9, float::not_a_number());
+        return Err(Refusal {
+            reason: Reason::FirstRowStart,
+            value: float::not_a_number(),
+        });
     }
-    Checked::Sound
+    Ok(())
 }
 
 // The sum of the sizes of the entries from `from` up to `to`.
@@ -90,7 +99,7 @@ fn larger(l: Largest, s: f64, i: usize) -> Largest
 }
 
 // 11, and the norm of a matrix that has no mass.
-pub fn entry_norm(n: usize, starts: &[u32], cols: &[u32], vals: &[f64]) -> MatrixAnswer
+pub fn entry_norm(n: usize, starts: &[u32], cols: &[u32], vals: &[f64]) -> Result<Largest, Refusal>
     requires valid { Valid (csr n starts.now cols.now vals.now) }
     requires finite { Finite (csr n starts.now cols.now vals.now) }
     ensures { Answered (csr n starts.now cols.now vals.now) (norm_checks (csr n starts.now cols.now vals.now)) result }
@@ -103,9 +112,12 @@ pub fn entry_norm(n: usize, starts: &[u32], cols: &[u32], vals: &[f64]) -> Matri
         best = larger(best, s, row);
     }
     if !float::is_finite(best.norm) {
-        return MatrixAnswer::Refusal(11, best.norm);
+        return Err(Refusal {
+            reason: Reason::NormNotFinite,
+            value: best.norm,
+        });
     }
-    MatrixAnswer::Norm(best.norm, best.row)
+    Ok(best)
 }
 
 // 10, and the norm of the quotients, which are not stored.
@@ -115,7 +127,7 @@ pub fn quotient_norm(
     cols: &[u32],
     vals: &[f64],
     mass: &[f64],
-) -> MatrixAnswer
+) -> Result<Largest, Refusal>
     requires valid { Valid (csr n starts.now cols.now vals.now) }
     requires finite { Finite (csr n starts.now cols.now vals.now) }
     requires dividing { Dividing (csr n starts.now cols.now vals.now) mass.now }
@@ -127,11 +139,14 @@ pub fn quotient_norm(
         let to = starts[i + 1] as usize;
         let s = quotient_sum(vals, from, to, mass[i]);
         if !float::is_finite(s) {
-            return MatrixAnswer::Refusal(10, s);
+            return Err(Refusal {
+                reason: Reason::RowSumNotFinite,
+                value: s,
+            });
         }
         largest = larger(largest, s, i);
     }
-    MatrixAnswer::Norm(largest.norm, largest.row)
+    Ok(largest)
 }
 
 // 1 to 11, on any input; then the norm of Q, and the first row whose sum it is.
@@ -142,18 +157,12 @@ pub fn check_generator(
     vals: &[f64],
     with_mass: bool,
     mass: &[f64],
-) -> MatrixAnswer
+) -> Result<Largest, Refusal>
     ensures { result ≡ matrix_answer (csr n starts.now cols.now vals.now) (given with_mass mass.now) }
 {
-    let matrix = general_operator::validate_csr(n, starts, cols, vals);
-    let Checked::Sound = matrix else {
-        return MatrixAnswer::Refusal(checks::number(matrix), checks::reported(matrix));
-    };
+    general_operator::validate_csr(n, starts, cols, vals)?;
     if with_mass {
-        let masses = check_mass(n, starts, mass);
-        let Checked::Sound = masses else {
-            return MatrixAnswer::Refusal(checks::number(masses), checks::reported(masses));
-        };
+        check_mass(n, starts, mass)?;
         return quotient_norm(n, starts, cols, vals, mass);
     }
     entry_norm(n, starts, cols, vals)

@@ -10,7 +10,8 @@ ghost use Rattle.join_rows.specs.Join.{joined_columns, joined_values, join, not_
 ghost use Rattle.join_rows.specs.Inner.{Rows, Ordered, Joinable};
 ghost use Rattle.row_merge.specs.Merge.{advance};
 
-use checks::Checked;
+use checks::{Checked, Reason, Refusal};
+
 
 // A refusal's number and double, or the number of entries of the result.
 #[derive(Clone, Copy)]
@@ -131,11 +132,11 @@ fn check_row_values(
     loop {
         let x = row_merge::next_column(n, cols_a, cols_b, m);
         if x.column >= n {
-            return Checked::Sound;
+            return Ok(());
         }
         let value = row_merge::value_at(vals_a, vals_b, m, x);
         if !float::is_finite(value) {
-            return Checked::Refused(6, value);
+            return Err(Refusal { reason: Reason::EntryNotFinite, value: value });
         }
         m = row_merge::advance(m, x);
     }
@@ -155,10 +156,7 @@ pub fn check_values(
     ensures { result ≡ first (value_checks (join (csr n starts_a.now cols_a.now vals_a.now) (csr n starts_b.now cols_b.now vals_b.now)).entries) }
 {
     for i in 0..n {
-        let row = check_row_values(n, starts_a, cols_a, vals_a, starts_b, cols_b, vals_b, i);
-        let Checked::Sound = row else {
-            return row;
-        };
+        check_row_values(n, starts_a, cols_a, vals_a, starts_b, cols_b, vals_b, i)?;
     }
-    Checked::Sound
+    Ok(())
 }

@@ -13,8 +13,7 @@ use Rattle.lists.proofs.Bounds.{column_within}
 use Rattle.lists.proofs.Window.{window_splice_same}
 use Rattle.checks.specs.First.{Check, refuse, first}
 use Rattle.checks.proofs.First.{sound_cons, sound_append, sound_on, refused_up}
-use Rattle.checks.specs.declared.Checked.{Checked}
-use Rattle.checks.specs.declared.Checked.TheVariants.{Sound, Refused}
+use Rattle.checks.specs.First.{Checked}
 use Rattle.general_operator.specs.Csr.{Csr, csr}
 use Rattle.general_operator.proofs.Sound.{or_false}
 use Rattle.generator_action.specs.Mass.{given, quotients}
@@ -36,12 +35,14 @@ use Rattle.gram_schmidt.specs.declared.Krylov.{Krylov}
 use Rattle.krylov_advance.specs.Run.{End, finished, refused}
 use Rattle.krylov_job.specs.KrylovCall.{dimension, option_checks, bound_checks, run_checks, krylov_need, krylov_checks_by, krylov_checks, after_run, combination_run_krylov, phi_combination_krylov}
 use Rattle.krylov_job.specs.Inner.{scaling_by, scaling_of, run_job_by, checks_after, Admitted, Allowed, run_of}
-use Rattle.krylov_job.specs.declared.KrylovAnswer.{KrylovAnswer}
-use Rattle.krylov_job.specs.declared.KrylovAnswer.TheVariants.{Refusal}
+use Rattle.krylov_job.specs.Answer.{KrylovAnswer}
 use Rattle.krylov_job.specs.declared.KrylovPhiOptions.{KrylovPhiOptions}
 use Rattle.krylov_job.specs.declared.RunJob.{RunJob}
 use Rattle.krylov_job.specs.declared.Eta.TheVariants.{Own}
 use Rattle.krylov_job.proofs.Places.{clamp_twice, expv_clamped}
+use Rattle.checks.specs.Reasons.{Sound, Refused}
+use Rattle.std.specs.Prelude.{Ok, Err}
+use Rattle.checks.specs.declared.Reason.{Reason}
 
 -- ---- what 18 to 22, 24 and 26 tell
 pub options_known : (o : KrylovPhiOptions) (M : ℕ) {r : Checked} → r ≡ Sound → r ≡ first (option_checks o M) → (M ≤ 128) × (o.max_substeps ≤ 1000000)
@@ -66,13 +67,13 @@ field_needed {j = j} al =
 -- ---- what all checks after those of the generator tell
 -- an answer is that of some checks
 abbrev pub alone : Checked → List Check
-alone Sound = []
-alone (Refused k x) = refuse k true x ∷ []
+alone (Ok _) = []
+alone (Err r) = refuse r.reason true r.value ∷ []
 
 pub alone_told : (r : Checked) → r ≡ first (alone r)
 unfolding first
-alone_told Sound = refl
-alone_told (Refused k x) = refl
+alone_told (Ok _) = refl
+alone_told (Err r) = refl
 
 -- what stands between 16 and 17 passed, and so did 12 to 17 without it
 pub vectors_alone : (n : ℕ) (ts os : List Check) (count : ℕ) (w : List Float) (output : ℕ) → Sound ≡ first (vector_checks_by ts (length_checks output n (length w) (count * n) ++ os) count w)
@@ -94,7 +95,7 @@ module _ (g : Shape) (tau : Float) (count : ℕ) (w : List Float) (o : KrylovPhi
       let v = sound_append _ (option_checks o (dimension g.n (count - 1) o.m)) (sym e ∙ told) in
       ((vectors_alone g.n (time_checks tau) os count w output v.0).0, (options_known o _ refl v.1).0)
 
-  pub refused_early : (eta : Scaling) (memory : ℕ) {j : RunJob} {k : ℕ} {x : Float} → early ≡ Refused k x → j.checked ≡ early
+  pub refused_early : (eta : Scaling) (memory : ℕ) {j : RunJob} {k : Reason} {x : Float} → early ≡ Refused k x → j.checked ≡ early
       → Admitted g tau count w eta o (length_checks output g.n (length w) (count * g.n) ++ os) memory j
   unfolding checks_after
   refused_early eta memory {j} e ej =
@@ -188,10 +189,10 @@ run_from {j = j} q f y w₀ {w₁} al ly e =
     after_cleared j.g.n j.need w₀ w₁ _ (clear_over j.need j.k.y y w₀ e (omega (arith, fits, ly))) ∙ rw field refl
 
 -- ---- the answer
-pub refused_generator : (g : Generator) (tau : Float) (count : ℕ) (w : List Float) (o : KrylovPhiOptions) (out w₀ : List Float) {k : ℕ} {x : Float} → Refused k x ≡ first g.checks
-    → ends (Refusal k x) out w₀ ≡ phi_combination_krylov g tau count w o out w₀
+pub refused_generator : (g : Generator) (tau : Float) (count : ℕ) (w : List Float) (o : KrylovPhiOptions) (out w₀ : List Float) {k : Reason} {x : Float} → Refused k x ≡ first g.checks
+    → ends (Refused k x) out w₀ ≡ phi_combination_krylov g tau count w o out w₀
 unfolding phi_combination_krylov krylov_checks krylov_checks_by
-refused_generator g tau count w o out w₀ e = refused_by Refusal _ out w₀ _ refl (refused_up g.checks _ refl e)
+refused_generator g tau count w o out w₀ e = refused_by Refused _ out w₀ _ refl (refused_up g.checks _ refl e)
 
 -- over a generator that passed the checks gs
 module _
@@ -223,9 +224,9 @@ module _
     unfolding krylov_checks length_checks scaling_by eta_of quotients
     job_told = rw rows (all_checks (scaling_of g tau count w Own).eta (length_checks (length out) g.n (length w) (count * g.n)) (length w₀) ad.told)
 
-    pub refused_run : {k : ℕ} {x : Float} → j.checked ≡ Refused k x → ends (Refusal k x) out w₀ ≡ phi_combination_krylov generator tau count w o out w₀
+    pub refused_run : {k : Reason} {x : Float} → j.checked ≡ Refused k x → ends (Refused k x) out w₀ ≡ phi_combination_krylov generator tau count w o out w₀
     unfolding phi_combination_krylov
-    refused_run e = refused_by Refusal _ out w₀ _ e job_told
+    refused_run e = refused_by Refused _ out w₀ _ e job_told
 
     module _ (e : j.checked ≡ Sound) where
       k : Known g tau count w (scaling_of g tau count w Own) o (length out) [] (length w₀) j
@@ -253,4 +254,4 @@ module _
           let ly = length_start g.n w d J.eta.inv (first_within k.vectors) in
           let B = augmented q d f J.b.places J.b.gains J.b.count in
           let clamped = rw ly at (expv_clamped B tau J.k.anorm o.tol o.m o.max_substeps y) in
-          runs Refusal _ out w₀ _ e job_told ((rw k.is at r) ∙ run_from q f y w₀ (rw k.is at (allowed mass ok k)) ly (rw k.is at e₁) ∙ ap (after_run g.n J.need w₀) clamped ∙ rw (← ok.norm, rows) refl)
+          runs Refused _ out w₀ _ e job_told ((rw k.is at r) ∙ run_from q f y w₀ (rw k.is at (allowed mass ok k)) ly (rw k.is at e₁) ∙ ap (after_run g.n J.need w₀) clamped ∙ rw (← ok.norm, rows) refl)

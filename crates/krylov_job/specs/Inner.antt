@@ -3,7 +3,6 @@
 use Rattle.std.specs.Prelude.{List, ◌++◌, ◌≡◌, ℕ, ◌+◌, ◌-◌, ◌≤◌, Float}
 use Rattle.doubles.specs.F64.{1f}
 use Rattle.checks.specs.First.{Check, first}
-use Rattle.checks.specs.declared.Checked.TheVariants.{Sound}
 use Rattle.general_operator.specs.Csr.{Csr, csr}
 use Rattle.generator_action.specs.Mass.{given}
 use Rattle.generator_action.specs.Known.{Passed}
@@ -21,11 +20,12 @@ use Rattle.krylov_advance.specs.declared.RunAnswer.TheVariants.{Finished, Refuse
 use Rattle.krylov_job.specs.KrylovCall.{bound, dimension, option_checks, run_checks, krylov_need}
 use Rattle.krylov_job.specs.Memory.{krylov}
 use Rattle.krylov_job.specs.declared.KrylovPhiOptions.{KrylovPhiOptions}
-use Rattle.krylov_job.specs.declared.KrylovAnswer.{KrylovAnswer}
-use Rattle.krylov_job.specs.declared.KrylovAnswer.TheVariants.{Refusal, Result}
+use Rattle.krylov_job.specs.Answer.{KrylovAnswer}
 use Rattle.krylov_job.specs.declared.RunJob.{RunJob}
 use Rattle.krylov_job.specs.declared.Eta.{Eta}
 use Rattle.krylov_job.specs.declared.Eta.TheVariants.{Own, Began}
+use Rattle.checks.specs.Reasons.{Sound, Refused}
+use Rattle.std.specs.Prelude.{Ok}
 
 -- 21, 22 by eta, 24 and 26 of a combination of dimension M over a generator with the numbers g: the answer, and what was found
 abbrev pub run_job_by : Shape → Float → ℕ → List Float → Scaling → KrylovPhiOptions → ℕ → ℕ → RunJob
@@ -80,5 +80,5 @@ run_of j q vectors y =
 
 -- the answer that its end is told by
 unfoldable pub answer_of : RunAnswer → KrylovAnswer
-answer_of (Finished c r) = Result r
-answer_of (Refused k x c r) = Refusal k x
+answer_of (Finished c r) = Ok r
+answer_of (Refused k x c r) = Refused k x

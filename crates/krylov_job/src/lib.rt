@@ -4,7 +4,7 @@
 ghost use Rattle.std.specs.Prelude.{◌≡◌, ◌&&◌, ◌||◌, List, ◌++◌, ◌+◌, ◌-◌, ◌*◌, ◌≤◌, ltb, length, Float};
 ghost use Rattle.doubles.specs.F64.{◌⋖◌, +0, 1f};
 ghost use Rattle.checks.specs.First.{Check, first};
-ghost use Rattle.checks.specs.declared.Checked.TheVariants.{Sound};
+ghost use Rattle.checks.specs.Reasons.{Sound};
 ghost use Rattle.combination.specs.Combination.{magnitude};
 ghost use Rattle.combination.specs.Checks.{time_checks, length_checks, vector_checks_by, memory_checks};
 ghost use Rattle.weighted_columns.specs.Inner.{weights_by};
@@ -13,7 +13,7 @@ ghost use Rattle.krylov_job.specs.KrylovCall.{bound, dimension, option_checks, b
 ghost use Rattle.krylov_job.specs.Memory.{layout, krylov};
 ghost use Rattle.krylov_job.specs.Inner.{scaling_by, scaling_of, run_job_by, Admitted};
 
-use checks::Checked;
+use checks::{Checked, Reason, Refusal};
 use generator_action::Shape;
 use gram_schmidt::Krylov;
 use krylov_advance::KrylovPhiReport;
@@ -69,15 +69,15 @@ pub fn check_options(o: KrylovPhiOptions, m: usize) -> Checked
     ensures { result ≡ first (option_checks o m) }
 {
     if !in_unit(o.tol) {
-        return Checked::Refused(18, o.tol);
+        return Err(Refusal { reason: Reason::TolRange, value: o.tol });
     }
     if o.max_substeps == 0 {
-        return Checked::Refused(19, 0.0);
+        return Err(Refusal { reason: Reason::NoSubsteps, value: 0.0 });
     }
     if too_many(m, o.max_substeps) {
-        return Checked::Refused(20, float::not_a_number());
+        return Err(Refusal { reason: Reason::OptionTooLarge, value: float::not_a_number() });
     }
-    Checked::Sound
+    Ok(())
 }
 
 // 12 to 20; `others` is the answer of what stands between 16 and 17.
@@ -94,10 +94,7 @@ fn check_job(
     ensures { (os : List Check) → others ≡ first os → result ≡ first (vector_checks_by (time_checks tau) (length_checks output n (length w.now) (count * n) ++ os) count w.now ++ option_checks o (dimension n (count - 1) o.m)) }
 {
     let time = combination::check_time(tau);
-    let vectors = vector_checks::validate_combination(n, time, count, w, output, others);
-    let Checked::Sound = vectors else {
-        return vectors;
-    };
+    vector_checks::validate_combination(n, time, count, w, output, others)?;
     let m = clamp_m(o.m, n + (count - 1));
     check_options(o, m)
 }
@@ -114,9 +111,9 @@ fn check_bound(anorm: f64) -> Checked
     ensures { result ≡ first (bound_checks anorm) }
 {
     if !float::is_finite(anorm) {
-        return Checked::Refused(24, anorm);
+        return Err(Refusal { reason: Reason::ArgumentNotFinite, value: anorm });
     }
-    Checked::Sound
+    Ok(())
 }
 
 // 21, 22, 24 and 26, with the answer of 21 and 22.
@@ -283,7 +280,7 @@ pub fn admit_job(
 {
     let n = g.n;
     let early = check_job(n, tau, count, w, o, output, others);
-    let Checked::Sound = early else {
+    let Ok(()) = early else {
         return refused_job(early, g);
     };
     let d = count - 1;

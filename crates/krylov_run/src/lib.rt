@@ -12,6 +12,7 @@ ghost use Rattle.krylov_job.specs.KrylovCall.{after_run};
 ghost use Rattle.krylov_job.specs.Memory.{layout};
 ghost use Rattle.krylov_job.specs.Inner.{answer_of, Allowed, run_of};
 
+use checks::Refusal;
 use krylov_advance::RunAnswer;
 use krylov_job::{KrylovAnswer, RunJob};
 
@@ -24,12 +25,12 @@ pub fn start_in(n: usize, w: &[f64], d: usize, inv: f64, work: &mut [f64], at: u
     start_vectors::combination_start(n, w, d, inv, &mut work[at..to]);
 }
 
-fn answer_of(end: RunAnswer) -> KrylovAnswer
+fn answer_of(end: RunAnswer) -> Result<KrylovPhiReport, Refusal>
     ensures { result ≡ answer_of end }
 {
     match end {
         RunAnswer::Finished(_, report) => KrylovAnswer::Result(report),
-        RunAnswer::Refused(number, x, _, _) => KrylovAnswer::Refusal(number, x),
+        RunAnswer::Refused(number, x, _, _) => Err(Refusal { reason: number, value: x }),
     }
 }
 
@@ -72,7 +73,7 @@ pub fn run_job(
     out: &mut [f64],
     work: &mut [f64],
     j: RunJob,
-) -> KrylovAnswer
+) -> Result<KrylovPhiReport, Refusal>
     requires allowed { Allowed starts.now cols.now vals.now mass.now j (length vectors.now) (length work.old) }
     requires out_len { length out.old ≡ j.g.n }
     ensures { ends result out.new work.new ≡ after_run j.g.n j.need work.old (run_of j (matrix_of j.g starts.now cols.now vals.now mass.now) vectors.now (window j.k.y (j.g.n + j.d) work.old)) }

@@ -16,7 +16,6 @@ use Rattle.doubles.specs.F64.{+0}
 use Rattle.vectors.specs.Vectors.{scale}
 use Rattle.checks.specs.First.{Check, first}
 use Rattle.checks.proofs.First.{refused_up, sound_on, stops, passes, ends_sound, not_eq, not_ne}
-use Rattle.checks.specs.declared.Checked.TheVariants.{Sound, Refused}
 use Rattle.general_operator.specs.Csr.{csr}
 use Rattle.general_operator.proofs.Sound.{or_false}
 use Rattle.generator_action.specs.Mass.{given, quotients, stored}
@@ -54,6 +53,9 @@ use Rattle.paused_run.specs.declared.PausedRun.{PausedRun}
 use Rattle.paused_run.specs.declared.Tolerance.{Tolerance}
 use Rattle.paused_run.specs.declared.StepAnswer.{StepAnswer}
 use Rattle.paused_run.specs.declared.StepAnswer.TheVariants.{Refusal}
+use Rattle.checks.specs.Reasons.{Sound, Refused}
+use Rattle.checks.specs.declared.Reason.TheVariants.{WorkLength, RunEnded}
+use Rattle.checks.specs.declared.Reason.{Reason}
 
 -- ---- one substep on the lent field
 seen : (l : Layout) (k : Krylov) (o : Progress) (w : List Float) → progress_at l k o w ≡ turned o (window k.y (l.n + l.d) w)
@@ -163,7 +165,7 @@ counts s e few =
 
 -- ---- by the checks
 module _ (s : PausedRun) (y : List Float) (i : Input) where
-  step_refused : {k : ℕ} {x : Float} → Refused k x ≡ first (step_checks s (length y) i) → leaves (Refusal k x s) i.output i.memory y ≡ step s y i
+  step_refused : {k : Reason} {x : Float} → Refused k x ≡ first (step_checks s (length y) i) → leaves (Refused k x s) i.output i.memory y ≡ step s y i
   unfolding step step_unless
   step_refused e = rw (← e) refl
 
@@ -171,13 +173,13 @@ module _ (s : PausedRun) (y : List Float) (i : Input) where
   unfolding step step_unless
   step_runs e h = h ∙ rw (← e) refl
 
-  pub refused_over : {x : Float} → over s ≡ true → x ≡ nan → leaves (Refusal 31 x s) i.output i.memory y ≡ step s y i
+  pub refused_over : {x : Float} → over s ≡ true → x ≡ nan → leaves (Refused RunEnded x s) i.output i.memory y ≡ step s y i
   unfolding step_checks
   refused_over e ex = step_refused (stops _ e ex)
 
-  pub refused_generator : {k : ℕ} {x : Float} → over s ≡ false → Refused k x ≡ first i.job.g.checks → leaves (Refusal k x s) i.output i.memory y ≡ step s y i
+  pub refused_generator : {k : Reason} {x : Float} → over s ≡ false → Refused k x ≡ first i.job.g.checks → leaves (Refused k x s) i.output i.memory y ≡ step s y i
   unfolding step_checks krylov_checks_by
-  refused_generator eo e = step_refused (passes 31 nan _ eo (refused_up _ _ refl (refused_up _ _ refl e)))
+  refused_generator eo e = step_refused (passes RunEnded nan _ eo (refused_up _ _ refl (refused_up _ _ refl e)))
 
 module _
     {starts cols : List ℕ}
@@ -208,9 +210,9 @@ module _
   unfolding other_checks scaling_by quotients
   told = rw rows_are (all_checks mass ok gs sound tau count w (options_in s (tol_in tolerance s)) s.eta _ (length w₀) ad.told)
 
-  pub refused_job : {k : ℕ} {x : Float} → j.checked ≡ Refused k x → leaves (Refusal k x s) out w₀ field ≡ step s field input
+  pub refused_job : {k : Reason} {x : Float} → j.checked ≡ Refused k x → leaves (Refused k x s) out w₀ field ≡ step s field input
   unfolding step_checks
-  refused_job e = step_refused s field input (sym e ∙ passes 31 nan _ going (refused_up _ _ e told))
+  refused_job e = step_refused s field input (sym e ∙ passes RunEnded nan _ going (refused_up _ _ e told))
 
   module _ (e : j.checked ≡ Sound) where
     k : Known g tau count w (scaling_of g tau count w (Began s.eta)) (options_in s (tol_in tolerance s)) (length out) (other_checks_by s g.n count (length w)) (length w₀) j
@@ -225,10 +227,10 @@ module _
     pub within : (j.d ≤ 3) × (g.n ≤ length w)
     within = (omega (arith, d_is, k.vectors.most), first_within k.vectors)
 
-    pub refused_field : {x : Float} → (length field ≡ g.n + j.d → ⊥) → x ≡ nan → leaves (Refusal 26 x s) out w₀ field ≡ step s field input
+    pub refused_field : {x : Float} → (length field ≡ g.n + j.d → ⊥) → x ≡ nan → leaves (Refused WorkLength x s) out w₀ field ≡ step s field input
     unfolding step_checks field_checks
     refused_field ne ex =
-        step_refused s field input (passes 31 nan _ going (sound_on _ _ e told (stops [] (not_ne (λ h. ne (h ∙ rw (rows_are, d_is) refl))) ex)))
+        step_refused s field input (passes RunEnded nan _ going (sound_on _ _ e told (stops [] (not_ne (λ h. ne (h ∙ rw (rows_are, d_is) refl))) ex)))
 
     pub advances : length field ≡ g.n + j.d
         → Allowed starts cols vals mass j (length (further g.n w)) (length w₀)
@@ -248,5 +250,5 @@ module _
     unfolding step_checks field_checks after_substep after_of
     stepped_is l et h =
         step_runs s field input
-        (passes 31 nan _ going (sound_on _ _ refl (sym e ∙ told) (passes 26 nan [] (not_eq (l ∙ rw (rows_are, d_is) refl)) ends_sound)))
+        (passes RunEnded nan _ going (sound_on _ _ refl (sym e ∙ told) (passes WorkLength nan [] (not_eq (l ∙ rw (rows_are, d_is) refl)) ends_sound)))
         (h ∙ rw (et, setting_is, k.is, rows_are) refl)

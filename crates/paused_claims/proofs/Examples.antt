@@ -11,22 +11,23 @@ use Rattle.general_operator.specs.Csr.{Csr, csr}
 use Rattle.generator_action.specs.Generator.{forward}
 use Rattle.krylov_job.specs.declared.KrylovPhiOptions.{KrylovPhiOptions}
 use Rattle.checks.specs.First.{first}
-use Rattle.checks.specs.declared.Checked.TheVariants.{Sound}
 use Rattle.krylov_advance.specs.declared.KrylovPhiReport.{KrylovPhiReport}
 use Rattle.paused_run.specs.Paused.{Job, PausedCall, leaves, start_checks, start, Input, step, open_paused}
 use Rattle.paused_run.specs.declared.PausedRun.{PausedRun}
 use Rattle.paused_run.specs.declared.Tolerance.{Tolerance}
 use Rattle.paused_run.specs.declared.Tolerance.TheVariants.{Same, New}
-use Rattle.paused_run.specs.declared.StartAnswer.{StartAnswer}
-use Rattle.paused_run.specs.declared.StartAnswer.TheVariants as start_answer
+use Rattle.paused_run.specs.Answer.{StartAnswer}
 use Rattle.paused_run.specs.declared.StepAnswer.{StepAnswer}
 use Rattle.paused_run.specs.declared.StepAnswer.TheVariants.{Refusal, Stepped}
 use Rattle.paused_claims.specs.History.{run_in}
 use Rattle.paused_claims.specs.Alike.{number_in, double_in}
+use Rattle.checks.specs.Reasons.{Sound, Refused}
+use Rattle.std.specs.Prelude.{Ok}
+use Rattle.checks.specs.declared.Reason.TheVariants.{NoInnerPlan, RunEnded}
 
 -- the first step on what a start handed back; a refused start answers for it
 abbrev first_step : PausedCall StartAnswer → Input → PausedCall StepAnswer
-first_step c i = elim c.answer [ start_answer.Refusal k x ↦ leaves (Refusal k x nothing) c.output c.memory c.field | start_answer.Started s ↦ step s c.field i ]
+first_step c i = elim c.answer [ Refused k x ↦ leaves (Refused k x nothing) c.output c.memory c.field | Ok s ↦ step s c.field i ]
   where
     nothing : PausedRun
     nothing =
@@ -146,11 +147,11 @@ idle =
     }
 
 signs_kept : start (options tenth 30 9) zeros (nat 7 ∷ nat 7 ∷ []) (replicate 29 (nat 9)) (nat 9 ∷ nat 9 ∷ [])
-    ≡ leaves (start_answer.Started idle) (-0 ∷ +0 ∷ []) (replicate 28 +0 ++ (nat 9 ∷ [])) (-0 ∷ +0 ∷ [])
+    ≡ leaves (Ok idle) (-0 ∷ +0 ∷ []) (replicate 28 +0 ++ (nat 9 ∷ [])) (-0 ∷ +0 ∷ [])
 unfolding open_paused
 signs_kept = refl
 
-idle_31 : step idle (-0 ∷ +0 ∷ []) (input Same zeros (nat 7 ∷ []) []) ≡ leaves (Refusal 31 nan idle) (nat 7 ∷ []) [] (-0 ∷ +0 ∷ [])
+idle_31 : step idle (-0 ∷ +0 ∷ []) (input Same zeros (nat 7 ∷ []) []) ≡ leaves (Refused RunEnded nan idle) (nat 7 ∷ []) [] (-0 ∷ +0 ∷ [])
 unfolding open_paused
 idle_31 = refl
 
@@ -237,7 +238,7 @@ finished = refl
 met_29 : first_step ring_begun (on_ring (New (bits 0x1)))
     ≡ (let y = 1f ∷ bits 0x3fe0_0000_0000_0000 ∷ bits 0x3fd0_0000_0000_0000 ∷ [] in
     leaves
-    (Refusal 29 nan
+    (Refused NoInnerPlan nan
     (ring_run +0 (bits 0x3f90_624d_d2f1_a9fc) (record { matvecs = 0; substeps = 0; rejected = 0; est_error = +0; shortest = +0; last = +0 }) hundredth true))
     y
     (replicate 34 +0)

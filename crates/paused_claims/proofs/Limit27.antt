@@ -22,6 +22,7 @@ use Rattle.paused_claims.specs.Steps.{Outcome, AtLimit, Exactly27}
 use Rattle.paused_claims.proofs.Known.{some_limit}
 use Rattle.paused_claims.proofs.Standing.{left_sound, left_stands}
 use Rattle.paused_claims.proofs.Steps.{step_done}
+use Rattle.checks.specs.declared.Reason.TheVariants.{SubstepLimit}
 
 module _ {o : KrylovPhiOptions} {j : Job} {p : Past} (l : Left o j p) (i : Input) (e : Steps p i) where
   abbrev u : Run
@@ -42,10 +43,10 @@ module _ {o : KrylovPhiOptions} {j : Job} {p : Past} (l : Left o j p) (i : Input
     | inr h ↦ h.stood.few
   ]
 
-  only : {x : Float} {s : PausedRun} → (call_on p i).answer ≡ Refusal 27 x s → AtLimit limit u x
+  only : {x : Float} {s : PausedRun} → (call_on p i).answer ≡ Refusal SubstepLimit x s → AtLimit limit u x
   only {x} {s} q = go (subst Ends q (step_done l i e).outcome)
     where
-      go : Ends (Refusal 27 x s) → AtLimit limit u x
+      go : Ends (Refusal SubstepLimit x s) → AtLimit limit u x
       go (inl g) = record { substeps = g.all; below_one = g.goes_on.below_one; norm_left = g.goes_on.norm_left (subst (λ (n : ℕ). 0 < n) (sym g.all) some); told = g.told }
       go (inr g) = elim g.failed.number [ inl n ↦ absurd (omega (arith, n)) | inr n ↦ absurd (omega (arith, n)) ]
 
@@ -56,10 +57,10 @@ module _ {o : KrylovPhiOptions} {j : Job} {p : Past} (l : Left o j p) (i : Input
     | inr t ↦ subst (λ (y : Float). T (y ⋖ 1f)) t a.below_one
   ]
 
-  when : {x : Float} → AtLimit limit u x → (s : PausedRun) × ((call_on p i).answer ≡ Refusal 27 x s)
+  when : {x : Float} → AtLimit limit u x → (s : PausedRun) × ((call_on p i).answer ≡ Refusal SubstepLimit x s)
   when {x} a = go (call_on p i).answer refl (step_done l i e).outcome
     where
-      go : (b : StepAnswer) → (call_on p i).answer ≡ b → Ends b → (s : PausedRun) × ((call_on p i).answer ≡ Refusal 27 x s)
+      go : (b : StepAnswer) → (call_on p i).answer ≡ b → Ends b → (s : PausedRun) × ((call_on p i).answer ≡ Refusal SubstepLimit x s)
       go (Stepped s) q (inl g) = let n = a.substeps in let b = g.below in absurd (omega (arith, n, b))
       go (Stepped s) q (inr g) = absurd (not_reached a g.finished)
       go (Refusal k y s) q (inl g) = (s, q ∙ (λ t. Refusal (g.number t) ((g.told ∙ sym a.told) t) s))

@@ -19,8 +19,7 @@ use Rattle.pow2.specs.declared.Scale.{Scale}
 use Rattle.pow2.specs.declared.Prescale.{Prescale}
 use Rattle.pow2.specs.declared.Prescale.TheVariants.{By, None}
 use Rattle.checks.specs.First.{first}
-use Rattle.checks.specs.declared.Checked.{Checked}
-use Rattle.checks.specs.declared.Checked.TheVariants.{Sound, Refused}
+use Rattle.checks.specs.First.{Checked}
 use Rattle.checks.proofs.First.{sound_cons, sound_append}
 use Rattle.general_operator.proofs.Sound.{or_false}
 use Rattle.general_operator.specs.Csr.{row_sum_norm}
@@ -37,8 +36,7 @@ use Rattle.paused_run.specs.Paused.{Job, rows, degree, PausedCall, setting_of, n
 use Rattle.paused_run.specs.declared.PausedRun.{PausedRun}
 use Rattle.paused_run.specs.declared.Tolerance.{Tolerance}
 use Rattle.paused_run.specs.declared.Tolerance.TheVariants.{Same, New}
-use Rattle.paused_run.specs.declared.StartAnswer.{StartAnswer}
-use Rattle.paused_run.specs.declared.StartAnswer.TheVariants.{Started}
+use Rattle.paused_run.specs.Answer.{StartAnswer}
 use Rattle.paused_run.specs.declared.StepAnswer.{StepAnswer}
 use Rattle.paused_run.specs.declared.StepAnswer.TheVariants.{Refusal, Stepped}
 use Rattle.demand_3.specs.Trace.{Run, runs, scaled, allowed, run_by, run_of, status_of}
@@ -52,6 +50,9 @@ use Rattle.paused_claims.specs.History as history
 use Rattle.paused_claims.specs.Start.{values_of, job_checks}
 use Rattle.paused_claims.proofs.Known.{some_limit, long}
 use Rattle.paused_claims.proofs.Start.{started_is, the_start}
+use Rattle.checks.specs.Reasons.{Sound, Refused}
+use Rattle.std.specs.Prelude.{Ok, Err}
+use Rattle.checks.specs.declared.Reason.TheVariants.{SubstepLimit}
 
 -- ---- by where a run stands
 abbrev pub report_by : Float → Turn State End → KrylovPhiReport
@@ -193,7 +194,7 @@ module _ (o : KrylovPhiOptions) (j : Job) (f : Scale) where
   verdict_is tol now t (on u) h = go (ltb u.report.substeps o.max_substeps)
     where
       pick : Bool → StepAnswer
-      pick b = if b then Stepped (moved (standing_as tol (on t)) now u u.report false) else Refusal 27 u.report.est_error (moved (standing_as tol (on t)) now u u.report true)
+      pick b = if b then Stepped (moved (standing_as tol (on t)) now u u.report false) else Refused SubstepLimit u.report.est_error (moved (standing_as tol (on t)) now u u.report true)
 
       go : (b : Bool) → run_in (pick b) ≡ standing_with (tol_kept Sound (pick b) tol now) (on u) (not b)
       go true = refl
@@ -247,8 +248,8 @@ module _ (o : KrylovPhiOptions) (j : Job) (f : Scale) where
 
   pub stands_next : {s : PausedRun} {y : List Float} {tol : Float} {ps : List Setting} (i : Input) → Stood s y tol ps → (c : Checked) → c ≡ first (step_checks s (length y) i)
       → Stood (run_in (step_unless c s y i).answer) (step_unless c s y i).field (tol_kept c (step_unless c s y i).answer tol (in_force i.tolerance tol)) (ps ++ one_more c (made_with o j (in_force i.tolerance tol) i.job))
-  stands_next {s} {y} {tol} {ps} i h (Refused k x) e = unfold step_unless in subst (λ (l : List Setting). Stood s y tol l) (sym (append-nil ps)) h
-  stands_next {s} {y} {tol} {ps} i h Sound e =
+  stands_next {s} {y} {tol} {ps} i h (Err r) e = unfold step_unless in subst (λ (l : List Setting). Stood s y tol l) (sym (append-nil ps)) h
+  stands_next {s} {y} {tol} {ps} i h (Ok _) e =
       let m = made i h e in
       let t = m.0 in
       let now = in_force i.tolerance tol in
@@ -327,10 +328,10 @@ pub left_sound : {o : KrylovPhiOptions} {j : Job} {p : Past} → Left o j p → 
 left_sound {o} {j} (history.started output memory field e) = (output, memory, ((the_start o j output memory field).only_accepted e).0)
 left_sound (history.stepped l i) = left_sound l
 
-pub same_run : {s t : PausedRun} → Started s ≡ Started t → s ≡ t
+pub same_run : {s t : PausedRun} → Ok s ≡ Ok t → s ≡ t
 same_run e = cc
 
-at_start_stands : (o : KrylovPhiOptions) (j : Job) (output memory field : List Float) {s : PausedRun} → (start o j output memory field).answer ≡ Started s → (f : Prescale) → pow2_scale (values_of j) ≡ f
+at_start_stands : (o : KrylovPhiOptions) (j : Job) (output memory field : List Float) {s : PausedRun} → (start o j output memory field).answer ≡ Ok s → (f : Prescale) → pow2_scale (values_of j) ≡ f
     → Resting o j (at_start o s (start o j output memory field).field) ⊎ Moving o j (at_start o s (start o j output memory field).field)
 unfolding begun
 at_start_stands o j output memory field {s} e None h =
@@ -348,8 +349,8 @@ unfolding step step_unless over
 resting_next o j p i h = go (checked p i) refl
   where
     go : (c : Checked) → c ≡ checked p i → Resting o j (record { began = p.began; run = run_in (step_unless c p.run p.field i).answer; field = (step_unless c p.run p.field i).field; inputs = p.inputs ++ (i ∷ []); answers = p.answers ++ ((call_on p i).answer ∷ []); tol = tol_kept c (step_unless c p.run p.field i).answer p.tol (in_force i.tolerance p.tol); settings = p.settings ++ one_more c (made_with o j (in_force i.tolerance p.tol) i.job) })
-    go (Refused k x) e = record { none = h.none; run = h.run; field = h.field; tol = h.tol; settings = append-nil p.settings ∙ h.settings }
-    go Sound e =
+    go (Err r) e = record { none = h.none; run = h.run; field = h.field; tol = h.tol; settings = append-nil p.settings ∙ h.settings }
+    go (Ok _) e =
         let r : over p.run ≡ true = ap over h.run in
         absurd (true≢false (sym r ∙ (passed p.run (length p.field) i e).not_over))
 

@@ -15,8 +15,7 @@ use Rattle.lists.specs.Window.{window}
 use Rattle.doubles.specs.F64.{◌⊖◌, ◌⊘◌, 1f}
 use Rattle.vectors.specs.Vectors.{scale}
 use Rattle.pow2.specs.declared.Scale.{Scale}
-use Rattle.checks.specs.declared.Checked.{Checked}
-use Rattle.checks.specs.declared.Checked.TheVariants.{Sound}
+use Rattle.checks.specs.First.{Checked}
 use Rattle.combination.specs.Call.{cleared}
 use Rattle.gram_schmidt.specs.Basis.{Setting, Basis, arnoldi, norm2}
 use Rattle.trial_steps.specs.Trials.{Trying, Tried, accepted, stuck, trials}
@@ -41,6 +40,8 @@ use Rattle.paused_claims.proofs.Proposed.{run_proposed}
 use Rattle.paused_claims.proofs.Standing.{report_by, passed, standing_as, first_norm, reached_field, each_one, answer_is, verdict_is, run_with, Stood, Made, substep_refuses, left_stands}
 use Rattle.paused_claims.proofs.Standing as standing
 use Rattle.paused_claims.proofs.Stays.{left_stays}
+use Rattle.checks.specs.Reasons.{Sound, Refused}
+use Rattle.checks.specs.declared.Reason.TheVariants.{SubstepLimit}
 
 -- ---- one substep: accepted where it does not refuse; 28 tells its tol, 29 the argument of its last trial
 abbrev Told : Setting → Turn Trying Tried → Turn State End → List Accepted → Type 0
@@ -168,7 +169,7 @@ module _
   outcome (on z) e (a, k) g = go (ltb z.report.substeps limit) refl
     where
       go : (b : Bool) → ltb z.report.substeps limit ≡ b
-          → Outcome limit q before u s (if b then Stepped (moved s₁ now z z.report false) else Refusal 27 z.report.est_error (moved s₁ now z z.report true))
+          → Outcome limit q before u s (if b then Stepped (moved s₁ now z z.report false) else Refused SubstepLimit z.report.est_error (moved s₁ now z z.report true))
       go true r =
           let l = ltb-true z.report.substeps limit r in
           inl (record { one = one_more_of a k; goes_on = g; below = let c = substeps_at (on z) e in omega (arith, l, c); estimate = estimate_at (on z) e; ended = refl })

@@ -2,7 +2,6 @@
 use Rattle.std.specs.Prelude.{◌≡◌, List, ℕ, length, Float}
 use Rattle.doubles.specs.F64.{+0}
 use Rattle.checks.specs.First.{first}
-use Rattle.checks.specs.declared.Checked.TheVariants.{Sound}
 use Rattle.paused_run.specs.Paused.{PausedCall, Input, step_checks, step}
 use Rattle.paused_run.specs.declared.PausedRun.{PausedRun}
 use Rattle.paused_run.specs.declared.Tolerance.{Tolerance}
@@ -10,6 +9,7 @@ use Rattle.paused_run.specs.declared.Tolerance.TheVariants.{Same, New}
 use Rattle.paused_run.specs.declared.StepAnswer.{StepAnswer}
 use Rattle.paused_run.specs.declared.StepAnswer.TheVariants.{Refusal, Stepped}
 use Rattle.paused_claims.specs.History.{run_in}
+use Rattle.checks.specs.Reasons.{Sound, Refused}
 
 -- ---- what the lent output and working memory hold does not matter, nor how long they are beyond what is asked
 pub record SameStep (c d : PausedCall StepAnswer) : Type 0 where
@@ -23,11 +23,11 @@ Blind s y = (i k : Input) → i.tolerance ≡ k.tolerance → i.job ≡ k.job �
 -- ---- 'a new tol for itself and the later ones'
 -- a refusal's number and double; 0 and +0 of none
 abbrev pub number_in : StepAnswer → ℕ
-number_in (Refusal k x s) = k
+number_in (Refused k x s) = k
 number_in (Stepped s) = 0
 
 abbrev pub double_in : StepAnswer → Float
-double_in (Refusal k x s) = x
+double_in (Refused k x s) = x
 double_in (Stepped s) = +0
 
 abbrev pub run_with_tol : Float → PausedRun → PausedRun

@@ -3,8 +3,7 @@
 use Rattle.std.specs.Prelude.{◌≡◌, List, [], ◌∷◌, ◌++◌, ℕ, ◌+◌, ◌-◌, eqb, length, Float, if◌then◌else◌}
 use Rattle.doubles.specs.F64.{◌⊗◌}
 use Rattle.checks.specs.First.{first}
-use Rattle.checks.specs.declared.Checked.{Checked}
-use Rattle.checks.specs.declared.Checked.TheVariants.{Sound, Refused}
+use Rattle.checks.specs.First.{Checked}
 use Rattle.general_operator.specs.Csr.{row_sum_norm}
 use Rattle.combination.specs.Combination.{further, eta_of, combination_operator}
 use Rattle.gram_schmidt.specs.Basis.{Setting}
@@ -15,12 +14,13 @@ use Rattle.paused_run.specs.Paused.{Job, PausedCall, start, Input, step_checks, 
 use Rattle.paused_run.specs.declared.PausedRun.{PausedRun}
 use Rattle.paused_run.specs.declared.Tolerance.{Tolerance}
 use Rattle.paused_run.specs.declared.Tolerance.TheVariants.{Same, New}
-use Rattle.paused_run.specs.declared.StartAnswer.TheVariants.{Started}
 use Rattle.paused_run.specs.declared.StepAnswer.{StepAnswer}
 use Rattle.paused_run.specs.declared.StepAnswer.TheVariants.{Refusal, Stepped}
 use Rattle.demand_3.specs.Trace.{Run}
 use Rattle.demand_3.specs.Krylov.{euclidean}
 use Rattle.demand_3.specs.Demand3.{krylov_run, clamped}
+use Rattle.checks.specs.Reasons.{Sound, Refused}
+use Rattle.std.specs.Prelude.{Ok, Err}
 
 -- ---- what the start alone gives
 -- the run of the whole call with the start's options and job
@@ -70,7 +70,7 @@ Steps p i = Sound ≡ checked p i
 
 -- the run that an answer hands back
 abbrev pub run_in : StepAnswer → PausedRun
-run_in (Refusal k x s) = s
+run_in (Refused k x s) = s
 run_in (Stepped s) = s
 
 -- the tol in force at a step: 'a new tol for itself and the later ones'
@@ -80,14 +80,14 @@ in_force (New x) tol = x
 
 -- the tol after it: an early refusal, 28 and 29 leave the one before
 abbrev pub tol_kept : Checked → StepAnswer → Float → Float → Float
-tol_kept (Refused j y) a before now = before
-tol_kept Sound (Stepped s) before now = now
-tol_kept Sound (Refusal k x s) before now = if eqb k 27 then now else before
+tol_kept (Err r) a before now = before
+tol_kept (Ok _) (Stepped s) before now = now
+tol_kept (Ok _) (Refused k x s) before now = if eqb k 27 then now else before
 
 -- one more setting, unless it was refused early
 abbrev pub one_more : Checked → Setting → List Setting
-one_more (Refused k x) p = []
-one_more Sound p = p ∷ []
+one_more (Err r) p = []
+one_more (Ok _) p = p ∷ []
 
 abbrev pub at_start : KrylovPhiOptions → PausedRun → List Float → Past
 at_start o s y = record { began = s; run = s; field = y; inputs = []; answers = []; tol = o.tol; settings = [] }
@@ -108,7 +108,7 @@ next o j p i =
 
 -- started with o and j, and any steps after that
 pub data Left (o : KrylovPhiOptions) (j : Job) : Past → Type 0 where
-  started : (output memory field : List Float) {s : PausedRun} → (start o j output memory field).answer ≡ Started s → Left o j (at_start o s (start o j output memory field).field)
+  started : (output memory field : List Float) {s : PausedRun} → (start o j output memory field).answer ≡ Ok s → Left o j (at_start o s (start o j output memory field).field)
   stepped : {p : Past} → Left o j p → (i : Input) → Left o j (next o j p i)
 
 -- its substeps so far, each with its own setting, from the start of the whole call

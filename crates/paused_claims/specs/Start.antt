@@ -7,7 +7,6 @@ use Rattle.vectors.specs.Vectors.{scale}
 use Rattle.pow2.specs.Pow2.{pow2_scale}
 use Rattle.pow2.specs.declared.Prescale.TheVariants.{By}
 use Rattle.checks.specs.First.{Check, first}
-use Rattle.checks.specs.declared.Checked.TheVariants.{Sound, Refused}
 use Rattle.general_operator.specs.Csr.{row_sum_norm}
 use Rattle.combination.specs.Call.{cleared}
 use Rattle.krylov_advance.specs.Run.{first_length}
@@ -15,11 +14,13 @@ use Rattle.krylov_job.specs.KrylovCall.{bound, krylov_need, krylov_checks}
 use Rattle.krylov_job.specs.declared.KrylovPhiOptions.{KrylovPhiOptions}
 use Rattle.paused_run.specs.Paused.{Job, PausedCall, leaves}
 use Rattle.paused_run.specs.declared.PausedRun.{PausedRun}
-use Rattle.paused_run.specs.declared.StartAnswer.{StartAnswer}
-use Rattle.paused_run.specs.declared.StartAnswer.TheVariants.{Refusal, Started}
+use Rattle.paused_run.specs.Answer.{StartAnswer}
 use Rattle.demand_3.specs.Krylov.{euclidean, Zeros}
 use Rattle.demand_3.specs.Demand3.{start_of}
 use Rattle.paused_claims.specs.History.{values_in, dimension_in, own_eta}
+use Rattle.checks.specs.Reasons.{Sound, Refused}
+use Rattle.std.specs.Prelude.{Ok}
+use Rattle.checks.specs.declared.Reason.{Reason}
 
 -- the n + d values from which the whole call starts
 abbrev pub values_of : Job → List Float
@@ -75,10 +76,10 @@ pub record Ready (o : KrylovPhiOptions) (j : Job) (s : PausedRun) (c : PausedCal
 
 pub record StartClaim (o : KrylovPhiOptions) (j : Job) (output memory field : List Float) (c : PausedCall StartAnswer) : Type 0 where
   -- refused exactly so, and then nothing is changed
-  pub only_refused : (k : ℕ) (x : Float) → c.answer ≡ Refusal k x → Refuses o j output memory field k x
-  pub if_refused : (k : ℕ) (x : Float) → Refuses o j output memory field k x → c ≡ leaves (Refusal k x) output memory field
+  pub only_refused : (k : Reason) (x : Float) → c.answer ≡ Refused k x → Refuses o j output memory field k x
+  pub if_refused : (k : Reason) (x : Float) → Refuses o j output memory field k x → c ≡ leaves (Refused k x) output memory field
   -- else it hands back a run
-  pub if_accepted : Sound ≡ first (job_checks o j output memory) → length field ≡ values_in j → (s : PausedRun) × (c.answer ≡ Started s)
-  pub only_accepted : {s : PausedRun} → c.answer ≡ Started s → (Sound ≡ first (job_checks o j output memory)) × (length field ≡ values_in j)
-  pub idle : {s : PausedRun} → c.answer ≡ Started s → Zeros (values_of j) → Idle o j s c memory
-  pub ready : {s : PausedRun} → c.answer ≡ Started s → (Zeros (values_of j) → ⊥) → Ready o j s c memory
+  pub if_accepted : Sound ≡ first (job_checks o j output memory) → length field ≡ values_in j → (s : PausedRun) × (c.answer ≡ Ok s)
+  pub only_accepted : {s : PausedRun} → c.answer ≡ Ok s → (Sound ≡ first (job_checks o j output memory)) × (length field ≡ values_in j)
+  pub idle : {s : PausedRun} → c.answer ≡ Ok s → Zeros (values_of j) → Idle o j s c memory
+  pub ready : {s : PausedRun} → c.answer ≡ Ok s → (Zeros (values_of j) → ⊥) → Ready o j s c memory

@@ -20,6 +20,7 @@ use Rattle.demand_3.specs.Trace.{Accepted, Run, accepted_by, tried_by, time_of, 
 use Rattle.demand_3.specs.Krylov.{euclidean, Counted, GoesOn, Finished, Failed}
 use Rattle.paused_claims.specs.History.{dimension_in, made_with, Past, call_on, Steps, run_in, in_force, next, run_so_far}
 use Rattle.paused_claims.specs.Start.{need_in}
+use Rattle.checks.specs.declared.Reason.TheVariants.{SubstepLimit}
 
 -- ---- 'proposed step': after an accepted substep by its error, or the time that is left
 unfoldable pub proposed : Float → Accepted → Float
@@ -107,5 +108,5 @@ pub record AtLimit (limit : ℕ) (u : Run) (x : Float) : Type 0 where
   pub told : x ≡ estimate_of u
 
 pub record Exactly27 (o : KrylovPhiOptions) (j : Job) (p : Past) (i : Input) : Type 0 where
-  pub only : Steps p i → {x : Float} {s : PausedRun} → (call_on p i).answer ≡ Refusal 27 x s → AtLimit o.max_substeps (run_so_far o j (next o j p i)) x
-  pub when : Steps p i → {x : Float} → AtLimit o.max_substeps (run_so_far o j (next o j p i)) x → (s : PausedRun) × ((call_on p i).answer ≡ Refusal 27 x s)
+  pub only : Steps p i → {x : Float} {s : PausedRun} → (call_on p i).answer ≡ Refusal SubstepLimit x s → AtLimit o.max_substeps (run_so_far o j (next o j p i)) x
+  pub when : Steps p i → {x : Float} → AtLimit o.max_substeps (run_so_far o j (next o j p i)) x → (s : PausedRun) × ((call_on p i).answer ≡ Refusal SubstepLimit x s)

@@ -5,11 +5,11 @@ ghost use Rattle.std.specs.Prelude.{◌≡◌, false, not, ◌||◌, List, ◌+�
 ghost use Rattle.lists.specs.Window.{window};
 ghost use Rattle.vectors.specs.Vectors.{scale};
 ghost use Rattle.checks.specs.First.{first};
-ghost use Rattle.checks.specs.declared.Checked.TheVariants.{Sound};
+ghost use Rattle.checks.specs.Reasons.{Sound};
 ghost use Rattle.paused_run.specs.Paused.{tol_in, options_in, over, moved, stopped, verdict};
 ghost use Rattle.paused_run.specs.Inner.{other_checks_by, fresh_of, state, turned};
 
-use checks::Checked;
+use checks::{Checked, Reason, Refusal};
 use krylov_advance::{Control, KrylovPhiReport, Progress};
 use krylov_job::{KrylovPhiOptions, RunJob};
 use pow2::Scale;
@@ -145,9 +145,9 @@ pub fn check_other(run: PausedRun, n: usize, count: usize, long: usize) -> Check
     ensures { result ≡ first (other_checks_by run n count long) }
 {
     if is_other(run, n, count) {
-        return Checked::Refused(16, float::count(long));
+        return Err(Refusal { reason: Reason::VectorLength, value: float::count(long) });
     }
-    Checked::Sound
+    Ok(())
 }
 
 // The run after an accepted substep.
@@ -202,7 +202,7 @@ pub fn verdict(run: PausedRun, tol: f64, o: Progress) -> StepAnswer
             if r.substeps < run.limit {
                 return StepAnswer::Stepped(moved(run, tol, c, r, false));
             }
-            StepAnswer::Refusal(27, r.est_error, moved(run, tol, c, r, true))
+            Err(Refusal { reason: Reason::SubstepLimit, value: r.est_error, moved(run, tol, c, r, true) })
         }
         Progress::Finished(c, r) => {
             let report = phi_krylov_arnoldi::relative_report(r, run.norm);

@@ -3,7 +3,7 @@
 
 ghost use Rattle.std.specs.Prelude.{◌≡◌, false, List, ◌+◌};
 ghost use Rattle.checks.specs.First.{Check, first};
-ghost use Rattle.checks.specs.declared.Checked.TheVariants.{Sound};
+ghost use Rattle.checks.specs.Reasons.{Sound};
 ghost use Rattle.general_operator.specs.Csr.{csr};
 ghost use Rattle.generator_action.specs.Mass.{given};
 ghost use Rattle.generator_action.specs.Generator.{forward};
@@ -12,7 +12,7 @@ ghost use Rattle.krylov_advance.specs.Run.{substep};
 ghost use Rattle.paused_run.specs.Paused.{leaves, over, step};
 ghost use Rattle.paused_run.specs.Inner.{job_over};
 
-use checks::Checked;
+use checks::{Reason, Refusal};
 use generator_action::{MatrixAnswer, Shape};
 use gram_schmidt::Krylov;
 use krylov_job::Eta;
@@ -45,11 +45,11 @@ pub fn stepped(
     let began = Eta::Began(run.eta);
     let j = krylov_job::admit_job(g, tau, count, w, began, o, out.len(), others, work.len());
     let job = j.checked;
-    let Checked::Sound = job else {
+    let Ok(()) = job else {
         return StepAnswer::Refusal(checks::number(job), checks::reported(job), run);
     };
     if field.len() != n + j.d {
-        return StepAnswer::Refusal(26, float::not_a_number(), run);
+        return Err(Refusal { reason: Reason::WorkLength, value: float::not_a_number(), run });
     }
     paused_advance::advance(
         run,
@@ -86,7 +86,7 @@ pub fn step(
     ensures { leaves result out.new work.new field.new ≡ step run field.old (record { tolerance = tolerance; job = record { g = forward (csr n starts.now cols.now vals.now) (given with_mass mass.now); tau = tau; count = count; w = w.now }; output = out.old; memory = work.old }) }
 {
     if paused_run::over(run) {
-        return StepAnswer::Refusal(31, float::not_a_number(), run);
+        return Err(Refusal { reason: Reason::RunEnded, value: float::not_a_number(), run });
     }
     let matrix = generator_checks::check_generator(n, starts, cols, vals, with_mass, mass);
     let MatrixAnswer::Norm(norm, _) = matrix else {

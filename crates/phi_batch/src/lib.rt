@@ -5,7 +5,7 @@ ghost use Rattle.std.specs.Prelude.{◌≡◌, List, ◌+◌, ◌*◌, ◌≤◌
 ghost use Rattle.lists.specs.Frame.{Kept};
 ghost use Rattle.doubles.specs.F64.{+0};
 ghost use Rattle.checks.specs.First.{Check, first};
-ghost use Rattle.checks.specs.declared.Checked.TheVariants.{Sound};
+ghost use Rattle.checks.specs.Reasons.{Sound};
 ghost use Rattle.general_operator.specs.Csr.{csr};
 ghost use Rattle.generator_action.specs.Mass.{given};
 ghost use Rattle.generator_action.specs.Generator.{forward};
@@ -16,7 +16,7 @@ ghost use Rattle.taylor_schedule.specs.Inner.{Coupled, matrix_of, after_checks};
 ghost use Rattle.taylor_job.specs.Inner.{layout, operator_by, job_end, Allowed};
 ghost use Rattle.taylor_job.specs.Calls.{batched, phi_action_batched};
 
-use checks::Checked;
+use checks::Refusal;
 use generator_action::{MatrixAnswer, Shape};
 use phi_action_helpers::SweepArgs;
 use taylor_job::TaylorAnswer;
@@ -61,7 +61,7 @@ fn run_batch(
     work: &mut [f64],
     j: Job,
     count: usize,
-) -> TaylorAnswer
+) -> Result<TaylorReport, Refusal>
     requires allowed { Allowed starts.now cols.now vals.now mass.now work.old j }
     requires coupled { Coupled j.b j.g.n j.d (length v.now) }
     requires d_value { (j.d ≡ 3) × (length v.now ≡ j.g.n) × (count ≤ 4) × (length out.old ≡ count * j.g.n) }
@@ -94,20 +94,14 @@ pub fn acted_batched(
     v: &[f64],
     out: &mut [f64],
     work: &mut [f64],
-) -> TaylorAnswer
+) -> Result<TaylorReport, Refusal>
     requires { Passed (csr g.n starts.now cols.now vals.now) (given g.with_mass mass.now) g }
     ensures { (gs : List Check) → Sound ≡ first gs → ends result out.new work.new ≡ phi_action_batched (after_checks gs (csr g.n starts.now cols.now vals.now) (given g.with_mass mass.now) g) tau cap p v.now out.old work.old }
 {
-    let index = combination::check_index(p);
-    let Checked::Sound = index else {
-        return TaylorAnswer::Refusal(checks::number(index), checks::reported(index));
-    };
+    combination::check_index(p)?;
     let count = p + 1;
     let j = admission::admit_action(g, tau, cap, p, v, out.len(), count * g.n, work.len());
-    let checked = j.checked;
-    let Checked::Sound = checked else {
-        return TaylorAnswer::Refusal(checks::number(checked), checks::reported(checked));
-    };
+    j.checked?;
     run_batch(starts, cols, vals, mass, v, out, work, j, count)
 }
 
@@ -125,16 +119,10 @@ pub fn phi_action_batched(
     v: &[f64],
     out: &mut [f64],
     work: &mut [f64],
-) -> TaylorAnswer
+) -> Result<TaylorReport, Refusal>
     ensures { ends result out.new work.new ≡ phi_action_batched (forward (csr n starts.now cols.now vals.now) (given with_mass mass.now)) tau cap p v.now out.old work.old }
 {
-    let matrix = generator_checks::check_generator(n, starts, cols, vals, with_mass, mass);
-    let MatrixAnswer::Norm(norm, _) = matrix else {
-        return TaylorAnswer::Refusal(
-            generator_action::number(matrix),
-            generator_action::value(matrix),
-        );
-    };
+    let matrix = generator_checks::check_generator(n, starts, cols, vals, with_mass, mass)?;
     let g = generator_action::generator_shape(n, with_mass, vals.len(), norm);
     acted_batched(starts, cols, vals, mass, g, tau, cap, p, v, out, work)
 }

@@ -8,8 +8,7 @@ use lib.Ieee.{Float}
 use Rattle.lists.specs.Window.{window, splice}
 use Rattle.checks.specs.First.{Check, first}
 use Rattle.checks.proofs.First.{sound_on, refused_up}
-use Rattle.checks.specs.declared.Checked.{Checked}
-use Rattle.checks.specs.declared.Checked.TheVariants.{Sound, Refused}
+use Rattle.checks.specs.First.{Checked}
 use Rattle.general_operator.specs.Csr.{Csr, csr}
 use Rattle.generator_action.specs.Mass.{Mass, given, quotients}
 use Rattle.generator_action.specs.Generator.{Generator}
@@ -25,9 +24,10 @@ use Rattle.taylor_schedule.proofs.Stored.{quotients_rows}
 use Rattle.taylor_schedule.proofs.Admitted.{coupled_in, coupled_one, sweeps_known, Action, action_known, length_start, length_init}
 use Rattle.taylor_job.specs.Inner.{Allowed, operator_by, job_end}
 use Rattle.taylor_job.specs.Calls.{swept_fields, combination_checks, combination_run, phi_combination, action_checks, phi_action, batched, phi_action_batched}
-use Rattle.taylor_job.specs.declared.TaylorAnswer.{TaylorAnswer}
-use Rattle.taylor_job.specs.declared.TaylorAnswer.TheVariants.{Refusal}
+use Rattle.taylor_job.specs.Answer.{TaylorAnswer}
 use Rattle.taylor_job.proofs.Jobs.{started_is, ends_planned}
+use Rattle.checks.specs.Reasons.{Sound, Refused}
+use Rattle.checks.specs.declared.Reason.{Reason}
 
 -- ---- what a run takes from them
 pub known_action : (g : Shape) (tau : Float) (cap k : ℕ) (v : List Float) (output wanted memory : ℕ) {j : Job} → j ≡ action_job g tau cap k v output wanted memory → j.checked ≡ Sound
@@ -63,18 +63,18 @@ module _ {starts cols : List ℕ} {vals : List Float} (mass : List Float) {g : S
   runs_batch v h ej l few = (allowed_action v h ej l, (rw ej (coupled_one g.n (length v) _ h.whole), rw ej (refl, h.whole, few, h.out)))
 
 -- ---- a refusal by a check of the generator is the call's
-module _ (g : Generator) (tau : Float) (cap : ℕ) (out w₀ : List Float) {i : ℕ} {x : Float} (e : Refused i x ≡ first g.checks) where
-  pub combination_refused : (count : ℕ) (w : List Float) → ends (Refusal i x) out w₀ ≡ phi_combination g tau cap count w out w₀
+module _ (g : Generator) (tau : Float) (cap : ℕ) (out w₀ : List Float) {i : Reason} {x : Float} (e : Refused i x ≡ first g.checks) where
+  pub combination_refused : (count : ℕ) (w : List Float) → ends (Refused i x) out w₀ ≡ phi_combination g tau cap count w out w₀
   unfolding phi_combination combination_checks
-  combination_refused count w = refused_by Refusal _ out w₀ _ refl (refused_up g.checks _ refl e)
+  combination_refused count w = refused_by Refused _ out w₀ _ refl (refused_up g.checks _ refl e)
 
-  pub action_refused : (k : ℕ) (v : List Float) → ends (Refusal i x) out w₀ ≡ phi_action g tau cap k v out w₀
+  pub action_refused : (k : ℕ) (v : List Float) → ends (Refused i x) out w₀ ≡ phi_action g tau cap k v out w₀
   unfolding phi_action action_checks
-  action_refused k v = refused_by Refusal _ out w₀ _ refl (refused_up g.checks _ refl e)
+  action_refused k v = refused_by Refused _ out w₀ _ refl (refused_up g.checks _ refl e)
 
-  pub batch_refused : (p : ℕ) (v : List Float) → ends (Refusal i x) out w₀ ≡ phi_action_batched g tau cap p v out w₀
+  pub batch_refused : (p : ℕ) (v : List Float) → ends (Refused i x) out w₀ ≡ phi_action_batched g tau cap p v out w₀
   unfolding phi_action_batched action_checks
-  batch_refused p v = refused_by Refusal _ out w₀ _ refl (refused_up g.checks _ refl e)
+  batch_refused p v = refused_by Refused _ out w₀ _ refl (refused_up g.checks _ refl e)
 
 -- the first field lies within the memory
 pub field_fits : {starts cols : List ℕ} {vals mass work : List Float} {j : Job} → Allowed starts cols vals mass work j → j.g.n + j.d ≤ length work
@@ -109,9 +109,9 @@ module _ {starts cols : List ℕ} {vals : List Float} (mass : List Float) {g : S
 
   -- ---- a combination
   module _ (tau : Float) (cap count : ℕ) (w out w₀ : List Float) {v : Checked} (fv : v ≡ first (vector_checks g.n (plan_checks tau cap) count w (length out))) where
-    pub refused_vectors : {k : ℕ} {x : Float} → v ≡ Refused k x → ends (Refusal k x) out w₀ ≡ phi_combination (after_checks gs a m g) tau cap count w out w₀
+    pub refused_vectors : {k : Reason} {x : Float} → v ≡ Refused k x → ends (Refused k x) out w₀ ≡ phi_combination (after_checks gs a m g) tau cap count w out w₀
     unfolding phi_combination combination_checks
-    refused_vectors e = refused_by Refusal _ out w₀ _ e (sound_on gs _ refl sound (rw rows (refused_up (vector_checks g.n (plan_checks tau cap) count w (length out)) _ e fv)))
+    refused_vectors e = refused_by Refused _ out w₀ _ e (sound_on gs _ refl sound (rw rows (refused_up (vector_checks g.n (plan_checks tau cap) count w (length out)) _ e fv)))
 
     -- 12 to 17 passed
     module _ (ev : v ≡ Sound) {j : Job} (ej : j ≡ combination_job g tau cap (count - 1) (further g.n w) (length w₀)) where
@@ -120,14 +120,14 @@ module _ {starts cols : List ℕ} {vals : List Float} (mass : List Float) {g : S
       told =
           sound_on gs _ refl sound (rw (← ok.norm, rows) (sound_on (vector_checks g.n (plan_checks tau cap) count w (length out)) _ ev fv (ap (λ (x : Job). x.checked) ej)))
 
-      pub refused_sweeps : {k : ℕ} {x : Float} → j.checked ≡ Refused k x → ends (Refusal k x) out w₀ ≡ phi_combination (after_checks gs a m g) tau cap count w out w₀
+      pub refused_sweeps : {k : Reason} {x : Float} → j.checked ≡ Refused k x → ends (Refused k x) out w₀ ≡ phi_combination (after_checks gs a m g) tau cap count w out w₀
       unfolding phi_combination
-      refused_sweeps e = refused_by Refusal _ out w₀ _ e told
+      refused_sweeps e = refused_by Refused _ out w₀ _ e told
 
       pub combined_is : {c : Call TaylorAnswer} → j.checked ≡ Sound → c ≡ combination_run (after_checks gs a m g) tau cap (count - 1) w (further g.n w) out w₀
           → c ≡ phi_combination (after_checks gs a m g) tau cap count w out w₀
       unfolding phi_combination
-      combined_is e h = runs Refusal _ out w₀ _ e told (h ∙ rw rows refl)
+      combined_is e h = runs Refused _ out w₀ _ e told (h ∙ rw rows refl)
 
   -- ---- an action of the index k: `wanted` values of the output
   module _ (tau : Float) (cap k : ℕ) (v : List Float) (out w₀ : List Float) (wanted : ℕ) {j : Job} (ej : j ≡ action_job g tau cap k v (length out) wanted (length w₀)) where
@@ -142,9 +142,9 @@ module _ {starts cols : List ℕ} {vals : List Float} (mass : List Float) {g : S
     told_one : j.checked ≡ first (action_checks (after_checks gs a m g) tau cap k v (length out) (quotients a m).n (length w₀))
     told_one = told_action tau cap k v out w₀ g.n ej ∙ ap (λ (n : ℕ). first (action_checks (after_checks gs a m g) tau cap k v (length out) n (length w₀))) (sym rows)
 
-    pub refused_action : {i : ℕ} {x : Float} → j.checked ≡ Refused i x → ends (Refusal i x) out w₀ ≡ phi_action (after_checks gs a m g) tau cap k v out w₀
+    pub refused_action : {i : Reason} {x : Float} → j.checked ≡ Refused i x → ends (Refused i x) out w₀ ≡ phi_action (after_checks gs a m g) tau cap k v out w₀
     unfolding phi_action
-    refused_action e = refused_by Refusal _ out w₀ _ e told_one
+    refused_action e = refused_by Refused _ out w₀ _ e told_one
 
     pub acted_is : {c : Call TaylorAnswer} {w₁ : List Float} → j.checked ≡ Sound → w₁ ≡ splice 0 (init_aug_vector g.n v j.inv k) w₀
         → c ≡ job_end j (matrix_of j.g starts cols vals mass) (swept_fields (operator_by j (matrix_of j.g starts cols vals mass) v) j.tau (window 0 (j.g.n + j.d) w₁)) w₁
@@ -156,24 +156,24 @@ module _ {starts cols : List ℕ} {vals : List Float} (mass : List Float) {g : S
         let al = allowed tau cap k v out w₀ g.n ej e in
         let run = swept_fields (operator_by J q v) tau in
         let y = init_aug_vector g.n v J.inv k in
-        runs Refusal _ out w₀ _ e told_one
+        runs Refused _ out w₀ _ e told_one
         (started_is J q run (g.n + 3) y w₀ (length_init g.n v J.inv k (known_action g tau cap k v (length out) g.n (length w₀) ej e).whole) (omega arith) al.enough (rw ej at e₁) (rw ej at f)
         ∙ ends_planned al out q (run y)
         ∙ rw (← ok.norm, rows) refl)
 
   -- ---- a batch of the indices 0 to k
   module _ (tau : Float) (cap k : ℕ) (v out w₀ : List Float) where
-    pub refused_index : {s : Checked} {i : ℕ} {x : Float} → s ≡ Refused i x → s ≡ first (index_checks k) → ends (Refusal i x) out w₀ ≡ phi_action_batched (after_checks gs a m g) tau cap k v out w₀
+    pub refused_index : {s : Checked} {i : Reason} {x : Float} → s ≡ Refused i x → s ≡ first (index_checks k) → ends (Refused i x) out w₀ ≡ phi_action_batched (after_checks gs a m g) tau cap k v out w₀
     unfolding phi_action_batched action_checks job_checks
-    refused_index e f = refused_by Refusal _ out w₀ _ e (sound_on gs _ refl sound (refused_up (index_checks k) _ e f))
+    refused_index e f = refused_by Refused _ out w₀ _ e (sound_on gs _ refl sound (refused_up (index_checks k) _ e f))
 
     module _ (count : ℕ) (ec : count ≡ suc k) {j : Job} (ej : j ≡ action_job g tau cap k v (length out) (count * g.n) (length w₀)) where
       told_batch : j.checked ≡ first (action_checks (after_checks gs a m g) tau cap k v (length out) (suc k * (quotients a m).n) (length w₀))
       told_batch = told_action tau cap k v out w₀ (count * g.n) ej ∙ (λ i. first (action_checks (after_checks gs a m g) tau cap k v (length out) (ec i * sym rows i) (length w₀)))
 
-      pub refused_batch : {i : ℕ} {x : Float} → j.checked ≡ Refused i x → ends (Refusal i x) out w₀ ≡ phi_action_batched (after_checks gs a m g) tau cap k v out w₀
+      pub refused_batch : {i : Reason} {x : Float} → j.checked ≡ Refused i x → ends (Refused i x) out w₀ ≡ phi_action_batched (after_checks gs a m g) tau cap k v out w₀
       unfolding phi_action_batched
-      refused_batch e = refused_by Refusal _ out w₀ _ e told_batch
+      refused_batch e = refused_by Refused _ out w₀ _ e told_batch
 
       pub batch_is : {c : Call TaylorAnswer} → j.checked ≡ Sound
           → c ≡ job_end j (matrix_of j.g starts cols vals mass) (batched (operator_by j (matrix_of j.g starts cols vals mass) v) j.tau v j.inv count) w₀
@@ -182,5 +182,5 @@ module _ {starts cols : List ℕ} {vals : List Float} (mass : List Float) {g : S
       batch_is e f =
           let J = action_job g tau cap k v (length out) (count * g.n) (length w₀) in
           let q = quotients a m in
-          runs Refusal _ out w₀ _ e told_batch
+          runs Refused _ out w₀ _ e told_batch
           ((rw ej at f) ∙ ends_planned (allowed tau cap k v out w₀ (count * g.n) ej e) out q (batched (operator_by J q v) tau v J.inv count) ∙ rw (← ok.norm, rows, ec) refl)

@@ -13,6 +13,7 @@ ghost use Rattle.krylov_advance.specs.Run.{first_length, substep, relative_repor
 ghost use Rattle.krylov_advance.specs.declared.KrylovPhiReport.{KrylovPhiReport};
 ghost use Rattle.krylov_advance.specs.Memory.{products, state_at, progress_at};
 
+use checks::{Reason, Refusal};
 use gram_schmidt::{BasisAnswer, Krylov};
 use krylov_advance::{Control, KrylovPhiReport, Progress};
 use phi_action_helpers::{Coupling, Layout};
@@ -71,8 +72,8 @@ pub fn substep(
     let trial = trial_steps::trial_steps(&work[from..to], k, c.beta, c.next, remaining, basis);
     let outcome = trial.outcome;
     match outcome {
-        Outcome::Next(_, _) => Progress::Refused(28, k.tol, c, r),
-        Outcome::NoPlan(arg) => Progress::Refused(29, arg, c, r),
+        Outcome::Next(_, _) => Err(Refusal { reason: Reason::LengthsRejected, value: k.tol, c, r }),
+        Outcome::NoPlan(arg) => Err(Refusal { reason: Reason::NoInnerPlan, value: arg, c, r }),
         Outcome::Accepted(s) => krylov_advance::advance(
             work,
             l,

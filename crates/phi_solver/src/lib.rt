@@ -8,6 +8,7 @@ ghost use Rattle.generator_action.specs.Generator.{forward};
 ghost use Rattle.combination.specs.Call.{ends};
 ghost use Rattle.phi_solver.specs.Combine.{of_taylor, of_krylov, combine};
 
+use checks::Refusal;
 use gram_schmidt::Krylov;
 use krylov_advance::KrylovPhiReport;
 use krylov_job::{KrylovAnswer, KrylovPhiOptions};
@@ -28,20 +29,20 @@ pub enum PhiAnswer {
     Krylov(KrylovPhiReport),
 }
 
-pub fn of_taylor(answer: TaylorAnswer) -> PhiAnswer
+pub fn of_taylor(answer: Result<TaylorReport, Refusal>) -> PhiAnswer
     ensures { result ≡ of_taylor answer }
 {
     match answer {
-        TaylorAnswer::Refusal(k, x) => PhiAnswer::Refusal(k, x),
+        Err(Refusal { reason: k, value: x }) => PhiAnswer::Refusal(k, x),
         TaylorAnswer::Result(report) => PhiAnswer::Taylor(report),
     }
 }
 
-pub fn of_krylov(answer: KrylovAnswer) -> PhiAnswer
+pub fn of_krylov(answer: Result<KrylovPhiReport, Refusal>) -> PhiAnswer
     ensures { result ≡ of_krylov answer }
 {
     match answer {
-        KrylovAnswer::Refusal(k, x) => PhiAnswer::Refusal(k, x),
+        Err(Refusal { reason: k, value: x }) => PhiAnswer::Refusal(k, x),
         KrylovAnswer::Result(report) => PhiAnswer::Krylov(report),
     }
 }

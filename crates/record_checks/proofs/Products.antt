@@ -17,22 +17,23 @@ use Rattle.vectors.specs.Vectors.{scale}
 use Rattle.vectors.proofs.Laws.{length_scale, scale_at}
 use Rattle.pow2.specs.Pow2.{sup}
 use Rattle.checks.specs.First.{first}
-use Rattle.checks.specs.declared.Checked.TheVariants.{Sound, Refused}
 use Rattle.checks.proofs.First.{passes_find, stops_find, ends_sound}
 use Rattle.combination.specs.Combination.{vector, gain, weighed, magnitude}
 use Rattle.combination.specs.Checks.{not_finite_at, finite_checks}
 use Rattle.weighted_columns.specs.Inner.{powers_of}
 use Rattle.combination.proofs.Further.{finite_behind}
+use Rattle.checks.specs.Reasons.{Sound, Refused}
+use Rattle.checks.specs.declared.Reason.TheVariants.{VectorNotFinite}
 
 -- ---- 17
 module _ (load : List Float) (level : Float) {i : ℕ} (e : i ≡ find (not_finite_at (scale level load)) (length load)) where
   found : i ≡ find (not_finite_at (scale level load)) (length (scale level load))
   found = e ∙ ap (find (not_finite_at (scale level load))) (sym (length_scale level load))
 
-  pub product_bad : i < length load → Refused 17 (at load i ⊗ level) ≡ first (finite_checks (scale level load))
+  pub product_bad : i < length load → Refused VectorNotFinite (at load i ⊗ level) ≡ first (finite_checks (scale level load))
   unfolding finite_checks
   product_bad l =
-      ap (Refused 17) (sym (scale_at level load i l))
+      ap (Refused VectorNotFinite) (sym (scale_at level load i l))
       ∙ stops_find 17 (scale level load) [] (not_finite_at (scale level load)) (length (scale level load)) found (omega (arith, length_scale level load))
 
   pub products_finite : length load ≤ i → Sound ≡ first (finite_checks (scale level load))

@@ -10,7 +10,7 @@ ghost use Rattle.combination.specs.Checks.{not_finite_at, finite_checks};
 ghost use Rattle.weighted_columns.specs.Inner.{powers_of};
 ghost use Rattle.ambient_checks.specs.Inner.{places, field_of, early_checks, record_job};
 
-use checks::Checked;
+use checks::{Checked, Reason, Refusal};
 use generator_action::Shape;
 use taylor_schedule::Job;
 use weighted_columns::Powers;
@@ -33,9 +33,9 @@ fn check_products(load: &[f64], level: f64) -> Checked
 {
     let i = first_bad_product(load, level);
     if i < load.len() {
-        return Checked::Refused(17, load[i] * level);
+        return Err(Refusal { reason: Reason::VectorNotFinite, value: load[i] * level });
     }
-    Checked::Sound
+    Ok(())
 }
 
 // The largest magnitude of load x level.

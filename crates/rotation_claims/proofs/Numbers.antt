@@ -12,8 +12,7 @@ use Rattle.lists.specs.Walk.{Turn, on, out}
 use Rattle.checks.specs.First.{Check, refuse, first, before}
 use Rattle.checks.proofs.First.{unless, first_cons}
 use Rattle.checks.proofs.Numbers.{before_append, not_by}
-use Rattle.checks.specs.declared.Checked.{Checked}
-use Rattle.checks.specs.declared.Checked.TheVariants.{Sound, Refused}
+use Rattle.checks.specs.First.{Checked}
 use Rattle.combination.specs.Checks.{count_checks, time_checks, length_checks, finite_checks, magnitude_checks, memory_checks, vector_checks_by}
 use Rattle.krylov_advance.specs.Run.{State, End, finished, refused}
 use Rattle.krylov_job.specs.KrylovCall.{option_checks, bound_checks, run_checks, krylov_checks_by, krylov_checks}
@@ -23,13 +22,17 @@ use Rattle.paused_run.specs.declared.PausedRun.{PausedRun}
 use Rattle.paused_run.specs.declared.StepAnswer.TheVariants as step_answer
 use Rattle.paused_claims.specs.Alike.{number_in}
 use Rattle.paused_claims.proofs.Standing.{Refuses, substep_refuses}
+use Rattle.checks.specs.Reasons.{Refused}
+use Rattle.std.specs.Prelude.{Ok, Err}
+use Rattle.checks.specs.declared.Reason.TheVariants.{SubstepLimit, RunEnded, UnitFull}
+use Rattle.checks.specs.declared.Reason.{Reason}
 
 -- k is none of the numbers of a start's own checks
 module _ (o : KrylovPhiOptions) (j : Job) (output memory : ℕ) where
   abbrev own : List Check
   own = krylov_checks j.g j.tau j.count j.w o output memory
 
-  pub none_32 : before 32 j.g.checks ≡ j.g.checks → before 32 own ≡ own
+  pub none_32 : before UnitFull j.g.checks ≡ j.g.checks → before UnitFull own ≡ own
   unfolding before krylov_checks krylov_checks_by vector_checks_by count_checks time_checks length_checks finite_checks option_checks run_checks magnitude_checks bound_checks memory_checks
   none_32 h = before_append 32 j.g.checks _ h
 
@@ -42,7 +45,7 @@ pub step_none_23 : (s : PausedRun) (field : ℕ) (i : Input) → before 23 i.job
 unfolding before step_checks krylov_checks_by vector_checks_by count_checks time_checks length_checks other_checks finite_checks option_checks run_checks magnitude_checks bound_checks memory_checks field_checks
 step_none_23 s field i h =
     let j = i.job in
-    ap (λ (l : List Check). refuse 31 (over s) nan ∷ l)
+    ap (λ (l : List Check). refuse RunEnded (over s) nan ∷ l)
     (ap (before 23) (append_assoc j.g.checks _ (field_checks field (rows j + degree j))) ∙ before_append 23 j.g.checks _ h ∙ sym (append_assoc j.g.checks _ (field_checks field (rows j + degree j))))
 
 -- 31 is the first alone
@@ -52,13 +55,13 @@ behind s field i =
     krylov_checks_by j.g j.tau j.count j.w s.eta (length_checks (length i.output) (rows j) (length j.w) (j.count * rows j) ++ other_checks s j) (options_in s (tol_in i.tolerance s)) (length i.memory)
     ++ field_checks field (rows j + degree j)
 
-behind_none : (s : PausedRun) (field : ℕ) (i : Input) → before 31 i.job.g.checks ≡ i.job.g.checks → before 31 (behind s field i) ≡ behind s field i
+behind_none : (s : PausedRun) (field : ℕ) (i : Input) → before RunEnded i.job.g.checks ≡ i.job.g.checks → before RunEnded (behind s field i) ≡ behind s field i
 unfolding before krylov_checks_by vector_checks_by count_checks time_checks length_checks other_checks finite_checks option_checks run_checks magnitude_checks bound_checks memory_checks field_checks
 behind_none s field i h =
     let j = i.job in
-    ap (before 31) (append_assoc j.g.checks _ (field_checks field (rows j + degree j))) ∙ before_append 31 j.g.checks _ h ∙ sym (append_assoc j.g.checks _ (field_checks field (rows j + degree j)))
+    ap (before RunEnded) (append_assoc j.g.checks _ (field_checks field (rows j + degree j))) ∙ before_append 31 j.g.checks _ h ∙ sym (append_assoc j.g.checks _ (field_checks field (rows j + degree j)))
 
-pub only_over : (s : PausedRun) (field : ℕ) (i : Input) → before 31 i.job.g.checks ≡ i.job.g.checks → over s ≡ false → (x : Float) → Refused 31 x ≡ first (step_checks s field i) → ⊥
+pub only_over : (s : PausedRun) (field : ℕ) (i : Input) → before RunEnded i.job.g.checks ≡ i.job.g.checks → over s ≡ false → (x : Float) → Refused RunEnded x ≡ first (step_checks s field i) → ⊥
 unfolding step_checks
 only_over s field i h e x r = not_by 31 (behind s field i) (behind_none s field i h) (r ∙ first_cons 31 (over s) nan (behind s field i) ∙ ap (λ (b : Bool). unless b 31 nan (first (behind s field i))) e)
 
@@ -67,7 +70,7 @@ pub verdict_number : (s : PausedRun) (tol : Float) (t : State) (o : Turn State E
 unfolding verdict
 verdict_number s tol t (on n) h k n0 n27 n28 n29 e = go (ltb n.report.substeps s.limit) e
   where
-    go : (b : Bool) → number_in (if b then step_answer.Stepped (moved s tol n n.report false) else step_answer.Refusal 27 n.report.est_error (moved s tol n n.report true)) ≡ k → ⊥
+    go : (b : Bool) → number_in (if b then step_answer.Stepped (moved s tol n n.report false) else Refused SubstepLimit n.report.est_error (moved s tol n n.report true)) ≡ k → ⊥
     go true e = n0 (sym e)
     go false e = n27 (sym e)
 verdict_number s tol t (out (finished n)) h k n0 n27 n28 n29 e = n0 (sym e)
@@ -77,13 +80,13 @@ verdict_number s tol t (out (refused r x n)) h k n0 n27 n28 n29 e = elim h.1 [
 ]
 
 -- by a step's checks
-step_by : (s : PausedRun) (y : List Float) (i : Input) (c : Checked) (k : ℕ) → first (step_checks s (length y) i) ≡ c → ((x : Float) → Refused k x ≡ first (step_checks s (length y) i) → ⊥)
+step_by : (s : PausedRun) (y : List Float) (i : Input) (c : Checked) (k : Reason) → first (step_checks s (length y) i) ≡ c → ((x : Float) → Refused k x ≡ first (step_checks s (length y) i) → ⊥)
     → (k ≡ 0 → ⊥) → (k ≡ 27 → ⊥) → (k ≡ 28 → ⊥) → (k ≡ 29 → ⊥) → number_in (step_unless c s y i).answer ≡ k → ⊥
 unfolding step_unless after_substep
-step_by s y i (Refused r x) k ec h n0 n27 n28 n29 e = h x (ap (λ (z : ℕ). Refused z x) (sym e) ∙ sym ec)
-step_by s y i Sound k ec h n0 n27 n28 n29 e = verdict_number s (tol_in i.tolerance s) _ (substep_of s y i) (substep_refuses _ _) k n0 n27 n28 n29 e
+step_by s y i (Err refusal) k ec h n0 n27 n28 n29 e = h refusal.value (ap (λ (z : Reason). Refused z refusal.value) (sym e) ∙ sym ec)
+step_by s y i (Ok _) k ec h n0 n27 n28 n29 e = verdict_number s (tol_in i.tolerance s) _ (substep_of s y i) (substep_refuses _ _) k n0 n27 n28 n29 e
 
-pub step_number : (s : PausedRun) (y : List Float) (i : Input) (k : ℕ) → ((x : Float) → Refused k x ≡ first (step_checks s (length y) i) → ⊥)
+pub step_number : (s : PausedRun) (y : List Float) (i : Input) (k : Reason) → ((x : Float) → Refused k x ≡ first (step_checks s (length y) i) → ⊥)
     → (k ≡ 0 → ⊥) → (k ≡ 27 → ⊥) → (k ≡ 28 → ⊥) → (k ≡ 29 → ⊥) → number_in (step s y i).answer ≡ k → ⊥
 unfolding step
 step_number s y i k h n0 n27 n28 n29 e = step_by s y i (first (step_checks s (length y) i)) k refl h n0 n27 n28 n29 e

@@ -6,6 +6,7 @@ use Rattle.paused_run.specs.declared.StepAnswer.{StepAnswer}
 use Rattle.paused_run.specs.declared.StepAnswer.TheVariants.{Refusal, Stepped}
 use Rattle.rotation.specs.Unit.{vacant, waiting, next_place, unit_call, turn}
 use Rattle.rotation_claims.specs.History.{Act, Event, joined, turned, event_of, events_from, left_by, unfinished, turns_asked, turns_of}
+use Rattle.checks.specs.declared.Reason.TheVariants.{RunEnded}
 
 -- ---- the queue
 unfoldable pub times : ℕ → List ℕ → ℕ
@@ -34,7 +35,7 @@ pub record NextClaim (h : List Act) : Type 0 where
   pub if_none : ((p : ℕ) → p < 16 → unfinished h p ≡ false) → next_place (left_by h) ≡ 16
   pub bounded : next_place (left_by h) ≤ 16
   -- a turn is then 31, which carries NaN and changes nothing
-  pub empty_turn : next_place (left_by h) ≡ 16 → (i : Input) (y : List Float) → turn (left_by h) y i ≡ unit_call (left_by h) 16 (leaves (Refusal 31 nan vacant) i.output i.memory y)
+  pub empty_turn : next_place (left_by h) ≡ 16 → (i : Input) (y : List Float) → turn (left_by h) y i ≡ unit_call (left_by h) 16 (leaves (Refusal RunEnded nan vacant) i.output i.memory y)
 
 -- ---- 'Between two turns of a waiting run at most 15 substeps of others are served'
 -- a substep was made: an answer, or 27 to 29

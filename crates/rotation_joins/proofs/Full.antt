@@ -12,8 +12,7 @@ use Rattle.pow2.specs.declared.Scaling.{Scaling}
 use Rattle.pow2.specs.declared.Prescale.{Prescale}
 use Rattle.pow2.specs.declared.Prescale.TheVariants.{By, None}
 use Rattle.checks.specs.First.{Check, first}
-use Rattle.checks.specs.declared.Checked.{Checked}
-use Rattle.checks.specs.declared.Checked.TheVariants.{Sound, Refused}
+use Rattle.checks.specs.First.{Checked}
 use Rattle.general_operator.specs.Csr.{csr}
 use Rattle.generator_action.specs.Mass.{given}
 use Rattle.generator_action.specs.Known.{Passed}
@@ -28,22 +27,25 @@ use Rattle.krylov_job.specs.declared.RunJob.{RunJob}
 use Rattle.krylov_job.specs.declared.Eta.TheVariants.{Own}
 use Rattle.paused_run.specs.Paused.{Job, PausedCall, start}
 use Rattle.paused_run.specs.Inner.{job_over, begun_of}
-use Rattle.paused_run.specs.declared.StartAnswer.{StartAnswer}
+use Rattle.paused_run.specs.Answer.{StartAnswer}
 use Rattle.paused_start.proofs.Starts.{refused_generator, refused_job, refused_field, started_is}
 use Rattle.rotation_joins.specs.Inner.{by_power, full_answer}
+use Rattle.checks.specs.Reasons.{Sound, Refused}
+use Rattle.checks.specs.declared.Reason.TheVariants.{WorkLength, UnitFull}
+use Rattle.checks.specs.declared.Reason.{Reason}
 
 abbrev answered : PausedCall StartAnswer → Checked
 answered c = full_answer c.answer
 
-begun_full : (o : KrylovPhiOptions) (j : RunJob) (y memory : List Float) (p : Prescale) → (if by_power p then Refused 32 nan else Sound) ≡ answered (begun_of o j y memory p)
+begun_full : (o : KrylovPhiOptions) (j : RunJob) (y memory : List Float) (p : Prescale) → (if by_power p then Refused UnitFull nan else Sound) ≡ answered (begun_of o j y memory p)
 unfolding begun_of
 begun_full o j y memory None = refl
 begun_full o j y memory (By f) = refl
 
-pub told_32 : {b : Bool} {x : Float} → b ≡ true → x ≡ nan → Refused 32 x ≡ (if b then Refused 32 nan else Sound)
+pub told_32 : {b : Bool} {x : Float} → b ≡ true → x ≡ nan → Refused UnitFull x ≡ (if b then Refused UnitFull nan else Sound)
 told_32 e ex = rw (e, ex) refl
 
-pub told_sound : {b : Bool} → b ≡ false → Sound ≡ (if b then Refused 32 nan else Sound)
+pub told_sound : {b : Bool} → b ≡ false → Sound ≡ (if b then Refused UnitFull nan else Sound)
 told_sound e = rw e refl
 
 pub else_full : {b : Bool} {r x : Checked} → b ≡ false → r ≡ x → r ≡ (if b then Sound else x)
@@ -62,7 +64,7 @@ one_long {g} {tau} {count} {w} {eta} {o} output {memory} {j} ad e h =
     k.vectors.flat ∙ ap (λ (x : ℕ). x * g.n) one ∙ single
 
 -- the generator's own checks
-pub full_generator : (o : KrylovPhiOptions) (j : Job) (out w₀ field : List Float) {k : ℕ} {x : Float} → Refused k x ≡ first j.g.checks → Refused k x ≡ full_answer (start o j out w₀ field).answer
+pub full_generator : (o : KrylovPhiOptions) (j : Job) (out w₀ field : List Float) {k : Reason} {x : Float} → Refused k x ≡ first j.g.checks → Refused k x ≡ full_answer (start o j out w₀ field).answer
 full_generator o j out w₀ field e = ap answered (refused_generator o j out w₀ field e)
 
 module _
@@ -87,11 +89,11 @@ module _
   ad' : Admitted g tau count w (scaling_of g tau count w Own) o (length_checks (length out) g.n (length w) (count * g.n) ++ []) (length w₀) j
   ad' = rw (eo, ew) ad
 
-  pub full_job : {k : ℕ} {x : Float} → j.checked ≡ Refused k x → Refused k x ≡ full_answer (start o (job_over gs g starts cols vals mass tau count w) out w₀ field).answer
+  pub full_job : {k : Reason} {x : Float} → j.checked ≡ Refused k x → Refused k x ≡ full_answer (start o (job_over gs g starts cols vals mass tau count w) out w₀ field).answer
   full_job e = ap answered (refused_job mass ok gs sound tau count w o out w₀ field ad' e)
 
   module _ (e : j.checked ≡ Sound) where
-    pub full_field : {x : Float} → (nf ≡ j.g.n + j.d → ⊥) → x ≡ nan → Refused 26 x ≡ full_answer (start o (job_over gs g starts cols vals mass tau count w) out w₀ field).answer
+    pub full_field : {x : Float} → (nf ≡ j.g.n + j.d → ⊥) → x ≡ nan → Refused WorkLength x ≡ full_answer (start o (job_over gs g starts cols vals mass tau count w) out w₀ field).answer
     full_field ne ex = ap answered (refused_field mass ok gs sound tau count w o out w₀ field ad' e (λ h. ne (sym ef ∙ h)) ex)
 
     abbrev values : List Float
@@ -104,12 +106,12 @@ module _
     -- the start's own call: all zeros, or 32
     pub full_start : {b : Bool} {r : Checked} → nf ≡ j.g.n + j.d
         → ((sum : Float) → b ≡ by_power (pow2_scale (combination_start j.g.n w j.d (eta_scaling sum).inv)))
-        → r ≡ (if b then Refused 32 nan else Sound)
+        → r ≡ (if b then Refused UnitFull nan else Sound)
         → r ≡ full_answer (start o (job_over gs g starts cols vals mass tau count w) out w₀ field).answer
     full_start l h er =
         let sum = magnitude g.n (further g.n w) tau (count - 1) in
         let hb = h sum ∙ ap (λ (x : Scaling). by_power (pow2_scale (combination_start j.g.n w j.d x.inv))) (sym eta_is) in
         er
-        ∙ ap (λ (x : Bool). if x then Refused 32 nan else Sound) hb
+        ∙ ap (λ (x : Bool). if x then Refused UnitFull nan else Sound) hb
         ∙ begun_full o j values (cleared j.need w₀) (pow2_scale values)
         ∙ ap answered (started_is mass ok gs sound tau count w o out w₀ field ad' e (ef ∙ l) refl)

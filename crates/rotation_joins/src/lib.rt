@@ -4,7 +4,7 @@
 ghost use Rattle.std.specs.Prelude.{◌≡◌, List, ℕ, ◌≤◌, length, Float, if◌then◌else◌};
 ghost use Rattle.pow2.specs.Pow2.{eta_scaling, pow2_scale};
 ghost use Rattle.checks.specs.First.{Check, first};
-ghost use Rattle.checks.specs.declared.Checked.TheVariants.{Sound};
+ghost use Rattle.checks.specs.Reasons.{Sound};
 ghost use Rattle.general_operator.specs.Csr.{csr};
 ghost use Rattle.generator_action.specs.Mass.{given};
 ghost use Rattle.generator_action.specs.Generator.{forward};
@@ -15,7 +15,7 @@ ghost use Rattle.paused_run.specs.Inner.{job_over};
 ghost use Rattle.rotation.specs.Unit.{room, unit_call, join};
 ghost use Rattle.rotation_joins.specs.Inner.{by_power, full_answer, admitted_of};
 
-use checks::Checked;
+use checks::{Checked, Reason, Refusal};
 use generator_action::{MatrixAnswer, Shape};
 use krylov_job::{Eta, KrylovPhiOptions};
 use paused_run::StartAnswer;
@@ -27,7 +27,7 @@ use rotation::Rotation;
 pub struct Joined {
     pub unit: Rotation,
     pub place: usize,
-    pub answer: StartAnswer,
+    pub answer: Result<PausedRun, Refusal>,
 }
 
 // Whether the n + d values of a start are not all zeros: 1 / eta stands at the end of a chain.
@@ -59,19 +59,19 @@ fn refused_job(
     requires { (g.n ≤ 1000000) × (g.stored ≤ 16777216) }
     ensures { (gs : List Check) (starts cols : List ℕ) (vals mass output memory lent : List Float) → Sound ≡ first gs → Passed (csr g.n starts cols vals) (given g.with_mass mass) g → length output ≡ out → length memory ≡ work → length lent ≡ field → result ≡ full_answer (start o (job_over gs g starts cols vals mass tau count w.now) output memory lent).answer }
 {
-    let none = Checked::Sound;
+    let none = Ok(());
     let j = krylov_job::admit_job(g, tau, count, w, Eta::Own, o, out, none, work);
     let job = j.checked;
-    let Checked::Sound = job else {
+    let Ok(()) = job else {
         return Checked::Refused(checks::number(job), checks::reported(job));
     };
     if field != j.g.n + j.d {
-        return Checked::Refused(26, float::not_a_number());
+        return Err(Refusal { reason: Reason::WorkLength, value: float::not_a_number() });
     }
     if goes_on(j.g.n, w, j.d) {
-        return Checked::Refused(32, float::not_a_number());
+        return Err(Refusal { reason: Reason::UnitFull, value: float::not_a_number() });
     }
-    Checked::Sound
+    Ok(())
 }
 
 // How a unit refuses a job before its start: not at all where it has room.
@@ -94,25 +94,19 @@ fn refused_full(
     ensures { (output memory lent : List Float) → length output ≡ out → length memory ≡ work → length lent ≡ field → result ≡ (if room unit then Sound else full_answer (start o (record { g = forward (csr n starts.now cols.now vals.now) (given with_mass mass.now); tau = tau; count = count; w = w.now }) output memory lent).answer) }
 {
     if rotation::room(unit) {
-        return Checked::Sound;
+        return Ok(());
     }
-    let matrix = generator_checks::check_generator(n, starts, cols, vals, with_mass, mass);
-    let MatrixAnswer::Norm(norm, _) = matrix else {
-        return Checked::Refused(
-            generator_action::number(matrix),
-            generator_action::value(matrix),
-        );
-    };
+    let matrix = generator_checks::check_generator(n, starts, cols, vals, with_mass, mass)?;
     let g = generator_action::generator_shape(n, with_mass, vals.len(), norm);
     refused_job(g, tau, count, w, o, out, work, field)
 }
 
 // The unit with a run that its start left: one that has ended takes no place.
-fn admitted(unit: Rotation, answer: StartAnswer) -> Joined
+fn admitted(unit: Rotation, answer: Result<PausedRun, Refusal>) -> Joined
     ensures { result ≡ admitted_of unit answer }
 {
     match answer {
-        StartAnswer::Refusal(_, _) => Joined {
+        Err(Refusal { reason: _, value: _ }) => Joined {
             unit: unit,
             place: 16,
             answer: answer,
@@ -171,11 +165,11 @@ pub fn join(
         work.len(),
         field.len(),
     );
-    let Checked::Sound = full else {
+    let Ok(()) = full else {
         return Joined {
             unit: unit,
             place: 16,
-            answer: StartAnswer::Refusal(checks::number(full), checks::reported(full)),
+            answer: Result<PausedRun, Refusal>::Refusal(checks::number(full), checks::reported(full)),
         };
     };
     let answer = paused_start::start(

@@ -8,6 +8,7 @@ ghost use Rattle.generator_action.specs.Generator.{forward};
 ghost use Rattle.paused_run.specs.Paused.{leaves};
 ghost use Rattle.rotation.specs.Unit.{unit_call, run_left, turn};
 
+use checks::{Reason, Refusal};
 use paused_run::{PausedRun, StepAnswer, Tolerance};
 use rotation::Rotation;
 
@@ -53,7 +54,7 @@ pub fn turn(
         return Turned {
             unit: unit,
             place: 16,
-            answer: StepAnswer::Refusal(31, float::not_a_number(), rotation::vacant()),
+            answer: Err(Refusal { reason: Reason::RunEnded, value: float::not_a_number(), rotation::vacant() }),
         };
     }
     let run = rotation::run_at(unit, p);

@@ -10,6 +10,7 @@ use Rattle.schedule_checks.specs.declared.StagedAnswer.TheVariants.{Refusal}
 use Rattle.schedule_checks.specs.declared.SoFar.{SoFar}
 use Rattle.schedule_checks.specs.declared.StageTurn.{StageTurn}
 use Rattle.schedule_checks.specs.declared.StageTurn.TheVariants.{On, Ended}
+use Rattle.std.specs.Prelude.{Err}
 
 abbrev pub schedule_of : List Float → List ℕ → List ℕ → List ℕ → List Float → List ℕ → List ℕ → Schedule
 schedule_of taus counts solvers degrees tols ms limits =
@@ -39,7 +40,7 @@ turn_at (Ended k x i) field output memory = out (ends (Refusal k x i) output mem
 
 -- the vectors and the counts of a call that gave a result
 abbrev pub Few : ℕ → PhiAnswer → Type 0
-Few count (phi.Refusal k x) = Unit {0}
+Few count (Err r) = Unit {0}
 Few count (phi.Taylor t) = (1 ≤ count) × (count ≤ 4) × (t.applications ≤ 128849018850)
 Few count (phi.Krylov t) = (1 ≤ count) × (count ≤ 4) × (t.matvecs ≤ 129000000) × (t.substeps ≤ 1000000) × (t.rejected ≤ 10000000)
 

@@ -6,7 +6,7 @@ ghost use Rattle.checks.specs.First.{first};
 ghost use Rattle.schedule_checks.specs.Schedule.{stage, schedule_checks};
 ghost use Rattle.schedule_checks.specs.Inner.{schedule_of};
 
-use checks::Checked;
+use checks::{Checked, Reason, Refusal};
 use phi_solver::PhiSolver;
 
 // Products with the generator, accepted substeps and rejected lengths of all stages.
@@ -112,7 +112,7 @@ pub fn check_schedule(
         limits.len(),
     );
     if wrong_number(k, odd) {
-        return Checked::Refused(37, float::not_a_number());
+        return Err(Refusal { reason: Reason::StageCount, value: float::not_a_number() });
     }
-    Checked::Sound
+    Ok(())
 }

@@ -10,8 +10,7 @@ use lib.Ieee.{Float}
 use Rattle.lists.specs.Window.{window, splice}
 use Rattle.lists.proofs.Window.{part_window, length_window}
 use Rattle.checks.specs.First.{Check, first}
-use Rattle.checks.specs.declared.Checked.{Checked}
-use Rattle.checks.specs.declared.Checked.TheVariants.{Sound, Refused}
+use Rattle.checks.specs.First.{Checked}
 use Rattle.checks.proofs.First.{sound_on, refused_up, ends_sound}
 use Rattle.general_operator.specs.Csr.{csr}
 use Rattle.generator_action.specs.Mass.{given}
@@ -28,16 +27,14 @@ use Rattle.taylor_schedule.proofs.Stored.{quotients_rows}
 use Rattle.combination.proofs.Further.{further_behind, start_of}
 use Rattle.taylor_job.specs.Calls.{swept_fields, phi_combination}
 use Rattle.taylor_job.specs.Inner.{Allowed, operator_by, job_end}
-use Rattle.taylor_job.specs.declared.TaylorAnswer.{TaylorAnswer}
-use Rattle.taylor_job.specs.declared.TaylorAnswer.TheVariants as taylor
+use Rattle.taylor_job.specs.Answer.{TaylorAnswer}
 use Rattle.phi_combination.proofs.Calls as taylor_calls
 use Rattle.krylov_job.specs.KrylovCall.{dimension, option_checks, krylov_checks_by, krylov_checks, after_run, phi_combination_krylov}
 use Rattle.phi_solver.specs.Combine.{combine}
 use Rattle.phi_solver.specs.declared.PhiAnswer.{PhiAnswer}
 use Rattle.phi_solver.specs.declared.PhiAnswer.TheVariants as phi
 use Rattle.krylov_job.specs.Inner.{scaling_by, scaling_of, run_job_by, Admitted, Allowed as Runnable, run_of}
-use Rattle.krylov_job.specs.declared.KrylovAnswer.{KrylovAnswer}
-use Rattle.krylov_job.specs.declared.KrylovAnswer.TheVariants as krylov
+use Rattle.krylov_job.specs.Answer.{KrylovAnswer}
 use Rattle.krylov_job.specs.declared.KrylovPhiOptions.{KrylovPhiOptions}
 use Rattle.krylov_job.specs.declared.RunJob.{RunJob}
 use Rattle.krylov_job.specs.declared.Eta.TheVariants.{Own}
@@ -46,6 +43,8 @@ use Rattle.schedule_checks.specs.declared.Stage.{Stage}
 use Rattle.schedule_checks.specs.Schedule.{stage_checks}
 use Rattle.stage_calls.specs.Inner.{Whole, stage_end}
 use Rattle.schedule_checks.proofs.Checks.{count_sound, lengths_sound, Fitting}
+use Rattle.checks.specs.Reasons.{Sound, Refused}
+use Rattle.checks.specs.declared.Reason.{Reason}
 
 -- w_0 and its further vectors
 filled : (count n : ℕ) → 1 ≤ count → n + (count - 1) * n ≡ count * n
@@ -110,16 +109,16 @@ module _
     taylor_runs ej e l = taylor_calls.runs_combination mass ok f few fits h.out ej e l
 
     module _ (gs : List Check) (sound : Sound ≡ first gs) (timed : Sound ≡ first (plan_checks tau cap)) {r : Checked} (told : r ≡ first (finite_checks w)) where
-      pub taylor_refused : {k : ℕ} {x : Float} → r ≡ Refused k x
-          → ends (taylor.Refusal k x) out w₀ ≡ phi_combination (after_checks gs (csr g.n starts cols vals) (given g.with_mass mass) g) tau cap count w out w₀
+      pub taylor_refused : {k : Reason} {x : Float} → r ≡ Refused k x
+          → ends (Refused k x) out w₀ ≡ phi_combination (after_checks gs (csr g.n starts cols vals) (given g.with_mass mass) g) tau cap count w out w₀
       taylor_refused e = taylor_calls.refused_vectors mass ok gs sound tau cap count w out w₀ (taylor_told v f h (plan_checks tau cap) timed told) e
 
       module _ (passed : r ≡ Sound) {j : Job} (ej : j ≡ combination_job g tau cap d f (length w₀)) where
         job_is : j ≡ combination_job g tau cap d (further g.n w) (length w₀)
         job_is = ej ∙ ap (λ (x : List Float). combination_job g tau cap d x (length w₀)) (sym (behind v f h))
 
-        pub taylor_not_admitted : {k : ℕ} {x : Float} → j.checked ≡ Refused k x
-            → ends (taylor.Refusal k x) out w₀ ≡ phi_combination (after_checks gs (csr g.n starts cols vals) (given g.with_mass mass) g) tau cap count w out w₀
+        pub taylor_not_admitted : {k : Reason} {x : Float} → j.checked ≡ Refused k x
+            → ends (Refused k x) out w₀ ≡ phi_combination (after_checks gs (csr g.n starts cols vals) (given g.with_mass mass) g) tau cap count w out w₀
         taylor_not_admitted e = taylor_calls.refused_sweeps mass ok gs sound tau cap count w out w₀ (taylor_told v f h (plan_checks tau cap) timed told) passed job_is e
 
         pub taylor_is : {c : Call TaylorAnswer} {w₁ : List Float} → j.checked ≡ Sound
@@ -143,10 +142,10 @@ module _
     abbrev JobOf : RunJob → Type 0
     JobOf j = Admitted g tau count w (scaling_of g tau count w Own) o (length_checks (length out) g.n (length w) (count * g.n) ++ []) (length w₀) j
 
-    pub krylov_refused : (gs : List Check) → Sound ≡ first gs → {k : ℕ} {x : Float} → r ≡ Refused k x
-        → ends (krylov.Refusal k x) out w₀ ≡ phi_combination_krylov (after_checks gs (csr g.n starts cols vals) (given g.with_mass mass) g) tau count w o out w₀
+    pub krylov_refused : (gs : List Check) → Sound ≡ first gs → {k : Reason} {x : Float} → r ≡ Refused k x
+        → ends (Refused k x) out w₀ ≡ phi_combination_krylov (after_checks gs (csr g.n starts cols vals) (given g.with_mass mass) g) tau count w o out w₀
     unfolding phi_combination_krylov krylov_checks krylov_checks_by length_checks
-    krylov_refused gs sound e = refused_by krylov.Refusal _ out w₀ _ e (sound_on gs _ refl sound (rw (quotients_rows (csr g.n starts cols vals) (given g.with_mass mass)) (refused_up _ _ e early ∙ ap first (append_assoc (vector_checks_by (time_checks tau) (length_checks (length out) g.n (length w) (count * g.n)) count w) (option_checks o (dimension g.n d o.m)) _))))
+    krylov_refused gs sound e = refused_by Refused _ out w₀ _ e (sound_on gs _ refl sound (rw (quotients_rows (csr g.n starts cols vals) (given g.with_mass mass)) (refused_up _ _ e early ∙ ap first (append_assoc (vector_checks_by (time_checks tau) (length_checks (length out) g.n (length w) (count * g.n)) count w) (option_checks o (dimension g.n d o.m)) _))))
 
     module _ (passed : r ≡ Sound) {j : RunJob} {M : ℕ} (eM : M ≡ dimension g.n d o.m) (ej : j ≡ run_job_by g tau d f (scaling_by Own (magnitude g.n f tau d)) o M (length w₀)) where
       pub job_of : JobOf j
@@ -163,8 +162,8 @@ module _
       krylov_runs e l = rw (behind v f h) at (krylov_calls.runs_job mass ok [] ends_sound tau count w o out w₀ job_of e l)
 
       module _ (gs : List Check) (sound : Sound ≡ first gs) where
-        pub krylov_not_admitted : {k : ℕ} {x : Float} → j.checked ≡ Refused k x
-            → ends (krylov.Refusal k x) out w₀ ≡ phi_combination_krylov (after_checks gs (csr g.n starts cols vals) (given g.with_mass mass) g) tau count w o out w₀
+        pub krylov_not_admitted : {k : Reason} {x : Float} → j.checked ≡ Refused k x
+            → ends (Refused k x) out w₀ ≡ phi_combination_krylov (after_checks gs (csr g.n starts cols vals) (given g.with_mass mass) g) tau count w o out w₀
         krylov_not_admitted e = krylov_calls.refused_run mass ok gs sound tau count w o out w₀ job_of e
 
         pub krylov_is : {c : Call KrylovAnswer} {w₁ : List Float} → j.checked ≡ Sound
@@ -202,9 +201,9 @@ module _
   told_by : r ≡ first (stage_checks g.matrix.n s last (length out) (length v) used (length xs))
   told_by = told ∙ ap (λ (k : ℕ). first (stage_checks k s last (length out) (length v) used (length xs))) (sym rows)
 
-  pub stage_refused : {k : ℕ} {x : Float} → r ≡ Refused k x → ends (phi.Refusal k x) out w₀ ≡ stage_end g s last used xs v out w₀
+  pub stage_refused : {k : Reason} {x : Float} → r ≡ Refused k x → ends (Refused k x) out w₀ ≡ stage_end g s last used xs v out w₀
   unfolding stage_end
-  stage_refused e = refused_by phi.Refusal _ out w₀ _ e told_by
+  stage_refused e = refused_by Refused _ out w₀ _ e told_by
 
   pub stage_is : {c : Call PhiAnswer} → r ≡ Sound
       → c ≡ combine s.solver g s.tau s.count (v ++ take (used + (s.count - 1) * n - used) (drop used xs)) out w₀
@@ -212,4 +211,4 @@ module _
   unfolding stage_end
   stage_is e ec =
       let f = part_window used ((s.count - 1) * n) xs ∙ ap (λ (k : ℕ). window used ((s.count - 1) * k) xs) (sym rows) in
-      runs phi.Refusal _ out w₀ _ e told_by (ec ∙ ap (λ (y : List Float). combine s.solver g s.tau s.count (v ++ y) out w₀) f)
+      runs Refused _ out w₀ _ e told_by (ec ∙ ap (λ (y : List Float). combine s.solver g s.tau s.count (v ++ y) out w₀) f)

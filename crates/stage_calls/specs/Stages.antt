@@ -3,8 +3,7 @@ use Rattle.std.specs.Prelude.{List, ◌++◌, ℕ, ◌+◌, eqb, length, Float}
 use Rattle.lists.specs.Walk.{Turn, on, out, walk}
 use Rattle.lists.specs.Window.{window}
 use Rattle.checks.specs.First.{first}
-use Rattle.checks.specs.declared.Checked.{Checked}
-use Rattle.checks.specs.declared.Checked.TheVariants.{Sound, Refused}
+use Rattle.checks.specs.First.{Checked}
 use Rattle.generator_action.specs.Generator.{Generator}
 use Rattle.combination.specs.Call.{Call, ends, unless_refused}
 use Rattle.taylor_job.specs.Calls.{open_calls}
@@ -15,10 +14,12 @@ use Rattle.schedule_checks.specs.declared.Stage.{Stage}
 use Rattle.schedule_checks.specs.declared.StagedAnswer.{StagedAnswer}
 use Rattle.schedule_checks.specs.declared.StagedAnswer.TheVariants.{Refusal, Staged}
 use Rattle.schedule_checks.specs.Schedule.{Schedule, stage, stages_of, schedule_checks, Progress, further_need, stage_checks, counted, settle}
+use Rattle.checks.specs.Reasons.{Refused}
+use Rattle.std.specs.Prelude.{Ok, Err}
 
 unfoldable pub unless_stage_refused : Checked → ℕ → Progress → Turn Progress (Call StagedAnswer) → Turn Progress (Call StagedAnswer)
-unless_stage_refused (Refused k x) i p t = out (ends (Refusal k x (i + 1)) p.output p.memory)
-unless_stage_refused Sound i p t = t
+unless_stage_refused (Err r) i p t = out (ends (Err r (i + 1)) p.output p.memory)
+unless_stage_refused (Ok _) i p t = t
 
 -- the single call of a stage: w_0 is the field, and the further vectors are the next ones of the slice
 abbrev pub stage_call : Generator → Stage → List Float → Progress → Call PhiAnswer
@@ -45,7 +46,7 @@ begun start output memory = record { field = start; output = output; memory = me
 
 -- refused before any stage: 1 to 11, then 37
 abbrev pub before_stages : ℕ → Float → StagedAnswer
-before_stages k x = Refusal k x 0
+before_stages k x = Refused k x 0
 
 unfoldable pub staged : Generator → Schedule → List Float → List Float → List Float → List Float → Call StagedAnswer
 staged g schedule start further output memory =

@@ -10,8 +10,7 @@ use borrow.Author.Tests.{ne_eqb}
 use Rattle.lists.specs.Walk.{Turn, on, walk}
 use Rattle.lists.proofs.Walk.{Left, left_out}
 use Rattle.checks.specs.First.{first}
-use Rattle.checks.specs.declared.Checked.{Checked}
-use Rattle.checks.specs.declared.Checked.TheVariants.{Sound, Refused}
+use Rattle.checks.specs.First.{Checked}
 use Rattle.generator_action.specs.Generator.{Generator}
 use Rattle.combination.specs.Call.{Call, ends, unless_refused}
 use Rattle.combination.proofs.Ends.{refused_by, runs}
@@ -27,13 +26,16 @@ use Rattle.schedule_checks.specs.Schedule.{Schedule, stage, stages_of, Progress,
 use Rattle.stage_calls.specs.Stages.{stage_call, unless_stage_refused, stage_step, concluded, begun, before_stages, staged}
 use Rattle.schedule_checks.specs.Inner.{field_of, turn_at}
 use Rattle.stage_calls.specs.Inner.{stage_end}
+use Rattle.checks.specs.Reasons.{Sound, Refused}
+use Rattle.std.specs.Prelude.{Ok, Err}
+use Rattle.checks.specs.declared.Reason.{Reason}
 
 -- ---- a refusal by a stage's own checks is told as one by its call
 by_checks : (i used : ℕ) (p : Progress) (c : Call PhiAnswer) (x : Checked)
-    → unless_stage_refused x i p (settle i used p.report c c.answer) ≡ settle i used p.report (unless_refused phi.Refusal x p.output p.memory c) (unless_refused phi.Refusal x p.output p.memory c).answer
+    → unless_stage_refused x i p (settle i used p.report c c.answer) ≡ settle i used p.report (unless_refused Refused x p.output p.memory c) (unless_refused Refused x p.output p.memory c).answer
 unfolding unless_stage_refused unless_refused settle
-by_checks i used p c (Refused k x) = refl
-by_checks i used p c Sound = refl
+by_checks i used p c (Err r) = refl
+by_checks i used p c (Ok _) = refl
 
 pub step_by : (g : Generator) (schedule : Schedule) (further : List Float) (i : ℕ) (p : Progress)
     → let s = stage schedule i in
@@ -77,7 +79,7 @@ turn_ended t field output memory e h = ap (λ (u : StageTurn). turn_at u output 
 
 -- ---- the whole
 module _ (g : Generator) (schedule : Schedule) (start further out₀ w₀ : List Float) {r : Checked} (told : r ≡ first (g.checks ++ schedule_checks schedule)) where
-  pub staged_refused : {k : ℕ} {x : Float} → r ≡ Refused k x → ends (Refusal k x 0) out₀ w₀ ≡ staged g schedule start further out₀ w₀
+  pub staged_refused : {k : Reason} {x : Float} → r ≡ Refused k x → ends (Refused k x 0) out₀ w₀ ≡ staged g schedule start further out₀ w₀
   unfolding staged
   staged_refused e = refused_by before_stages _ out₀ w₀ _ e told
 

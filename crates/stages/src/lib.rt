@@ -4,7 +4,7 @@
 ghost use Rattle.std.specs.Prelude.{◌≡◌, List, ◌+◌, ◌-◌, length, Float};
 ghost use Rattle.lists.specs.Walk.{walk, on};
 ghost use Rattle.checks.specs.First.{first};
-ghost use Rattle.checks.specs.declared.Checked.TheVariants.{Sound};
+ghost use Rattle.checks.specs.Reasons.{Sound};
 ghost use Rattle.general_operator.specs.Csr.{csr};
 ghost use Rattle.generator_action.specs.Mass.{given, quotient_need, generator_checks};
 ghost use Rattle.generator_action.specs.Generator.{forward};
@@ -14,7 +14,6 @@ ghost use Rattle.schedule_checks.specs.Schedule.{schedule_checks};
 ghost use Rattle.stage_calls.specs.Stages.{stage_step, begun, concluded, staged};
 ghost use Rattle.schedule_checks.specs.Inner.{schedule_of, turn_at};
 
-use checks::Checked;
 use generator_action::{MatrixAnswer, Shape};
 use schedule_checks::{SoFar, StageTurn, StagedAnswer, StagedReport};
 
@@ -122,7 +121,7 @@ pub fn stages(
     let schedule = schedule_checks::check_schedule(
         taus, counts, solvers, degrees, tols, ms, limits,
     );
-    let Checked::Sound = schedule else {
+    let Ok(()) = schedule else {
         return StagedAnswer::Refusal(checks::number(schedule), checks::reported(schedule), 0);
     };
     let g = generator_action::generator_shape(n, with_mass, vals.len(), norm);

@@ -19,6 +19,7 @@ use Rattle.schedule_checks.specs.declared.StagedAnswer.TheVariants.{Refusal, Sta
 use Rattle.stage_calls.specs.Stages.{staged, open_stages}
 use Rattle.stages_claims.specs.Ran.{vectors_before, Gave, total, call_at, Ran}
 use Rattle.stages_claims.proofs.Answers.{complete_result}
+use Rattle.checks.specs.declared.Reason.TheVariants.{RowStartsLength, VectorLength, SubstepLimit, StageCount}
 
 abbrev empty : Csr
 empty = csr 1 (0 ∷ 0 ∷ []) [] []
@@ -28,22 +29,22 @@ abbrev three : Schedule
 three = schedule_of (replicate 3 1f) (replicate 3 2) (replicate 3 0) (replicate 3 30) (replicate 3 nan) (replicate 3 0) (replicate 3 0)
 
 -- a slice of one value is too short for stage 2: the field of stage 1, and its 3 + 2 doubles cleared; the sixth stays
-too_short : staged (forward empty none) three (1f ∷ []) (nat 2 ∷ []) (nat 7 ∷ []) (replicate 6 (nat 9)) ≡ ends (Refusal 16 (nat 1) 2) (nat 3 ∷ []) (replicate 5 +0 ++ (nat 9 ∷ []))
+too_short : staged (forward empty none) three (1f ∷ []) (nat 2 ∷ []) (nat 7 ∷ []) (replicate 6 (nat 9)) ≡ ends (Refusal VectorLength (nat 1) 2) (nat 3 ∷ []) (replicate 5 +0 ++ (nat 9 ∷ []))
 unfolding open_stages
 too_short = refl
 
 -- a slice of four is too long for the three, told at the last
-too_long : staged (forward empty none) three (1f ∷ []) (nat 2 ∷ nat 3 ∷ nat 4 ∷ nat 5 ∷ []) (nat 7 ∷ []) (replicate 6 (nat 9)) ≡ ends (Refusal 16 (nat 4) 3) (nat 6 ∷ []) (replicate 5 +0 ++ (nat 9 ∷ []))
+too_long : staged (forward empty none) three (1f ∷ []) (nat 2 ∷ nat 3 ∷ nat 4 ∷ nat 5 ∷ []) (nat 7 ∷ []) (replicate 6 (nat 9)) ≡ ends (Refusal VectorLength (nat 4) 3) (nat 6 ∷ []) (replicate 5 +0 ++ (nat 9 ∷ []))
 unfolding open_stages
 too_long = refl
 
 -- a matrix of no rows: refused before any stage
-no_rows : staged (forward (csr 0 (0 ∷ []) [] []) none) three (1f ∷ []) (nat 2 ∷ []) (nat 7 ∷ []) (replicate 6 (nat 9)) ≡ ends (Refusal 1 (nat 1) 0) (nat 7 ∷ []) (replicate 6 (nat 9))
+no_rows : staged (forward (csr 0 (0 ∷ []) [] []) none) three (1f ∷ []) (nat 2 ∷ []) (nat 7 ∷ []) (replicate 6 (nat 9)) ≡ ends (Refusal RowStartsLength (nat 1) 0) (nat 7 ∷ []) (replicate 6 (nat 9))
 unfolding open_stages
 no_rows = refl
 
 -- no stages: 37, before any
-no_stages : staged (forward empty none) (schedule_of [] [] [] [] [] [] []) (1f ∷ []) [] (nat 7 ∷ []) (replicate 6 (nat 9)) ≡ ends (Refusal 37 nan 0) (nat 7 ∷ []) (replicate 6 (nat 9))
+no_stages : staged (forward empty none) (schedule_of [] [] [] [] [] [] []) (1f ∷ []) [] (nat 7 ∷ []) (replicate 6 (nat 9)) ≡ ends (Refusal StageCount nan 0) (nat 7 ∷ []) (replicate 6 (nat 9))
 unfolding open_stages
 no_stages = refl
 
@@ -66,7 +67,7 @@ small = bits 0x3f70000000000000
 
 -- the second stage is refused during its run: 27, with its first substep's field, and what it needed cleared
 limited : staged (forward four none) (schedule_of (+0 ∷ 1f ∷ []) (1 ∷ 2 ∷ []) (0 ∷ 1 ∷ []) (30 ∷ 0 ∷ []) (nan ∷ hundredth ∷ []) (0 ∷ 3 ∷ []) (0 ∷ 1 ∷ [])) start heating (replicate 4 +0) (replicate 60 (nat 9))
-    ≡ ends (Refusal 27 (bits 0x3e620310ebf08c7b) 2) (bits 0xc001b9196788d1dc ∷ bits 0x3fff7a32475dbb61 ∷ bits 0x3fe02723fdd5eb38 ∷ bits 0xc004a90a6aa9d7d8 ∷ []) (replicate 59 +0 ++ (nat 9 ∷ []))
+    ≡ ends (Refusal SubstepLimit (bits 0x3e620310ebf08c7b) 2) (bits 0xc001b9196788d1dc ∷ bits 0x3fff7a32475dbb61 ∷ bits 0x3fe02723fdd5eb38 ∷ bits 0xc004a90a6aa9d7d8 ∷ []) (replicate 59 +0 ++ (nat 9 ∷ []))
 unfolding open_stages
 limited = refl
 

@@ -15,6 +15,7 @@ ghost use Rattle.taylor_schedule.specs.Inner.{Coupled, matrix_of};
 ghost use Rattle.taylor_job.specs.Inner.{layout, plan_by, operator_by, job_end, Allowed};
 ghost use Rattle.taylor_job.specs.Calls.{report, swept_fields};
 
+use checks::Refusal;
 use csr_shift::Shift;
 use phi_action_helpers::{Layout, SweepArgs, SweepPlan};
 use taylor_schedule::Job;
@@ -116,7 +117,7 @@ pub fn swept_out(
 }
 
 // The report; what was needed is cleared.
-pub fn finish(work: &mut [f64], need: usize, p: SweepPlan, applied: u64) -> TaylorAnswer
+pub fn finish(work: &mut [f64], need: usize, p: SweepPlan, applied: u64) -> Result<TaylorReport, Refusal>
     requires { need ≤ length work.old }
     ensures value { result ≡ report p applied }
     ensures work_after { work.new ≡ cleared need work.old }
@@ -140,7 +141,7 @@ pub fn run_job(
     out: &mut [f64],
     work: &mut [f64],
     j: Job,
-) -> TaylorAnswer
+) -> Result<TaylorReport, Refusal>
     requires allowed { Allowed starts.now cols.now vals.now mass.now work.old j }
     requires coupled { Coupled j.b j.g.n j.d (length vectors.now) × (length out.old ≡ j.g.n) }
     ensures { ends result out.new work.new ≡ job_end j (matrix_of j.g starts.now cols.now vals.now mass.now) (swept_fields (operator_by j (matrix_of j.g starts.now cols.now vals.now mass.now) vectors.now) j.tau (window 0 (j.g.n + j.d) work.old)) work.old }

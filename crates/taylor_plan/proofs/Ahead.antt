@@ -10,8 +10,7 @@ use lib.ListN.{length}
 use lib.Ieee.{Float}
 use borrow.Author.Tests.{le-ltb}
 use Rattle.checks.specs.First.{Check, first, before}
-use Rattle.checks.specs.declared.Checked.{Checked}
-use Rattle.checks.specs.declared.Checked.TheVariants.{Sound, Refused}
+use Rattle.checks.specs.First.{Checked}
 use Rattle.checks.proofs.First.{and_then, first_append, sound_append, sound_cons, sound_on, passes, ends_sound}
 use Rattle.checks.proofs.Numbers.{not_by}
 use Rattle.general_operator.specs.Csr.{row_sum_norm}
@@ -28,35 +27,38 @@ use Rattle.combination.specs.Call.{Call, unless_refused}
 use Rattle.combination.specs.Combination.{further, eta_of}
 use Rattle.combination.specs.Checks.{no_row, count_checks, index_checks, time_checks, degree_checks, plan_checks, length_checks, finite_checks, magnitude_checks, schedule_checks, memory_checks, vector_checks_by, vector_checks, sweep_checks, job_checks, taylor_need}
 use Rattle.taylor_job.specs.declared.TaylorReport.{TaylorReport}
-use Rattle.taylor_job.specs.declared.TaylorAnswer.{TaylorAnswer}
-use Rattle.taylor_job.specs.declared.TaylorAnswer.TheVariants.{Refusal, Result}
+use Rattle.taylor_job.specs.Answer.{TaylorAnswer}
 use Rattle.taylor_job.specs.Calls.{Fields, after_plan, combination_checks, combination_run, phi_combination, action_checks, phi_action, phi_action_batched}
 use Rattle.phi_batch.proofs.Batch.{soak_counted, batch_counted}
 use Rattle.taylor_plan.specs.TaylorPlan.{taylor_plan_checks, cost_alone, taylor_plan}
 use Rattle.taylor_plan.specs.Ahead.{own, combination_own, action_own, Foretold, PlanAhead}
+use Rattle.checks.specs.Reasons.{Sound, Refused}
+use Rattle.std.specs.Prelude.{Ok, Err}
+use Rattle.checks.specs.declared.Reason.TheVariants.{NoPlan, WorkLength}
+use Rattle.checks.specs.declared.Reason.{Reason}
 
 -- ---- lists of checks: gs, xs, ps, ys, ss, ws of a run; gs, ps, ss, ws₂ of its plan
-module _ (k : ℕ) (x : Float) where
+module _ (k : Reason) (x : Float) where
   abbrev NotBy : Checked → Type 0
   NotBy r = (y : Float) → Refused k y ≡ r → ⊥
 
   up : (g x₁ p y s w w₂ : Checked) → NotBy x₁ → NotBy y → NotBy w → Refused k x ≡ and_then g (and_then x₁ (and_then p (and_then y (and_then s w))))
       → Refused k x ≡ and_then g (and_then p (and_then s w₂))
   unfolding and_then
-  up (Refused i z) x₁ p y s w w₂ nx ny nw e = e
-  up Sound (Refused i z) p y s w w₂ nx ny nw e = absurd (nx x e)
-  up Sound Sound (Refused i z) y s w w₂ nx ny nw e = e
-  up Sound Sound Sound (Refused i z) s w w₂ nx ny nw e = absurd (ny x e)
-  up Sound Sound Sound Sound (Refused i z) w w₂ nx ny nw e = e
-  up Sound Sound Sound Sound Sound w w₂ nx ny nw e = absurd (nw x e)
+  up (Err r) x₁ p y s w w₂ nx ny nw e = e
+  up (Ok _) (Err r) p y s w w₂ nx ny nw e = absurd (nx x e)
+  up (Ok _) (Ok _) (Err r) y s w w₂ nx ny nw e = e
+  up (Ok _) (Ok _) (Ok _) (Err r) s w w₂ nx ny nw e = absurd (ny x e)
+  up (Ok _) (Ok _) (Ok _) (Ok _) (Err r) w w₂ nx ny nw e = e
+  up (Ok _) (Ok _) (Ok _) (Ok _) (Ok _) w w₂ nx ny nw e = absurd (nw x e)
 
   down : (g x₁ p y s w w₂ : Checked) → Sound ≡ x₁ → Sound ≡ y → NotBy w₂ → Refused k x ≡ and_then g (and_then p (and_then s w₂))
       → Refused k x ≡ and_then g (and_then x₁ (and_then p (and_then y (and_then s w))))
   unfolding and_then
-  down (Refused i z) x₁ p y s w w₂ hx hy n e = e
-  down Sound x₁ (Refused i z) y s w w₂ hx hy n e = rw (← hx) e
-  down Sound x₁ Sound y (Refused i z) w w₂ hx hy n e = rw (← hx, ← hy) e
-  down Sound x₁ Sound y Sound w w₂ hx hy n e = absurd (n x e)
+  down (Err r) x₁ p y s w w₂ hx hy n e = e
+  down (Ok _) x₁ (Err r) y s w w₂ hx hy n e = rw (← hx) e
+  down (Ok _) x₁ (Ok _) y (Err r) w w₂ hx hy n e = rw (← hx, ← hy) e
+  down (Ok _) x₁ (Ok _) y (Ok _) w w₂ hx hy n e = absurd (n x e)
 
 module _ (gs xs ps ys ss ws : List Check) where
   abbrev of_run : List Check
@@ -79,7 +81,7 @@ module _ (gs xs ps ys ss ws : List Check) where
         let s = sound_append ss ws (sound_append ys _ p.1).1 in
         sound_on gs _ refl g.0 (sound_on ps _ refl p.0 (sound_on ss _ refl s.0 h))
 
-    module _ {k : ℕ} {x : Float} where
+    module _ {k : Reason} {x : Float} where
       to_plan : before k xs ≡ xs → before k ys ≡ ys → before k ws ≡ ws → Refused k x ≡ first of_run → Refused k x ≡ first of_plan
       to_plan nx ny nw e = up k x _ _ _ _ _ _ (first ws₂) (λ y. not_by k xs nx) (λ y. not_by k ys ny) (λ y. not_by k ws nw) (e ∙ run_chain) ∙ sym plan_chain
 
@@ -95,7 +97,7 @@ module _ (g : Generator) (tau : Float) (cap : ℕ) where
   listed xs ys memory need = of_run g.checks xs (plan_checks tau cap) ys (schedule_checks cap norm tau) (memory_checks memory need)
 
   abbrev call : List Check → ℕ → List Float → List Float → (SweepPlan → Fields) → Call TaylorAnswer
-  call cs need output memory run = unless_refused Refusal (first cs) output memory (after_plan need tau norm output memory (sweep_plan cap tau g.matrix norm) run)
+  call cs need output memory run = unless_refused Refused (first cs) output memory (after_plan need tau norm output memory (sweep_plan cap tau g.matrix norm) run)
 
   -- where 25 passes there is a plan
   row_planned : Sound ≡ first (schedule_checks cap norm tau) → sweep_plan cap tau g.matrix norm ≡ NoPlan → zero ≡ 1
@@ -110,7 +112,7 @@ module _ (g : Generator) (tau : Float) (cap : ℕ) where
     abbrev cs : List Check
     cs = listed xs ys (length memory) need
 
-    no_refusal : (p : PlanAnswer) {k : ℕ} {x : Float} → (p ≡ NoPlan → zero ≡ 1) → (after_plan need tau norm output memory p run).answer ≡ Refusal k x → ⊥
+    no_refusal : (p : PlanAnswer) {k : Reason} {x : Float} → (p ≡ NoPlan → zero ≡ 1) → (after_plan need tau norm output memory p run).answer ≡ Refused k x → ⊥
     unfolding after_plan
     no_refusal NoPlan h e = absurd (omega (arith, h refl))
     no_refusal (Plan p) h e = let z : zero ≡ 1 = cc in absurd (omega (arith, z))
@@ -121,18 +123,18 @@ module _ (g : Generator) (tau : Float) (cap : ℕ) where
         (sound_append (schedule_checks cap norm tau) _ (sound_append ys _ p.1).1).0
 
     -- its refusals are those of the list
-    refusal_listed : {k : ℕ} {x : Float} → (call cs need output memory run).answer ≡ Refusal k x → Refused k x ≡ first cs
+    refusal_listed : {k : Reason} {x : Float} → (call cs need output memory run).answer ≡ Refused k x → Refused k x ≡ first cs
     unfolding unless_refused
     refusal_listed {k} {x} f = go (first cs) refl f
       where
-        same : {i j : ℕ} {y z : Float} → Refusal i y ≡ Refusal j z → Refused j z ≡ Refused i y
+        same : {i j : Reason} {y z : Float} → Refused i y ≡ Refused j z → Refused j z ≡ Refused i y
         same h = cc
 
-        go : (c : Checked) → c ≡ first cs → (unless_refused Refusal c output memory (after_plan need tau norm output memory (sweep_plan cap tau g.matrix norm) run)).answer ≡ Refusal k x → Refused k x ≡ first cs
-        go Sound e h = absurd (no_refusal _ (row_planned (schedule_sound e)) h)
-        go (Refused i y) e h = same h ∙ e
+        go : (c : Checked) → c ≡ first cs → (unless_refused Refused c output memory (after_plan need tau norm output memory (sweep_plan cap tau g.matrix norm) run)).answer ≡ Refused k x → Refused k x ≡ first cs
+        go (Ok _) e h = absurd (no_refusal _ (row_planned (schedule_sound e)) h)
+        go (Err r) e h = same h ∙ e
 
-    listed_refusal : {k : ℕ} {x : Float} → Refused k x ≡ first cs → (call cs need output memory run).answer ≡ Refusal k x
+    listed_refusal : {k : Reason} {x : Float} → Refused k x ≡ first cs → (call cs need output memory run).answer ≡ Refused k x
     unfolding unless_refused
     listed_refusal e = rw (← e) refl
 
@@ -141,19 +143,19 @@ module _ (g : Generator) (tau : Float) (cap : ℕ) where
       pub sound : Sound ≡ first cs
       pub plan : SweepPlan
       pub has_plan : sweep_plan cap tau g.matrix norm ≡ Plan plan
-      pub is : Result (record { s = plan.s; m = plan.m; mu = plan.mu; applications = (run plan).applied }) ≡ Result r
+      pub is : Ok (record { s = plan.s; m = plan.m; mu = plan.mu; applications = (run plan).applied }) ≡ Ok r
 
-    result_planned : {r : TaylorReport} → (call cs need output memory run).answer ≡ Result r → Planned r
+    result_planned : {r : TaylorReport} → (call cs need output memory run).answer ≡ Ok r → Planned r
     unfolding unless_refused after_plan
     result_planned {r} f = go (first cs) refl f
       where
-        of_plan_answer : Sound ≡ first cs → (p : PlanAnswer) → sweep_plan cap tau g.matrix norm ≡ p → (after_plan need tau norm output memory p run).answer ≡ Result r → Planned r
+        of_plan_answer : Sound ≡ first cs → (p : PlanAnswer) → sweep_plan cap tau g.matrix norm ≡ p → (after_plan need tau norm output memory p run).answer ≡ Ok r → Planned r
         of_plan_answer e NoPlan h i = let z : zero ≡ 1 = cc in absurd (omega (arith, z))
         of_plan_answer e (Plan p) h i = record { sound = e; plan = p; has_plan = h; is = i }
 
-        go : (c : Checked) → c ≡ first cs → (unless_refused Refusal c output memory (after_plan need tau norm output memory (sweep_plan cap tau g.matrix norm) run)).answer ≡ Result r → Planned r
-        go Sound e h = of_plan_answer e _ refl h
-        go (Refused i y) e h = let z : zero ≡ 1 = cc in absurd (omega (arith, z))
+        go : (c : Checked) → c ≡ first cs → (unless_refused Refused c output memory (after_plan need tau norm output memory (sweep_plan cap tau g.matrix norm) run)).answer ≡ Ok r → Planned r
+        go (Ok _) e h = of_plan_answer e _ refl h
+        go (Err r) e h = let z : zero ≡ 1 = cc in absurd (omega (arith, z))
 
 -- ---- numbers that are not a run's own
 record Other (k : ℕ) : Type 0 where
@@ -183,7 +185,7 @@ memory_other k memory need o = rw o.not_26 refl
 
 enough : (memory need : ℕ) → need ≤ memory → Sound ≡ first (memory_checks memory need)
 unfolding memory_checks
-enough memory need h = passes 26 _ _ (le-ltb memory need h) ends_sound
+enough memory need h = passes WorkLength _ _ (le-ltb memory need h) ends_sound
 
 module _ (g : Generator) (tau : Float) (cap : ℕ) (lent : List Float) where
   -- the plan is such a call too
@@ -200,18 +202,18 @@ module _ (g : Generator) (tau : Float) (cap : ℕ) (lent : List Float) where
     abbrev ran : Call TaylorAnswer
     ran = call g tau cap checks need output memory run
 
-    told : {r : TaylorReport} → ran.answer ≡ Result r → g.stored ≤ length lent
-        → (cost : ℕ) × ((taylor_plan g tau cap lent).answer ≡ Result (record { s = r.s; m = r.m; mu = r.mu; applications = cost })) × (r.applications ≡ runs * cost)
+    told : {r : TaylorReport} → ran.answer ≡ Ok r → g.stored ≤ length lent
+        → (cost : ℕ) × ((taylor_plan g tau cap lent).answer ≡ Ok (record { s = r.s; m = r.m; mu = r.mu; applications = cost })) × (r.applications ≡ runs * cost)
     unfolding unless_refused after_plan cost_alone
     told {r} e room =
         let h = result_planned g tau cap xs ys need output memory run e in
         let s = sound_plan g.checks xs (plan_checks tau cap) ys (schedule_checks cap (norm g tau cap) tau) _ _ h.sound (enough (length lent) g.stored room) in
         subst
-        (λ (r : TaylorReport). (cost : ℕ) × ((taylor_plan g tau cap lent).answer ≡ Result (record { s = r.s; m = r.m; mu = r.mu; applications = cost })) × (r.applications ≡ runs * cost))
+        (λ (r : TaylorReport). (cost : ℕ) × ((taylor_plan g tau cap lent).answer ≡ Ok (record { s = r.s; m = r.m; mu = r.mu; applications = cost })) × (r.applications ≡ runs * cost))
         (reported h.is)
         (h.plan.s * h.plan.m, rw (plan_is, ← s, h.has_plan) refl, counted h.plan)
       where
-        reported : {a b : TaylorReport} → Result a ≡ Result b → a ≡ b
+        reported : {a b : TaylorReport} → Ok a ≡ Ok b → a ≡ b
         reported e = cc
 
     foretold : Foretold g tau cap lent runs (xs ++ ys) ran

@@ -11,7 +11,6 @@ use Rattle.lists.proofs.Frame.{kept_all}
 use Rattle.doubles.specs.F64.{+0}
 use Rattle.checks.specs.First.{Check, first}
 use Rattle.checks.proofs.First.{sound_on, sound_append, refused_up}
-use Rattle.checks.specs.declared.Checked.TheVariants.{Sound, Refused}
 use Rattle.general_operator.specs.Csr.{Csr, csr}
 use Rattle.generator_action.specs.Mass.{Mass, given, quotients, stored}
 use Rattle.generator_action.specs.Generator.{Generator}
@@ -32,11 +31,12 @@ use Rattle.taylor_schedule.specs.Inner.{matrix_of, after_checks}
 use Rattle.taylor_schedule.specs.declared.Schedule.{Schedule}
 use Rattle.taylor_schedule.proofs.Admitted.{Planned, planned_known}
 use Rattle.taylor_schedule.proofs.Stored.{Held, store_fits, matrix_is, cleared_is}
-use Rattle.taylor_job.specs.declared.TaylorAnswer.{TaylorAnswer}
-use Rattle.taylor_job.specs.declared.TaylorAnswer.TheVariants.{Refusal}
+use Rattle.taylor_job.specs.Answer.{TaylorAnswer}
 use Rattle.taylor_job.specs.Calls.{after_plan, report}
 use Rattle.taylor_plan.specs.Inner.{admitted, quotients_alone}
 use Rattle.taylor_plan.specs.TaylorPlan.{taylor_plan_checks, cost_alone, taylor_plan}
+use Rattle.checks.specs.Reasons.{Sound, Refused}
+use Rattle.checks.specs.declared.Reason.{Reason}
 
 -- 24 to 26 passed: the schedule has a row, and the quotients have room
 pub admitted_known : (g : Shape) (tau : Float) (cap memory : ℕ) {r : Schedule} → r ≡ admitted g tau cap memory → r.checked ≡ Sound → Planned tau cap g.norm memory g.stored
@@ -72,9 +72,9 @@ module _ {starts cols : List ℕ} {vals : List Float} (mass : List Float) {g : S
     unfolding taylor_plan_checks
     told = sound_on gs _ refl sound (rw (← ok.norm) (ap (λ (x : Schedule). x.checked) er))
 
-    pub refused_is : {k : ℕ} {x : Float} → r.checked ≡ Refused k x → ends (Refusal k x) [] w₀ ≡ taylor_plan (after_checks gs a m g) tau cap w₀
+    pub refused_is : {k : Reason} {x : Float} → r.checked ≡ Refused k x → ends (Refused k x) [] w₀ ≡ taylor_plan (after_checks gs a m g) tau cap w₀
     unfolding taylor_plan
-    refused_is e = refused_by Refusal _ [] w₀ _ e told
+    refused_is e = refused_by Refused _ [] w₀ _ e told
 
     module _ {p : SweepPlan} (passes : r.checked ≡ Sound) (ep : p ≡ with_shift cap tau r.s r.m (negated_csr_shift (matrix_of g starts cols vals mass) g.norm)) where
       -- the row that the checks found has this plan
@@ -90,9 +90,9 @@ module _ {starts cols : List ℕ} {vals : List Float} (mass : List Float) {g : S
       planned_is {w₁ = w₁} ec e₁ ex e₂ =
           let h = held w₀ (admitted_known g tau cap (length w₀) er passes).room {l = quotients_alone g.n g.with_mass} refl in
           let clear = cleared_is h e₁ (kept_all 0 0 +0 w₁) e₂ in
-          runs Refusal _ [] w₀ _ passes told (rw (ex, ec, clear, ← ok.norm, ← has_plan) refl)
+          runs Refused _ [] w₀ _ passes told (rw (ex, ec, clear, ← ok.norm, ← has_plan) refl)
 
 -- a refusal by a check of the generator
-pub generator_refused : (g : Generator) (tau : Float) (cap : ℕ) (w₀ : List Float) {i : ℕ} {x : Float} → Refused i x ≡ first g.checks → ends (Refusal i x) [] w₀ ≡ taylor_plan g tau cap w₀
+pub generator_refused : (g : Generator) (tau : Float) (cap : ℕ) (w₀ : List Float) {i : Reason} {x : Float} → Refused i x ≡ first g.checks → ends (Refused i x) [] w₀ ≡ taylor_plan g tau cap w₀
 unfolding taylor_plan taylor_plan_checks
-generator_refused g tau cap w₀ e = refused_by Refusal _ [] w₀ _ refl (refused_up g.checks _ refl e)
+generator_refused g tau cap w₀ e = refused_by Refused _ [] w₀ _ refl (refused_up g.checks _ refl e)

@@ -4,7 +4,7 @@
 ghost use Rattle.std.specs.Prelude.{◌≡◌, List, [], ◌≤◌, length};
 ghost use Rattle.lists.specs.Window.{splice};
 ghost use Rattle.checks.specs.First.{Check, first};
-ghost use Rattle.checks.specs.declared.Checked.TheVariants.{Sound};
+ghost use Rattle.checks.specs.Reasons.{Sound};
 ghost use Rattle.general_operator.specs.Csr.{csr};
 ghost use Rattle.generator_action.specs.Mass.{given, stored};
 ghost use Rattle.generator_action.specs.Generator.{forward};
@@ -16,7 +16,7 @@ ghost use Rattle.taylor_schedule.specs.Inner.{matrix_of, after_checks};
 ghost use Rattle.taylor_plan.specs.Inner.{quotients_alone, admitted};
 ghost use Rattle.taylor_plan.specs.TaylorPlan.{taylor_plan};
 
-use checks::Checked;
+use checks::Refusal;
 use generator_action::{MatrixAnswer, Shape};
 use phi_action_helpers::{Layout, SweepPlan};
 use taylor_job::TaylorAnswer;
@@ -84,15 +84,12 @@ fn planned(
     tau: f64,
     cap: u32,
     work: &mut [f64],
-) -> TaylorAnswer
+) -> Result<TaylorReport, Refusal>
     requires { Passed (csr g.n starts.now cols.now vals.now) (given g.with_mass mass.now) g }
     ensures { (gs : List Check) → Sound ≡ first gs → ends result [] work.new ≡ taylor_plan (after_checks gs (csr g.n starts.now cols.now vals.now) (given g.with_mass mass.now) g) tau cap work.old }
 {
     let row = admit_plan(g, tau, cap, work.len());
-    let checked = row.checked;
-    let Checked::Sound = checked else {
-        return TaylorAnswer::Refusal(checks::number(checked), checks::reported(checked));
-    };
+    row.checked?;
     let p = from_row(starts, cols, vals, mass, work, g, tau, cap, row.s, row.m);
     let cost = expmv::cost(p.s, p.m);
     taylor_job::finish(work, g.stored, p, cost)
@@ -109,16 +106,10 @@ pub fn taylor_plan(
     tau: f64,
     cap: u32,
     work: &mut [f64],
-) -> TaylorAnswer
+) -> Result<TaylorReport, Refusal>
     ensures { ends result [] work.new ≡ taylor_plan (forward (csr n starts.now cols.now vals.now) (given with_mass mass.now)) tau cap work.old }
 {
-    let matrix = generator_checks::check_generator(n, starts, cols, vals, with_mass, mass);
-    let MatrixAnswer::Norm(norm, _) = matrix else {
-        return TaylorAnswer::Refusal(
-            generator_action::number(matrix),
-            generator_action::value(matrix),
-        );
-    };
+    let matrix = generator_checks::check_generator(n, starts, cols, vals, with_mass, mass)?;
     let g = generator_action::generator_shape(n, with_mass, vals.len(), norm);
     planned(starts, cols, vals, mass, g, tau, cap, work)
 }

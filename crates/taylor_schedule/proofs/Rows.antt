@@ -4,7 +4,7 @@ use mathlib.Core.Path.{◌≡◌, refl}
 use Prim.Native.Nat.{ℕ}
 use lib.Ieee.{Float}
 use Rattle.checks.specs.First.{first}
-use Rattle.checks.specs.declared.Checked.{Checked}
+use Rattle.checks.specs.First.{Checked}
 use Rattle.phi_shift.specs.Plan.{argument}
 use Rattle.expmv.specs.Select.{select_s_m}
 use Rattle.expmv.specs.declared.Selected.{Selected}

@@ -6,7 +6,7 @@ ghost use Rattle.checks.specs.First.{Check, first};
 ghost use Rattle.combination.specs.Checks.{taylor_need};
 ghost use Rattle.taylor_schedule.specs.Inner.{argument_checks, schedule, host_checks, job_of};
 
-use checks::Checked;
+use checks::{Checked, Reason, Refusal};
 use expmv::Selected;
 use generator_action::Shape;
 use phi_action_helpers::Coupling;
@@ -16,12 +16,12 @@ fn check_argument(arg: f64, no_row: bool) -> Checked
     ensures { result ≡ first (argument_checks arg no_row) }
 {
     if !float::is_finite(arg) {
-        return Checked::Refused(24, arg);
+        return Err(Refusal { reason: Reason::ArgumentNotFinite, value: arg });
     }
     if no_row {
-        return Checked::Refused(25, arg);
+        return Err(Refusal { reason: Reason::NoPlan, value: arg });
     }
-    Checked::Sound
+    Ok(())
 }
 
 // What 24 and 25 find: the row of the schedule.

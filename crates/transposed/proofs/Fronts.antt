@@ -6,7 +6,6 @@ use Prim.Native.Nat.{ℕ, ◌+◌, ◌≤◌}
 use lib.ListN.{length, take}
 use lib.Ieee.{Float}
 use Rattle.checks.specs.First.{first}
-use Rattle.checks.specs.declared.Checked.TheVariants.{Sound, Refused}
 use Rattle.general_operator.specs.Csr.{Csr, csr}
 use Rattle.generator_action.specs.Mass.{Mass, given, quotients, quotient_need}
 use Rattle.generator_action.specs.Generator.{Generator}
@@ -19,13 +18,15 @@ use Rattle.combination.specs.Call.{Call}
 use Rattle.taylor_schedule.specs.Inner.{after_checks}
 use Rattle.transposed.specs.Transposed.{lends}
 use Rattle.transposed_shape.specs.Inner.{shape_answer}
-use Rattle.transposed_shape.specs.declared.ShapeAnswer.{ShapeAnswer}
-use Rattle.transposed_shape.specs.declared.ShapeAnswer.TheVariants.{Refusal, Passed as Shaped}
+use Rattle.transposed_shape.specs.Inner.{ShapeAnswer}
 use Rattle.transposed_shape.proofs.Answers.{refused_told, passed_told}
+use Rattle.checks.specs.Reasons.{Sound, Refused}
+use Rattle.std.specs.Prelude.{Ok}
+use Rattle.checks.specs.declared.Reason.{Reason}
 
 -- a call that passes the refusal up
-pub over_refusal : (a : Csr) (mass : Mass) (b : Buffers) {bs : Buffers} {A : Type 0} {r : ShapeAnswer} {k : ℕ} {x : Float} {c d : Call A}
-    → (r ≡ shape_answer a mass (first (transposed_checks a mass (lengths b)))) × (bs ≡ buffers_after a mass b) → r ≡ Refusal k x → (Refused k x ≡ first (transposed_checks a mass (lengths b)) → c ≡ d)
+pub over_refusal : (a : Csr) (mass : Mass) (b : Buffers) {bs : Buffers} {A : Type 0} {r : ShapeAnswer} {k : Reason} {x : Float} {c d : Call A}
+    → (r ≡ shape_answer a mass (first (transposed_checks a mass (lengths b)))) × (bs ≡ buffers_after a mass b) → r ≡ Refused k x → (Refused k x ≡ first (transposed_checks a mass (lengths b)) → c ≡ d)
     → lends c bs ≡ lends d (buffers_after a mass b)
 over_refusal a mass b e taken f = λ i. lends (f (refused_told a mass _ (sym taken ∙ e.0)) i) (e.1 i)
 
@@ -64,8 +65,8 @@ module _ {a : Csr} {mass : Mass} {b : Buffers} {ss cs : List ℕ} {vs : List Flo
   abbrev front : Csr
   front = csr g.n (take (a.n + 1) ss) (take (length a.entries) cs) (take (length a.entries) vs)
 
-  pub front_passed : (m : List Float) → Passed front (given g.with_mass m) g
-  front_passed m = rw h.shape (subst (λ (q : Csr). Passed q none (transposed_shape a mass)) (sym (fronts passed written)) (transposed_passed a mass (lengths b) h.sound))
+  pub front_passed : (m : List Float) → Ok front (given g.with_mass m) g
+  front_passed m = rw h.shape (subst (λ (q : Csr). Ok q none (transposed_shape a mass)) (sym (fronts passed written)) (transposed_passed a mass (lengths b) h.sound))
 
   generator_is : (m : List Float) → after_checks (transposed_checks a mass (lengths b)) front (given g.with_mass m) g ≡ transposed a mass (lengths b)
   unfolding quotients

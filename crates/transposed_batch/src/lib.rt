@@ -8,6 +8,7 @@ ghost use Rattle.transpose.specs.Transpose.{buffers};
 ghost use Rattle.combination.specs.Call.{ends};
 ghost use Rattle.transposed.specs.Transposed.{lends, phi_action_batched_transposed};
 
+use checks::Refusal;
 use taylor_job::TaylorAnswer;
 use transposed_shape::ShapeAnswer;
 
@@ -28,14 +29,14 @@ pub fn phi_action_batched_transposed(
     v: &[f64],
     out: &mut [f64],
     work: &mut [f64],
-) -> TaylorAnswer
+) -> Result<TaylorReport, Refusal>
     ensures { lends (ends result out.new work.new) (buffers t_starts.new t_cols.new t_vals.new) ≡ phi_action_batched_transposed (csr n starts.now cols.now vals.now) (given with_mass mass.now) (buffers t_starts.old t_cols.old t_vals.old) tau cap p v.now out.old work.old }
 {
     let shape = transposed_shape::transposed_shape(
         n, starts, cols, vals, with_mass, mass, t_starts, t_cols, t_vals,
     );
     match shape {
-        ShapeAnswer::Refusal(k, x) => TaylorAnswer::Refusal(k, x),
+        Err(Refusal { reason: k, value: x }) => Err(Refusal { reason: k, value: x }),
         ShapeAnswer::Passed(g) => {
             let q_rows = &t_starts[..n + 1];
             let q_cols = &t_cols[..vals.len()];

@@ -13,6 +13,7 @@ ghost use Rattle.byte_calls.specs.Inner.{told};
 ghost use Rattle.transposed_byte_calls.specs.Replies.{lent, unpacked, replies, packs, matrix_replies, matrix_packs};
 ghost use Rattle.transposed_byte_calls.specs.Inner.{called_transposed, checked_transposed};
 
+use checks::Refusal;
 use byte_calls::{PhiCall, Told};
 use generator_action::MatrixAnswer;
 use krylov_job::KrylovPhiOptions;
@@ -250,7 +251,7 @@ fn run_check(
     starts_array: &mut [u32],
     cols_array: &mut [u32],
     vals_array: &mut [f64],
-) -> MatrixAnswer
+) -> Result<Largest, Refusal>
     requires { (4 * length starts_array.old ≤ length t_starts.old) × (4 * length cols_array.old ≤ length t_cols.old) × (8 * length vals_array.old ≤ length t_vals.old) }
     ensures { matrix_replies (matrix_numbers result) (lent t_starts.new t_cols.new t_vals.new) ≡ matrix_packs (checked_transposed (csr n starts.now cols.now vals.now) (given with_mass mass.now) (buffers starts_array.old cols_array.old vals_array.old)) (lent t_starts.old t_cols.old t_vals.old) }
 {
@@ -282,7 +283,7 @@ pub fn check_in_arrays(
     t_starts: &mut [u8],
     t_cols: &mut [u8],
     t_vals: &mut [u8],
-) -> MatrixAnswer
+) -> Result<Largest, Refusal>
     requires { (length starts.now / 4 ≤ 512) × (length cols.now / 4 ≤ 513) × (length vals.now / 8 ≤ 512) × (length mass.now / 8 ≤ 512) × (length t_starts.old / 4 ≤ 512) × (length t_cols.old / 4 ≤ 512) × (length t_vals.old / 8 ≤ 512) }
     ensures { matrix_replies (matrix_numbers result) (lent t_starts.new t_cols.new t_vals.new) ≡ matrix_packs (checked_transposed (csr n (numbers_of starts.now) (numbers_of cols.now) (doubles_of vals.now)) (given with_mass (doubles_of mass.now)) (unpacked (lent t_starts.old t_cols.old t_vals.old))) (lent t_starts.old t_cols.old t_vals.old) }
 {

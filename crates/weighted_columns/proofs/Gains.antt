@@ -13,7 +13,7 @@ use Rattle.lists.proofs.Find.{find_ext}
 use Rattle.lists.proofs.Loop.{get_d_tabulate, tabulate_ext}
 use Rattle.doubles.specs.F64.{◌⊗◌, 1f, at}
 use Rattle.checks.specs.First.{first}
-use Rattle.checks.specs.declared.Checked.{Checked}
+use Rattle.checks.specs.First.{Checked}
 use Rattle.pow2.specs.Pow2.{eta_scaling}
 use Rattle.pow2.specs.declared.Scaling.{Scaling}
 use Rattle.combination.specs.Combination.{gain, magnitude, eta_of, column_places, scaled_gains}

@@ -12,6 +12,7 @@ use Rattle.weighted_columns.specs.declared.Powers.{Powers}
 use Rattle.weighted_columns.specs.declared.Weights.{Weights}
 use Rattle.combination.specs.Combination.{gain, weighed, magnitude, eta_of, column_places, scaled_gains}
 use Rattle.combination.specs.Checks.{magnitude_checks}
+use Rattle.checks.specs.declared.Reason.TheVariants.{MagnitudeNotFinite, GainNotFinite}
 
 -- ---- 21 and 22
 abbrev pub share_of : ℕ → List Float → Float → ℕ → Float → Share
@@ -24,7 +25,7 @@ abbrev pub not_finite_by : List Float → Float → ℕ → Bool
 not_finite_by gains eta j = not (is_finite (at gains j ⊗ eta))
 
 abbrev pub power_checks : Float → List Float → ℕ → Float → List Check
-power_checks sum gains d eta = refuse 21 (not (is_finite sum)) sum ∷ refuse 22 (exists (not_finite_by gains eta) d) nan ∷ []
+power_checks sum gains d eta = refuse MagnitudeNotFinite (not (is_finite sum)) sum ∷ refuse GainNotFinite (exists (not_finite_by gains eta) d) nan ∷ []
 
 abbrev pub reversed_by : List Float → ℕ → Float → List Float
 reversed_by gains d eta = tabulate 3 (λ j. if ltb j d then at gains (d - j - 1) ⊗ eta else 1f)

@@ -8,7 +8,7 @@ ghost use Rattle.pow2.specs.Pow2.{sup};
 ghost use Rattle.combination.specs.Combination.{vector, column_places};
 ghost use Rattle.weighted_columns.specs.Inner.{share_of, powers_of, not_finite_by, power_checks, reversed_by, weights_by, weights};
 
-use checks::Checked;
+use checks::{Checked, Reason, Refusal};
 use phi_action_helpers::Coupling;
 use pow2::Scaling;
 
@@ -89,12 +89,12 @@ fn check_magnitude(sum: f64, gains: [f64; 3], d: usize, eta: f64) -> Checked
     ensures { result ≡ first (power_checks sum gains d eta) }
 {
     if !float::is_finite(sum) {
-        return Checked::Refused(21, sum);
+        return Err(Refusal { reason: Reason::MagnitudeNotFinite, value: sum });
     }
     if first_bad_gain(gains, d, eta) < d {
-        return Checked::Refused(22, float::not_a_number());
+        return Err(Refusal { reason: Reason::GainNotFinite, value: float::not_a_number() });
     }
-    Checked::Sound
+    Ok(())
 }
 
 // cols[d - k] is w_k, at k - 1 of the further vectors.

@@ -4,7 +4,6 @@ use mathlib.Core.Path.{◌≡◌, refl, sym, ◌∙◌}
 use mathlib.Core.List.{◌++◌}
 use lib.ListN.{length}
 use Rattle.checks.specs.First.{first}
-use Rattle.checks.specs.declared.Checked.TheVariants.{Sound}
 use Rattle.checks.proofs.First.{sound_append}
 use Rattle.checks.proofs.First as checks
 use Rattle.general_operator.specs.Csr.{Csr, csr}
@@ -17,6 +16,7 @@ use Rattle.ambient_checks.proofs.Checks.{Logged, log_known}
 use Rattle.ambient_turns.specs.Ambient.{ambient_checks}
 use Rattle.ambient_turns.proofs.Whole.{checks_told, matrix_refused, ambient_refused, ambient_is, logs_known}
 use Rattle.ambient.proofs.ambient.Goals as goal
+use Rattle.checks.specs.Reasons.{Sound}
 
 pub returns-in_default : goal.returns-in_default
 returns-in_default c =

@@ -3,6 +3,7 @@ use Rattle.checks.proofs.First.{refused_up, sound_on, passes, stops, not_eq, not
 use Rattle.combination.specs.Checks.{finite_checks}
 use Rattle.ambient_checks.specs.Log.{field_checks}
 use Rattle.ambient_checks.proofs.check_fields.Goals as goal
+use Rattle.checks.specs.declared.Reason.TheVariants.{VectorLength}
 
 pub returns-in_default : goal.returns-in_default
 unfolding field_checks
@@ -16,4 +17,4 @@ pub returns : goal.returns
 unfolding field_checks finite_checks
 returns c =
     let fin = c.and_then.ensures _ _ c.check_finite.ensures c.check_finite-behind.ensures in
-    sound_on _ _ c.in-Sound.is c.check_lengths-lengths.ensures (passes 16 _ _ (not_eq c.if-load-n.false) fin)
+    sound_on _ _ c.in-Sound.is c.check_lengths-lengths.ensures (passes VectorLength _ _ (not_eq c.if-load-n.false) fin)
