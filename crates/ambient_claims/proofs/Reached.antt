@@ -13,7 +13,7 @@ use Rattle.checks.specs.First.{Checked}
 use Rattle.generator_action.specs.Generator.{Generator}
 use Rattle.combination.specs.Call.{Call, ends, cleared}
 use Rattle.taylor_job.specs.Calls.{combination_checks}
-use Rattle.taylor_job.specs.Answer.{TaylorAnswer}
+use Rattle.taylor_job.specs.Calls.{TaylorAnswer}
 use Rattle.ambient_checks.specs.Log.{Log}
 use Rattle.ambient_turns.specs.declared.AmbientAnswer.TheVariants.{Refusal, NotANumber}
 use Rattle.ambient_turns.specs.Ambient.{Progress, Ended, ended, shown, settle, record_step, begun}

@@ -23,7 +23,7 @@ use Rattle.combination.specs.Call.{Call, ends, unless_refused, cleared}
 use Rattle.combination.specs.Checks.{plan_checks, vector_checks, magnitude_checks, schedule_checks, memory_checks, sweep_checks, taylor_need}
 use Rattle.taylor_schedule.proofs.Admitted.{sweeps_known}
 use Rattle.taylor_job.specs.Calls.{Fields, after_plan, swept_fields, combination_checks, combination_run, phi_combination}
-use Rattle.taylor_job.specs.Answer.{TaylorAnswer}
+use Rattle.taylor_job.specs.Calls.{TaylorAnswer}
 use Rattle.ambient_record.specs.Record.{wider, record_call}
 use Rattle.ambient_record.proofs.OneRecord.{checks_wider}
 use Rattle.ambient_claims.specs.Ran.{Gave, record_need}

@@ -7,7 +7,7 @@ use Rattle.checks.specs.First.{first}
 use Rattle.generator_action.specs.Generator.{Generator}
 use Rattle.combination.specs.Call.{Call, cleared}
 use Rattle.taylor_job.specs.Calls.{combination_checks, phi_combination}
-use Rattle.taylor_job.specs.Answer.{TaylorAnswer}
+use Rattle.taylor_job.specs.Calls.{TaylorAnswer}
 use Rattle.ambient_checks.specs.Log.{Log, records_of}
 use Rattle.checks.specs.Reasons.{Refused}
 use Rattle.std.specs.Prelude.{Ok, Err}

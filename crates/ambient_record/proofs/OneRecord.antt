@@ -37,7 +37,7 @@ use Rattle.combination.proofs.Cleared.{clear_over, cleared_less}
 use Rattle.taylor_schedule.proofs.Stored.{quotients_rows}
 use Rattle.taylor_job.specs.Calls.{Fields, after_plan, report, swept_fields, combination_checks, combination_run, phi_combination}
 use Rattle.taylor_job.specs.Inner.{Allowed, plan_by, operator_by, job_end}
-use Rattle.taylor_job.specs.Answer.{TaylorAnswer}
+use Rattle.taylor_job.specs.Calls.{TaylorAnswer}
 use Rattle.taylor_job.proofs.Jobs.{planned}
 use Rattle.ambient_checks.specs.Inner.{early_checks, record_job}
 use Rattle.ambient_record.specs.Record.{wider, record_call}

@@ -19,7 +19,7 @@ ghost use Rattle.ambient_record.specs.Inner.{record_end};
 use checks::Refusal;
 use generator_action::Shape;
 use phi_action_helpers::SweepArgs;
-use taylor_job::TaylorAnswer;
+use taylor_job::TaylorReport;
 use taylor_schedule::Job;
 
 // The run of a record that passed: w_1 lies in the output, which is free until the field is copied there, and w_0 at the front of the memory.

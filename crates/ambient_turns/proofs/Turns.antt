@@ -20,7 +20,7 @@ use Rattle.lists.proofs.Window.{length_window, splice_snoc}
 use Rattle.doubles.specs.F64.{at}
 use Rattle.generator_action.specs.Generator.{Generator}
 use Rattle.combination.specs.Call.{Call, ends}
-use Rattle.taylor_job.specs.Answer.{TaylorAnswer}
+use Rattle.taylor_job.specs.Calls.{TaylorAnswer}
 use Rattle.taylor_job.specs.declared.TaylorReport.{TaylorReport}
 use Rattle.ambient_record.specs.Record.{record_call}
 use Rattle.ambient_checks.specs.Log.{Log}

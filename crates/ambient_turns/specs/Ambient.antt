@@ -11,7 +11,7 @@ use Rattle.checks.specs.First.{Check, first}
 use Rattle.checks.specs.First.{Checked}
 use Rattle.generator_action.specs.Generator.{Generator}
 use Rattle.combination.specs.Call.{Call, ends}
-use Rattle.taylor_job.specs.Answer.{TaylorAnswer}
+use Rattle.taylor_job.specs.Calls.{TaylorAnswer}
 use Rattle.ambient_record.specs.Record.{record_call, open_record}
 use Rattle.ambient_checks.specs.Log.{Log, records_of, Places, field_checks, log_checks, open_log}
 use Rattle.ambient_turns.specs.declared.AmbientAnswer.{AmbientAnswer}

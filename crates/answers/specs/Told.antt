@@ -4,13 +4,13 @@ use Rattle.doubles.specs.F64.{+0}
 use Rattle.generator_action.specs.Answer.{MatrixAnswer}
 use Rattle.join_rows.specs.Join.{Call}
 use Rattle.join_rows.specs.Join.{JoinAnswer}
-use Rattle.taylor_job.specs.Answer.{TaylorAnswer}
+use Rattle.taylor_job.specs.Calls.{TaylorAnswer}
 use Rattle.krylov_job.specs.declared.KrylovPhiOptions.{KrylovPhiOptions}
-use Rattle.krylov_job.specs.Answer.{KrylovAnswer}
+use Rattle.krylov_job.specs.KrylovCall.{KrylovAnswer}
 use Rattle.phi_solver.specs.declared.PhiSolver.{PhiSolver}
 use Rattle.phi_solver.specs.declared.PhiSolver.TheVariants.{Taylor, Krylov}
-use Rattle.phi_solver.specs.declared.PhiAnswer.{PhiAnswer}
-use Rattle.phi_solver.specs.declared.PhiAnswer.TheVariants as phi
+use Rattle.phi_solver.specs.Combine.{PhiAnswer}
+use Rattle.phi_solver.specs.declared.PhiReport.TheVariants as phi
 use Rattle.std.specs.Prelude.{Ok, Err}
 
 -- 0 or the refusal's number, the double reported, three counts, and the shortest and the last accepted step
@@ -66,8 +66,8 @@ krylov_numbers (Ok r) = run_numbers 0 r.est_error r.substeps r.matvecs r.rejecte
 -- of either solver: what its own call tells
 unfoldable pub phi_numbers : PhiAnswer → Numbers
 phi_numbers (Err r) = numbers r.reason r.value 0 0 0
-phi_numbers (phi.Taylor r) = taylor_numbers (Ok r)
-phi_numbers (phi.Krylov r) = krylov_numbers (Ok r)
+phi_numbers (Ok (phi.Taylor r)) = taylor_numbers (Ok r)
+phi_numbers (Ok (phi.Krylov r)) = krylov_numbers (Ok r)
 
 -- tol, m and max_substeps, handed in as numbers (phi_krylov.rs, `KrylovPhiOptions`)
 abbrev pub options : Float → ℕ → ℕ → KrylovPhiOptions

@@ -13,7 +13,7 @@ use Rattle.combination.specs.Call.{ends}
 use Rattle.taylor_job.specs.Calls.{phi_combination, phi_action, phi_action_batched, open_calls}
 use Rattle.checks.specs.Reasons.{Refused}
 use Rattle.std.specs.Prelude.{Ok}
-use Rattle.checks.specs.declared.Reason.TheVariants.{TauRange, VectorLength, VectorNotFinite, NoPlan, WorkLength, DegreeRange}
+use Rattle.checks.specs.declared.Reason.TheVariants.{TauRange, VectorLength, VectorNotFinite, NoAdmissibleRow, WorkLength, DegreeRange}
 
 abbrev laplace : Csr
 laplace = csr 2 (0 ∷ 2 ∷ 4 ∷ []) (0 ∷ 1 ∷ 0 ∷ 1 ∷ []) (nat 2 ∷ bits 0xbff0000000000000 ∷ bits 0xbff0000000000000 ∷ nat 2 ∷ [])
@@ -82,6 +82,6 @@ unfolding open_calls
 time_first = refl
 
 -- up to 1 no row is admissible, not even at time 0, where the argument is 4
-degree_1 : phi_action (forward laplace none) +0 1 0 (+0 ∷ +0 ∷ []) (nat 7 ∷ nat 7 ∷ []) (replicate 12 (nat 9)) ≡ ends (Refused NoPlan (nat 4)) (nat 7 ∷ nat 7 ∷ []) (replicate 12 (nat 9))
+degree_1 : phi_action (forward laplace none) +0 1 0 (+0 ∷ +0 ∷ []) (nat 7 ∷ nat 7 ∷ []) (replicate 12 (nat 9)) ≡ ends (Refused NoAdmissibleRow (nat 4)) (nat 7 ∷ nat 7 ∷ []) (replicate 12 (nat 9))
 unfolding open_calls
 degree_1 = refl

@@ -30,7 +30,7 @@ pub enum Reason {
     MagnitudeNotFinite = 21,
     GainNotFinite = 22,
     ArgumentNotFinite = 24,
-    NoPlan = 25,
+    NoAdmissibleRow = 25,
     WorkLength = 26,
     SubstepLimit = 27,
     LengthsRejected = 28,

@@ -10,7 +10,7 @@ use Rattle.expmv.specs.declared.Selected.{Selected}
 use Rattle.expmv.specs.declared.Selected.TheVariants.{NoRow, Row}
 use Rattle.phi_shift.specs.Plan.{argument, open_plan}
 use Rattle.combination.specs.Combination.{magnitude, gain, eta_of, open_combination}
-use Rattle.checks.specs.declared.Reason.TheVariants.{VectorCount, IndexRange, TauRange, OutputLength, VectorLength, VectorNotFinite, MagnitudeNotFinite, GainNotFinite, ArgumentNotFinite, NoPlan, WorkLength, DegreeRange}
+use Rattle.checks.specs.declared.Reason.TheVariants.{VectorCount, IndexRange, TauRange, OutputLength, VectorLength, VectorNotFinite, MagnitudeNotFinite, GainNotFinite, ArgumentNotFinite, NoAdmissibleRow, WorkLength, DegreeRange}
 
 -- vectors not 1 to 4
 unfoldable pub count_checks : ℕ → List Check
@@ -60,7 +60,7 @@ no_row (Row s m) = false
 unfoldable pub schedule_checks : ℕ → Float → Float → List Check
 schedule_checks m_max norm tau =
     refuse ArgumentNotFinite (not (is_finite (argument tau norm))) (argument tau norm)
-    ∷ refuse NoPlan (no_row (select_s_m m_max (argument tau norm))) (argument tau norm)
+    ∷ refuse NoAdmissibleRow (no_row (select_s_m m_max (argument tau norm))) (argument tau norm)
     ∷ []
 
 -- the working memory is shorter than what is needed

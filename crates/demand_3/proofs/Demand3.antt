@@ -35,7 +35,7 @@ use Rattle.krylov_advance.specs.Run.{State, End, finished, refused, clamp_m, idl
 use Rattle.krylov_advance.specs.declared.KrylovPhiReport.{KrylovPhiReport}
 use Rattle.krylov_job.specs.KrylovCall.{dimension, option_checks, bound_checks, run_checks, krylov_need, krylov_checks_by, krylov_checks, after_run, combination_run_krylov, phi_combination_krylov}
 use Rattle.krylov_job.specs.declared.KrylovPhiOptions.{KrylovPhiOptions}
-use Rattle.krylov_job.specs.Answer.{KrylovAnswer}
+use Rattle.krylov_job.specs.KrylovCall.{KrylovAnswer}
 use Rattle.demand_3.specs.Krylov.{Zeros, KrylovCost, AtLimit, Exactly27}
 use Rattle.demand_3.specs.Demand3.{start_of, krylov_run, clamped, OneProduct, Demand3}
 use Rattle.demand_3.proofs.Start.{vectors_finite, start_finite}
@@ -44,13 +44,13 @@ use Rattle.demand_3.proofs.Never23.{transposed_in_range}
 use Rattle.demand_3.proofs.Taylor.{fits_is, combination_claim, action_claim, batch_claim}
 use Rattle.checks.specs.Reasons.{Sound, Refused}
 use Rattle.std.specs.Prelude.{Ok, Err}
-use Rattle.checks.specs.declared.Reason.TheVariants.{VectorNotFinite, NoPlan, SubstepLimit, DegreeRange}
+use Rattle.checks.specs.declared.Reason.TheVariants.{VectorNotFinite, NoAdmissibleRow, SubstepLimit, DegreeRange}
 use Rattle.checks.specs.declared.Reason.{Reason}
 
 -- ---- a Krylov call
 module _
     (g : Generator)
-    (none_25 : before NoPlan g.checks ≡ g.checks)
+    (none_25 : before NoAdmissibleRow g.checks ≡ g.checks)
     (none_27 : before SubstepLimit g.checks ≡ g.checks)
     (none_33 : before DegreeRange g.checks ≡ g.checks)
     (tau : Float)
@@ -149,31 +149,31 @@ module _
   exactly_27 x = (only_27 x, if_27 x)
 
   -- ---- 25 is not of a Krylov call
-  not_of_memory : {x : Float} → Refused NoPlan x ≡ first (memory_checks (length memory) (krylov_need n (count - 1) M g.stored)) → ⊥
+  not_of_memory : {x : Float} → Refused NoAdmissibleRow x ≡ first (memory_checks (length memory) (krylov_need n (count - 1) M g.stored)) → ⊥
   unfolding memory_checks first
   not_of_memory {x} e = go (ltb (length memory) (krylov_need n (count - 1) M g.stored)) (e ∙ first_cons 26 (ltb (length memory) (krylov_need n (count - 1) M g.stored)) nan [])
     where
-      go : (b : Bool) → Refused NoPlan x ≡ unless b 26 nan Sound → ⊥
+      go : (b : Bool) → Refused NoAdmissibleRow x ≡ unless b 26 nan Sound → ⊥
       go true e = let n : ◌≡◌ {A = ℕ} 25 26 = cc in absurd (omega (arith, n))
       go false e = let z : zero ≡ 1 = cc in absurd (omega (arith, z))
 
-  low_vectors : before NoPlan (vector_checks n (time_checks tau) count w (length output)) ≡ vector_checks n (time_checks tau) count w (length output)
+  low_vectors : before NoAdmissibleRow (vector_checks n (time_checks tau) count w (length output)) ≡ vector_checks n (time_checks tau) count w (length output)
   unfolding before vector_checks vector_checks_by count_checks time_checks length_checks finite_checks
   low_vectors = refl
 
-  low_options : before NoPlan (option_checks o M) ≡ option_checks o M
+  low_options : before NoAdmissibleRow (option_checks o M) ≡ option_checks o M
   unfolding before option_checks
   low_options = refl
 
-  low_magnitude : (f : List Float) (eta : Float) → before NoPlan (magnitude_checks n f tau (count - 1) eta) ≡ magnitude_checks n f tau (count - 1) eta
+  low_magnitude : (f : List Float) (eta : Float) → before NoAdmissibleRow (magnitude_checks n f tau (count - 1) eta) ≡ magnitude_checks n f tau (count - 1) eta
   unfolding before magnitude_checks
   low_magnitude f eta = refl
 
-  low_bound : (anorm : Float) → before NoPlan (bound_checks anorm) ≡ bound_checks anorm
+  low_bound : (anorm : Float) → before NoAdmissibleRow (bound_checks anorm) ≡ bound_checks anorm
   unfolding before bound_checks
   low_bound anorm = refl
 
-  checks_25 : {x : Float} → Refused NoPlan x ≡ first checks → ⊥
+  checks_25 : {x : Float} → Refused NoAdmissibleRow x ≡ first checks → ⊥
   unfolding krylov_checks krylov_checks_by vector_checks run_checks
   checks_25 e =
       let v = refused_past 25 _ _ low_vectors (refused_past 25 _ _ none_25 e).1 in
@@ -199,7 +199,7 @@ module _
       same : {i j : Reason} {x y : Float} → Refused i x ≡ Refused j y → Refused j y ≡ Refused i x
       same g = cc
 
-  pub krylov_no_25 : (x : Float) → call.answer ≡ Refused NoPlan x → ⊥
+  pub krylov_no_25 : (x : Float) → call.answer ≡ Refused NoAdmissibleRow x → ⊥
   unfolding combination_run_krylov phi_combination_krylov
   krylov_no_25 x e = refused_by_none 25 (λ y. checks_25) (λ k l m n. absurd (omega (arith, l, n))) (first checks) _ _ refl (λ r z s. expv_late _ tau _ o.tol o.m o.max_substeps (start_of g tau count w)) e
 
@@ -226,7 +226,7 @@ unfolding degrees thetas decimal sweeps quotient cost degree
 the_rows = record { degrees_are = refl; thetas_are = refl; fits = fits_is; all_at_30 = λ j l. (degree_bounds j l).1; sweeps_are = λ arg j. refl; costs = λ arg j. refl }
 
 -- ---- all four calls, of a generator none of whose checks is numbered 17, 25, 27 or 33, and whose norm is in range where they pass
-pub demand_3_of : (g : Generator) → (Sound ≡ first g.checks → out_of_range (row_sum_norm g.matrix) ≡ false) → before NoPlan g.checks ≡ g.checks → before SubstepLimit g.checks ≡ g.checks → before VectorNotFinite g.checks ≡ g.checks → before DegreeRange g.checks ≡ g.checks → (tau : Float) (output memory : List Float) → Demand3 g tau output memory
+pub demand_3_of : (g : Generator) → (Sound ≡ first g.checks → out_of_range (row_sum_norm g.matrix) ≡ false) → before NoAdmissibleRow g.checks ≡ g.checks → before SubstepLimit g.checks ≡ g.checks → before VectorNotFinite g.checks ≡ g.checks → before DegreeRange g.checks ≡ g.checks → (tau : Float) (output memory : List Float) → Demand3 g tau output memory
 demand_3_of g ranged_norm none_25 none_27 none_17 none_33 tau output memory =
     record {
       one_product = one_each;
@@ -242,7 +242,7 @@ demand_3_of g ranged_norm none_25 none_27 none_17 none_33 tau output memory =
     }
 
 -- a matrix and a mass have the checks 1 to 11
-forward_25 : (a : Csr) (mass : Mass) → before NoPlan (generator_checks a mass) ≡ generator_checks a mass
+forward_25 : (a : Csr) (mass : Mass) → before NoAdmissibleRow (generator_checks a mass) ≡ generator_checks a mass
 unfolding before generator_checks matrix_checks shape_checks row_checks entry_checks sums-checks mass_checks sum_checks norm_checks
 forward_25 a none = refl
 forward_25 a (some mass) = refl
@@ -267,7 +267,7 @@ demand_3 a mass tau output memory = demand_3_of (forward a mass) (no_23 a mass) 
 
 -- the transposed one has 1 to 11 and 30
 transposed_none : (a : Csr) (mass : Mass) (l : Lent)
-    → let cs = transposed_checks a mass l in (before NoPlan cs ≡ cs) × (before SubstepLimit cs ≡ cs) × (before VectorNotFinite cs ≡ cs) × (before DegreeRange cs ≡ cs)
+    → let cs = transposed_checks a mass l in (before NoAdmissibleRow cs ≡ cs) × (before SubstepLimit cs ≡ cs) × (before VectorNotFinite cs ≡ cs) × (before DegreeRange cs ≡ cs)
 unfolding before transposed_checks before_transposing forward_checks start_checks lent_checks matrix_checks shape_checks row_checks entry_checks mass_checks sum_checks norm_checks
 transposed_none a none l = (refl, refl, refl, refl)
 transposed_none a (some mass) l = (refl, refl, refl, refl)

@@ -39,14 +39,14 @@ use Rattle.combination.specs.Call.{Call, unless_refused}
 use Rattle.combination.specs.Combination.{further, eta_of, combination_operator, action_operator}
 use Rattle.combination.specs.Checks.{no_row, out_of_range, count_checks, index_checks, time_checks, degree_checks, plan_checks, length_checks, not_finite_at, finite_checks, magnitude_checks, schedule_checks, memory_checks, vector_checks_by, vector_checks, sweep_checks, job_checks, taylor_need}
 use Rattle.taylor_job.specs.declared.TaylorReport.{TaylorReport}
-use Rattle.taylor_job.specs.Answer.{TaylorAnswer}
+use Rattle.taylor_job.specs.Calls.{TaylorAnswer}
 use Rattle.taylor_job.specs.Calls.{Fields, after_plan, combination_checks, combination_run, phi_combination, action_checks, phi_action, phi_action_batched}
 use Rattle.demand_3.specs.Taylor.{norm_of, row_fits, TaylorCost, NoRowFits, Exactly25, Exactly33, ValueRefused, Exactly17, TaylorClaim}
 use Rattle.demand_3.specs.Demand3.{start_of, operator_of, action_start, action_of}
 use Rattle.demand_3.proofs.Products.{Made, one_made, batch_made}
 use Rattle.checks.specs.Reasons.{Sound, Refused}
 use Rattle.std.specs.Prelude.{Ok, Err}
-use Rattle.checks.specs.declared.Reason.TheVariants.{VectorNotFinite, ArgumentNotFinite, NoPlan, SubstepLimit, DegreeRange}
+use Rattle.checks.specs.declared.Reason.TheVariants.{VectorNotFinite, ArgumentNotFinite, NoAdmissibleRow, SubstepLimit, DegreeRange}
 use Rattle.checks.specs.declared.Reason.{Reason}
 
 reported : {a b : TaylorReport} → Ok a ≡ Ok b → a ≡ b
@@ -125,34 +125,34 @@ module _ (gs xs ys : List Check) (tau : Float) (cap : ℕ) (norm : Float) (memor
   abbrev just_before : List Check
   just_before = refuse ArgumentNotFinite (not (is_finite (argument tau norm))) (argument tau norm) ∷ []
 
-  module _ (rg : Sound ≡ first gs → out_of_range norm ≡ false) (lg : before NoPlan gs ≡ gs) (lx : before NoPlan xs ≡ xs) (ly : before NoPlan ys ≡ ys) where
-    lt : before NoPlan (time_checks tau) ≡ time_checks tau
+  module _ (rg : Sound ≡ first gs → out_of_range norm ≡ false) (lg : before NoAdmissibleRow gs ≡ gs) (lx : before NoAdmissibleRow xs ≡ xs) (ly : before NoAdmissibleRow ys ≡ ys) where
+    lt : before NoAdmissibleRow (time_checks tau) ≡ time_checks tau
     unfolding before plan_checks time_checks
     lt = refl
 
-    ls : before NoPlan just_before ≡ just_before
+    ls : before NoAdmissibleRow just_before ≡ just_before
     unfolding before
     ls = refl
 
-    last : before NoPlan (schedule_checks cap norm tau ++ memory_checks memory need) ≡ just_before
+    last : before NoAdmissibleRow (schedule_checks cap norm tau ++ memory_checks memory need) ≡ just_before
     unfolding before schedule_checks memory_checks
     last = refl
 
-    before_is : before NoPlan in_order ≡ gs ++ (xs ++ (time_checks tau ++ (ys ++ just_before)))
+    before_is : before NoAdmissibleRow in_order ≡ gs ++ (xs ++ (time_checks tau ++ (ys ++ just_before)))
     before_is =
         before_append 25 gs _ lg
         ∙ ap (λ (r : List Check). gs ++ r) (before_append 25 xs _ lx ∙ ap (λ (r : List Check). xs ++ r) (before_append 25 (time_checks tau) _ lt ∙ ap (λ (r : List Check). time_checks tau ++ r) (before_append 25 ys _ ly ∙ ap (λ (r : List Check). ys ++ r) last)))
 
-    not_26 : {x : Float} → Refused NoPlan x ≡ first (memory_checks memory need) → ⊥
+    not_26 : {x : Float} → Refused NoAdmissibleRow x ≡ first (memory_checks memory need) → ⊥
     unfolding memory_checks first
     not_26 {x} e = go (ltb memory need) (e ∙ first_cons 26 (ltb memory need) nan [])
       where
-        go : (b : Bool) → Refused NoPlan x ≡ unless b 26 nan Sound → ⊥
+        go : (b : Bool) → Refused NoAdmissibleRow x ≡ unless b 26 nan Sound → ⊥
         go true e = let n : ◌≡◌ {A = ℕ} 25 26 = cc in absurd (omega (arith, n))
         go false e = let z : zero ≡ 1 = cc in absurd (omega (arith, z))
 
     -- what holds where 14 and 24 pass, and the generator's checks
-    ranged : Sound ≡ first (before NoPlan in_order) → T (is_finite (argument tau norm)) × T (+0 ⩽ argument tau norm)
+    ranged : Sound ≡ first (before NoAdmissibleRow in_order) → T (is_finite (argument tau norm)) × T (+0 ⩽ argument tau norm)
     unfolding plan_checks time_checks
     ranged e =
         let g = sound_append gs _ (e ∙ ap first before_is) in
@@ -162,20 +162,20 @@ module _ (gs xs ys : List Check) (tau : Float) (cap : ℕ) (norm : Float) (memor
         let f = holds (not-false (is_finite (argument tau norm)) (sound_cons _ _ _ _ y.1).0) in
         (f, argument_nonneg tau norm (sound_cons _ _ _ _ t.0).0 (rg g.0) f)
 
-    pub only_25 : {x : Float} → Refused NoPlan x ≡ first in_order → NoRowFits in_order tau cap norm x
+    pub only_25 : {x : Float} → Refused NoAdmissibleRow x ≡ first in_order → NoRowFits in_order tau cap norm x
     unfolding schedule_checks argument
     only_25 {x} e =
         let g = refused_past 25 gs _ lg e in
         let h = refused_past 25 xs _ lx g.1 in
         let t = refused_past 25 (time_checks tau) _ lt h.1 in
         let y = refused_past 25 ys _ ly t.1 in
-        let s = refused_past 25 just_before (refuse NoPlan (no_row (select_s_m cap (argument tau norm))) (argument tau norm) ∷ memory_checks memory need) ls y.1 in
+        let s = refused_past 25 just_before (refuse NoAdmissibleRow (no_row (select_s_m cap (argument tau norm))) (argument tau norm) ∷ memory_checks memory need) ls y.1 in
         let r = refused_here 25 _ _ (memory_checks memory need) not_26 s.1 in
-        let b : Sound ≡ first (before NoPlan in_order) = sound_on gs _ refl g.0 (sound_on xs _ refl h.0 (sound_on (time_checks tau) _ refl t.0 (sound_on ys _ refl y.0 s.0))) ∙ ap first (sym before_is) in
+        let b : Sound ≡ first (before NoAdmissibleRow in_order) = sound_on gs _ refl g.0 (sound_on xs _ refl h.0 (sound_on (time_checks tau) _ refl t.0 (sound_on ys _ refl y.0 s.0))) ∙ ap first (sym before_is) in
         let f = ranged b in
         record { earlier = b; none = λ j l. sym (fits_is cap _ j) ∙ none_fits cap _ f.0 f.1 (none_only cap _ (row_none _ r.0)) j l; told = r.1 }
 
-    pub if_25 : {x : Float} → NoRowFits in_order tau cap norm x → Refused NoPlan x ≡ first in_order
+    pub if_25 : {x : Float} → NoRowFits in_order tau cap norm x → Refused NoAdmissibleRow x ≡ first in_order
     unfolding schedule_checks argument
     if_25 {x} h =
         let g = sound_append gs _ (h.earlier ∙ ap first before_is) in
@@ -211,7 +211,7 @@ module _ (gs xs ys : List Check) (tau : Float) (cap : ℕ) (norm : Float) (memor
           same : {i j : Reason} {x y : Float} → Refused i x ≡ Refused j y → Refused j y ≡ Refused i x
           same g = cc
 
-      refuses : {x : Float} → NoRowFits in_order tau cap norm x → (call (first in_order)).answer ≡ Refused NoPlan x
+      refuses : {x : Float} → NoRowFits in_order tau cap norm x → (call (first in_order)).answer ≡ Refused NoAdmissibleRow x
       unfolding unless_refused
       refuses h = rw (← (if_25 h)) refl
 
@@ -296,7 +296,7 @@ module _ (cs gs xs ys : List Check) (v : List Float) (c : Call TaylorAnswer) (li
 module _
     (g : Generator)
     (ranged_norm : Sound ≡ first g.checks → out_of_range (row_sum_norm g.matrix) ≡ false)
-    (none_25 : before NoPlan g.checks ≡ g.checks)
+    (none_25 : before NoAdmissibleRow g.checks ≡ g.checks)
     (none_27 : before SubstepLimit g.checks ≡ g.checks)
     (none_17 : before VectorNotFinite g.checks ≡ g.checks)
     (none_33 : before DegreeRange g.checks ≡ g.checks)
@@ -310,7 +310,7 @@ module _
     unfolding combination_run phi_combination combination_operator
     combination_cost e = of_call tau cap (operator_of g tau count w) 1 _ _ (λ p. one_made (operator_of g tau count w) tau p (start_of g tau count w)) _ _ output memory e
 
-    low_count : before NoPlan (count_checks count) ≡ count_checks count
+    low_count : before NoAdmissibleRow (count_checks count) ≡ count_checks count
     unfolding before count_checks
     low_count = refl
 
@@ -322,7 +322,7 @@ module _
     abbrev between : List Check
     between = degree_checks cap ++ (length_checks (length output) g.matrix.n (length w) (count * g.matrix.n) ++ (finite_checks w ++ of_magnitude))
 
-    low_between : before NoPlan between ≡ between
+    low_between : before NoAdmissibleRow between ≡ between
     unfolding before degree_checks length_checks finite_checks magnitude_checks
     low_between = refl
 
@@ -366,7 +366,7 @@ module _
     combination_claim = record { accepted = combination_cost; no_degree = combination_33; no_value = combination_17; no_plan = combination_25; no_limit = combination_no_27 }
 
   module _ (cap k : ℕ) (v output memory : List Float) where
-    low_index : before NoPlan (index_checks k) ≡ index_checks k
+    low_index : before NoAdmissibleRow (index_checks k) ≡ index_checks k
     unfolding before index_checks
     low_index = refl
 
@@ -374,7 +374,7 @@ module _
     abbrev of_field : ℕ → List Check
     of_field wanted = degree_checks cap ++ (length_checks (length output) wanted (length v) g.matrix.n ++ finite_checks v)
 
-    low_field : (wanted : ℕ) → before NoPlan (of_field wanted) ≡ of_field wanted
+    low_field : (wanted : ℕ) → before NoAdmissibleRow (of_field wanted) ≡ of_field wanted
     unfolding before degree_checks length_checks finite_checks
     low_field wanted = refl
 

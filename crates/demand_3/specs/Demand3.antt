@@ -18,7 +18,7 @@ use Rattle.demand_3.specs.Krylov.{Zeros, KrylovCost, Exactly27}
 use Rattle.demand_3.specs.Taylor.{Rows, TaylorClaim}
 use Rattle.checks.specs.Reasons.{Sound, Refused}
 use Rattle.std.specs.Prelude.{Ok}
-use Rattle.checks.specs.declared.Reason.TheVariants.{NoPlan, DegreeRange}
+use Rattle.checks.specs.declared.Reason.TheVariants.{NoAdmissibleRow, DegreeRange}
 
 -- the n + d values from which a combination starts, and its operator
 abbrev pub start_of : Generator → Float → ℕ → List Float → List Float
@@ -76,5 +76,5 @@ pub record Demand3 (g : Generator) (tau : Float) (output memory : List Float) : 
   pub zeros : (count : ℕ) (w : List Float) (o : KrylovPhiOptions) → Sound ≡ first (krylov_checks g tau count w o (length output) (length memory)) → Zeros (start_of g tau count w)
       → (phi_combination_krylov g tau count w o output memory).answer ≡ Ok (record { matvecs = 0; substeps = 0; rejected = 0; est_error = +0; shortest = +0; last = +0 })
   -- 25 and 33 are Taylor's alone
-  pub no_25 : (count : ℕ) (w : List Float) (o : KrylovPhiOptions) (x : Float) → (phi_combination_krylov g tau count w o output memory).answer ≡ Refused NoPlan x → ⊥
+  pub no_25 : (count : ℕ) (w : List Float) (o : KrylovPhiOptions) (x : Float) → (phi_combination_krylov g tau count w o output memory).answer ≡ Refused NoAdmissibleRow x → ⊥
   pub no_33 : (count : ℕ) (w : List Float) (o : KrylovPhiOptions) (x : Float) → (phi_combination_krylov g tau count w o output memory).answer ≡ Refused DegreeRange x → ⊥

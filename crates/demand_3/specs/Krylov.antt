@@ -13,7 +13,7 @@ use Rattle.dot.specs.Dot.{dot}
 use Rattle.gram_schmidt.specs.Basis.{Setting, dim, Basis, breakdown, full, apply, orthogonal}
 use Rattle.krylov_advance.specs.Run.{columns_of}
 use Rattle.krylov_advance.specs.declared.KrylovPhiReport.{KrylovPhiReport}
-use Rattle.krylov_job.specs.Answer.{KrylovAnswer}
+use Rattle.krylov_job.specs.KrylovCall.{KrylovAnswer}
 use Rattle.demand_3.specs.Trace.{Accepted, Attempt, total, Run, last_after, accepted_by, tried_by, time_of, field_of, left_by, estimate_of, relative}
 use Rattle.checks.specs.Reasons.{Sound, Refused}
 use Rattle.checks.specs.declared.Reason.TheVariants.{SubstepLimit}

@@ -15,11 +15,11 @@ use Rattle.phi_shift.specs.Plan.{plan, sweep_plan, Chosen}
 use Rattle.phi_shift.specs.declared.PlanAnswer.TheVariants.{Plan}
 use Rattle.combination.specs.Call.{Call}
 use Rattle.taylor_job.specs.declared.TaylorReport.{TaylorReport}
-use Rattle.taylor_job.specs.Answer.{TaylorAnswer}
+use Rattle.taylor_job.specs.Calls.{TaylorAnswer}
 use Rattle.demand_3.specs.Products.{field_at, products}
 use Rattle.checks.specs.Reasons.{Sound, Refused}
 use Rattle.std.specs.Prelude.{Ok}
-use Rattle.checks.specs.declared.Reason.TheVariants.{VectorNotFinite, NoPlan, SubstepLimit, DegreeRange}
+use Rattle.checks.specs.declared.Reason.TheVariants.{VectorNotFinite, NoAdmissibleRow, SubstepLimit, DegreeRange}
 
 -- the norm of the generator
 abbrev pub norm_of : Augmented → Float
@@ -74,13 +74,13 @@ pub record TaylorCost (tau : Float) (cap : ℕ) (b : Augmented) (runs : ℕ) (st
 
 -- 25 refuses with x: no check in front of it holds, and no row of the unshifted plan up to the cap is admissible; x is the argument
 pub record NoRowFits (cs : List Check) (tau : Float) (cap : ℕ) (norm x : Float) : Type 0 where
-  pub earlier : Sound ≡ first (before NoPlan cs)
+  pub earlier : Sound ≡ first (before NoAdmissibleRow cs)
   pub none : (j : ℕ) → j < 22 → row_fits cap (asked tau norm) j ≡ false
   pub told : x ≡ asked tau norm
 
 -- a call is refused by 25 exactly so
 abbrev pub Exactly25 : Call TaylorAnswer → List Check → Float → ℕ → Float → Type 0
-Exactly25 c cs tau cap norm = (x : Float) → (c.answer ≡ Refused NoPlan x → NoRowFits cs tau cap norm x) × (NoRowFits cs tau cap norm x → c.answer ≡ Refused NoPlan x)
+Exactly25 c cs tau cap norm = (x : Float) → (c.answer ≡ Refused NoAdmissibleRow x → NoRowFits cs tau cap norm x) × (NoRowFits cs tau cap norm x → c.answer ≡ Refused NoAdmissibleRow x)
 
 -- 33 refuses with x (document 02, N7): no check in front of it holds, and the highest degree is not 1 to 30; x is NaN
 pub record DegreeRefused (cs : List Check) (cap : ℕ) (x : Float) : Type 0 where

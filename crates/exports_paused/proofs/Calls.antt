@@ -25,7 +25,7 @@ use Rattle.krylov_job.specs.declared.KrylovPhiOptions.{KrylovPhiOptions}
 use Rattle.paused_run.specs.Paused.{Job, Input, PausedCall, leaves, rows, degree, field_checks, start_checks, start_unless, start, step}
 use Rattle.paused_run.specs.declared.PausedRun.{PausedRun}
 use Rattle.paused_run.specs.declared.Tolerance.{Tolerance}
-use Rattle.paused_run.specs.Answer.{StartAnswer}
+use Rattle.paused_run.specs.Paused.{StartAnswer}
 use Rattle.paused_run.specs.declared.StepAnswer.{StepAnswer}
 use Rattle.exports_paused.specs.Told.{fits, run_of, State, told, start_state, step_state, state_checks, start_told, step_told}
 use Rattle.checks.specs.Reasons.{Sound, Refused}

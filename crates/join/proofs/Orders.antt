@@ -3,6 +3,7 @@ use mathlib.Core.Path.{◌≡◌, refl}
 use mathlib.Core.List.{[], ◌∷◌, map}
 use lib.Ieee.{nan}
 use Rattle.checks.specs.First.{Check}
+use Rattle.checks.specs.Reasons.{number}
 use Rattle.doubles.specs.F64.{bits, +0, 1f, 2f}
 use Rattle.general_operator.specs.Csr.{Csr, csr}
 use Rattle.join_rows.specs.declared.Lengths.{Lengths}
@@ -10,7 +11,7 @@ use Rattle.join_rows.specs.Join.{join_checks, join_call, open_join}
 use Rattle.checks.specs.Reasons.{Refused}
 use Rattle.checks.specs.declared.Reason.TheVariants.{RowStartsLength, EntryNotFinite, JoinRows}
 
-order : (a b : Csr) (l : Lengths) → map (λ (c : Check). c.number) (join_checks a b l) ≡ 1 ∷ 2 ∷ 3 ∷ 4 ∷ 5 ∷ 6 ∷ 11 ∷ 1 ∷ 2 ∷ 3 ∷ 4 ∷ 5 ∷ 6 ∷ 11 ∷ 34 ∷ 35 ∷ 36 ∷ 3 ∷ 6 ∷ []
+order : (a b : Csr) (l : Lengths) → map (λ (c : Check). number c.reason) (join_checks a b l) ≡ 1 ∷ 2 ∷ 3 ∷ 4 ∷ 5 ∷ 6 ∷ 11 ∷ 1 ∷ 2 ∷ 3 ∷ 4 ∷ 5 ∷ 6 ∷ 11 ∷ 34 ∷ 35 ∷ 36 ∷ 3 ∷ 6 ∷ []
 unfolding open_join
 order a b l = refl
 

@@ -8,7 +8,6 @@ ghost use Rattle.join_rows.specs.Join.{join, input_checks, pair_checks, result_c
 ghost use Rattle.join_rows.specs.Inner.{Rows, Joinable};
 
 use checks::{Checked, Reason, Refusal};
-use generator_action::MatrixAnswer;
 use join_rows::Lengths;
 
 // 1 to 6 and 11 of one input: those of a generator without mass.

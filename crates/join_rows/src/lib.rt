@@ -13,13 +13,6 @@ ghost use Rattle.row_merge.specs.Merge.{advance};
 use checks::{Checked, Reason, Refusal};
 
 
-// A refusal's number and double, or the number of entries of the result.
-#[derive(Clone, Copy)]
-pub enum JoinAnswer {
-    Refusal(u32, f64),
-    Joined(usize),
-}
-
 // The lengths of the slices that the result is written to.
 #[derive(Clone, Copy)]
 pub struct Lengths {

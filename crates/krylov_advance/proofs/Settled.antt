@@ -28,7 +28,7 @@ use Rattle.trial_steps.specs.declared.Outcome.TheVariants.{Next, Accepted, NoPla
 use Rattle.krylov_advance.specs.declared.Progress.{Progress}
 use Rattle.krylov_advance.specs.declared.Progress.TheVariants.{Refused}
 use Rattle.checks.specs.Reasons.{Refused}
-use Rattle.checks.specs.declared.Reason.TheVariants.{NoPlan, LengthsRejected, NoInnerPlan}
+use Rattle.checks.specs.declared.Reason.TheVariants.{LengthsRejected, NoInnerPlan}
 
 -- ---- what the answer's basis has
 columns_are : (l : Layout) (k : Krylov) (basis : BasisAnswer) (w : List Float) → columns_of (basis_at l k basis w) ≡ tabulate (columns_in k basis) (column (l.n + l.d) w)

@@ -35,7 +35,7 @@ use Rattle.gram_schmidt.specs.declared.Krylov.{Krylov}
 use Rattle.krylov_advance.specs.Run.{End, finished, refused}
 use Rattle.krylov_job.specs.KrylovCall.{dimension, option_checks, bound_checks, run_checks, krylov_need, krylov_checks_by, krylov_checks, after_run, combination_run_krylov, phi_combination_krylov}
 use Rattle.krylov_job.specs.Inner.{scaling_by, scaling_of, run_job_by, checks_after, Admitted, Allowed, run_of}
-use Rattle.krylov_job.specs.Answer.{KrylovAnswer}
+use Rattle.krylov_job.specs.KrylovCall.{KrylovAnswer}
 use Rattle.krylov_job.specs.declared.KrylovPhiOptions.{KrylovPhiOptions}
 use Rattle.krylov_job.specs.declared.RunJob.{RunJob}
 use Rattle.krylov_job.specs.declared.Eta.TheVariants.{Own}

@@ -30,7 +30,7 @@ use Rattle.krylov_advance.specs.declared.RunAnswer.TheVariants.{Finished, Refuse
 use Rattle.krylov_job.specs.KrylovCall.{krylov_need, after_run}
 use Rattle.krylov_job.specs.Memory.{layout}
 use Rattle.krylov_job.specs.Inner.{answer_of, Allowed, run_of}
-use Rattle.krylov_job.specs.Answer.{KrylovAnswer}
+use Rattle.krylov_job.specs.KrylovCall.{KrylovAnswer}
 use Rattle.krylov_job.specs.declared.RunJob.{RunJob}
 use Rattle.checks.specs.Reasons.{Refused}
 

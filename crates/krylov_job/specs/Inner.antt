@@ -20,7 +20,7 @@ use Rattle.krylov_advance.specs.declared.RunAnswer.TheVariants.{Finished, Refuse
 use Rattle.krylov_job.specs.KrylovCall.{bound, dimension, option_checks, run_checks, krylov_need}
 use Rattle.krylov_job.specs.Memory.{krylov}
 use Rattle.krylov_job.specs.declared.KrylovPhiOptions.{KrylovPhiOptions}
-use Rattle.krylov_job.specs.Answer.{KrylovAnswer}
+use Rattle.krylov_job.specs.KrylovCall.{KrylovAnswer}
 use Rattle.krylov_job.specs.declared.RunJob.{RunJob}
 use Rattle.krylov_job.specs.declared.Eta.{Eta}
 use Rattle.krylov_job.specs.declared.Eta.TheVariants.{Own, Began}

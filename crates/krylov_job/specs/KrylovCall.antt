@@ -13,10 +13,16 @@ use Rattle.combination.specs.Call.{Call, ends, unless_refused, cleared, open_cal
 use Rattle.combination.specs.Checks.{time_checks, length_checks, vector_checks_by, magnitude_checks, memory_checks, open_checks}
 use Rattle.krylov_advance.specs.Run.{End, finished, refused, clamp_m, expv, open_run}
 use Rattle.krylov_job.specs.declared.KrylovPhiOptions.{KrylovPhiOptions}
-use Rattle.krylov_job.specs.Answer.{KrylovAnswer}
 use Rattle.checks.specs.Reasons.{Refused}
 use Rattle.std.specs.Prelude.{Ok}
 use Rattle.checks.specs.declared.Reason.TheVariants.{TolRange, NoSubsteps, OptionTooLarge, ArgumentNotFinite}
+use Rattle.std.specs.Prelude.{Result}
+use Rattle.checks.specs.declared.Refusal.{Refusal}
+use Rattle.krylov_advance.specs.declared.KrylovPhiReport.{KrylovPhiReport}
+
+-- a refusal, or a report
+abbrev pub KrylovAnswer : Type 0
+KrylovAnswer = Result KrylovPhiReport Refusal
 
 -- the bound of the augmented operator: tau * norm + 2
 unfoldable pub bound : Float → Float → Float

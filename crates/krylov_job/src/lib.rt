@@ -29,13 +29,6 @@ pub struct KrylovPhiOptions {
     pub max_substeps: usize,
 }
 
-// A refusal's number and double, or a report.
-#[derive(Clone, Copy)]
-pub enum KrylovAnswer {
-    Refusal(u32, f64),
-    Result(KrylovPhiReport),
-}
-
 // M: m clamped to 2 .. max(2, len).
 pub fn clamp_m(m: usize, len: usize) -> usize
     ensures { result ≡ clamp_m m len }

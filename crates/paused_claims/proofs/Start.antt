@@ -24,7 +24,7 @@ use Rattle.krylov_job.specs.KrylovCall.{dimension}
 use Rattle.krylov_job.specs.declared.KrylovPhiOptions.{KrylovPhiOptions}
 use Rattle.paused_run.specs.Paused.{Job, PausedCall, leaves, need_of, fresh, idle_run, first_run, field_checks, start_checks, begun, start_unless, start}
 use Rattle.paused_run.specs.declared.PausedRun.{PausedRun}
-use Rattle.paused_run.specs.Answer.{StartAnswer}
+use Rattle.paused_run.specs.Paused.{StartAnswer}
 use Rattle.demand_3.specs.Krylov.{Zeros}
 use Rattle.demand_3.proofs.Krylov.{none_zeros, zeros_none}
 use Rattle.paused_claims.specs.History.{values_in}

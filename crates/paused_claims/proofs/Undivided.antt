@@ -27,7 +27,7 @@ use Rattle.gram_schmidt.specs.Basis.{Setting, norm2}
 use Rattle.krylov_advance.specs.Run.{State, End, finished, refused, substep, spent, started, scaled_back, back, relative_report, clamp_m, idle, setting, expv_by, expv}
 use Rattle.krylov_job.specs.KrylovCall.{bound, dimension, krylov_checks, after_run, combination_run_krylov, phi_combination_krylov}
 use Rattle.krylov_job.specs.declared.KrylovPhiOptions.{KrylovPhiOptions}
-use Rattle.krylov_job.specs.Answer.{KrylovAnswer}
+use Rattle.krylov_job.specs.KrylovCall.{KrylovAnswer}
 use Rattle.paused_run.specs.Paused.{Job, rows, PausedCall, need_of, Input, moved, over, verdict, field_after, after_substep}
 use Rattle.paused_run.specs.declared.PausedRun.{PausedRun}
 use Rattle.paused_run.specs.declared.StepAnswer.{StepAnswer}

@@ -14,7 +14,7 @@ use Rattle.krylov_job.specs.KrylovCall.{bound, krylov_need, krylov_checks}
 use Rattle.krylov_job.specs.declared.KrylovPhiOptions.{KrylovPhiOptions}
 use Rattle.paused_run.specs.Paused.{Job, PausedCall, leaves}
 use Rattle.paused_run.specs.declared.PausedRun.{PausedRun}
-use Rattle.paused_run.specs.Answer.{StartAnswer}
+use Rattle.paused_run.specs.Paused.{StartAnswer}
 use Rattle.demand_3.specs.Krylov.{euclidean, Zeros}
 use Rattle.demand_3.specs.Demand3.{start_of}
 use Rattle.paused_claims.specs.History.{values_in, dimension_in, own_eta}

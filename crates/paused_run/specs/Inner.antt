@@ -23,7 +23,7 @@ use Rattle.krylov_advance.specs.declared.Progress.TheVariants.{On, Finished, Ref
 use Rattle.krylov_job.specs.declared.KrylovPhiOptions.{KrylovPhiOptions}
 use Rattle.krylov_job.specs.declared.RunJob.{RunJob}
 use Rattle.paused_run.specs.declared.PausedRun.{PausedRun}
-use Rattle.paused_run.specs.Answer.{StartAnswer}
+use Rattle.paused_run.specs.Paused.{StartAnswer}
 use Rattle.paused_run.specs.declared.StepAnswer.{StepAnswer}
 use Rattle.paused_run.specs.Paused.{Job, PausedCall, leaves, verdict, field_after}
 use Rattle.checks.specs.Reasons.{Refused}

@@ -25,12 +25,17 @@ use Rattle.krylov_job.specs.declared.KrylovPhiOptions.{KrylovPhiOptions}
 use Rattle.paused_run.specs.declared.PausedRun.{PausedRun}
 use Rattle.paused_run.specs.declared.Tolerance.{Tolerance}
 use Rattle.paused_run.specs.declared.Tolerance.TheVariants.{Same, New}
-use Rattle.paused_run.specs.Answer.{StartAnswer}
 use Rattle.paused_run.specs.declared.StepAnswer.{StepAnswer}
 use Rattle.paused_run.specs.declared.StepAnswer.TheVariants.{Refusal, Stepped}
 use Rattle.checks.specs.Reasons.{Refused}
 use Rattle.std.specs.Prelude.{Ok, Err}
 use Rattle.checks.specs.declared.Reason.TheVariants.{VectorLength, WorkLength, SubstepLimit, RunEnded}
+use Rattle.std.specs.Prelude.{Result}
+use Rattle.checks.specs.declared.Refusal.{Refusal}
+
+-- a refusal, or the run that was started
+abbrev pub StartAnswer : Type 0
+StartAnswer = Result PausedRun Refusal
 
 -- matrix, tau and vectors: what comes at the start, and again at each step
 pub record Job : Type 0 where

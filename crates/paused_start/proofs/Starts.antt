@@ -37,7 +37,7 @@ use Rattle.krylov_job.specs.declared.Eta.TheVariants.{Own}
 use Rattle.paused_run.specs.Paused.{Job, PausedCall, leaves, rows, field_checks, start_checks, first_field, need_of, begun, start_unless, start}
 use Rattle.paused_run.specs.Inner.{job_over, fresh_of, first_of, begun_of}
 use Rattle.paused_run.specs.declared.PausedRun.{PausedRun}
-use Rattle.paused_run.specs.Answer.{StartAnswer}
+use Rattle.paused_run.specs.Paused.{StartAnswer}
 use Rattle.checks.specs.Reasons.{Sound, Refused}
 use Rattle.std.specs.Prelude.{Ok}
 use Rattle.checks.specs.declared.Reason.TheVariants.{WorkLength}

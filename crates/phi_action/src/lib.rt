@@ -13,8 +13,8 @@ ghost use Rattle.taylor_schedule.specs.Inner.{after_checks};
 ghost use Rattle.taylor_job.specs.Calls.{phi_action};
 
 use checks::Refusal;
-use generator_action::{MatrixAnswer, Shape};
-use taylor_job::TaylorAnswer;
+use generator_action::Shape;
+use taylor_job::TaylorReport;
 
 // The action over a generator that passed its checks.
 pub fn acted(
@@ -57,6 +57,6 @@ pub fn phi_action(
     ensures { ends result out.new work.new ≡ phi_action (forward (csr n starts.now cols.now vals.now) (given with_mass mass.now)) tau cap k v.now out.old work.old }
 {
     let matrix = generator_checks::check_generator(n, starts, cols, vals, with_mass, mass)?;
-    let g = generator_action::generator_shape(n, with_mass, vals.len(), norm);
+    let g = generator_action::generator_shape(n, with_mass, vals.len(), matrix.norm);
     acted(starts, cols, vals, mass, g, tau, cap, k, v, out, work)
 }

@@ -17,9 +17,9 @@ ghost use Rattle.taylor_job.specs.Inner.{layout, operator_by, job_end, Allowed};
 ghost use Rattle.taylor_job.specs.Calls.{batched, phi_action_batched};
 
 use checks::Refusal;
-use generator_action::{MatrixAnswer, Shape};
+use generator_action::Shape;
 use phi_action_helpers::SweepArgs;
-use taylor_job::TaylorAnswer;
+use taylor_job::TaylorReport;
 use taylor_schedule::Job;
 
 // The sweeps of phi_0 up to phi_(count - 1), one after the other; the products of all.
@@ -123,6 +123,6 @@ pub fn phi_action_batched(
     ensures { ends result out.new work.new ≡ phi_action_batched (forward (csr n starts.now cols.now vals.now) (given with_mass mass.now)) tau cap p v.now out.old work.old }
 {
     let matrix = generator_checks::check_generator(n, starts, cols, vals, with_mass, mass)?;
-    let g = generator_action::generator_shape(n, with_mass, vals.len(), norm);
+    let g = generator_action::generator_shape(n, with_mass, vals.len(), matrix.norm);
     acted_batched(starts, cols, vals, mass, g, tau, cap, p, v, out, work)
 }

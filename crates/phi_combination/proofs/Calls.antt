@@ -24,7 +24,7 @@ use Rattle.taylor_schedule.proofs.Stored.{quotients_rows}
 use Rattle.taylor_schedule.proofs.Admitted.{coupled_in, coupled_one, sweeps_known, Action, action_known, length_start, length_init}
 use Rattle.taylor_job.specs.Inner.{Allowed, operator_by, job_end}
 use Rattle.taylor_job.specs.Calls.{swept_fields, combination_checks, combination_run, phi_combination, action_checks, phi_action, batched, phi_action_batched}
-use Rattle.taylor_job.specs.Answer.{TaylorAnswer}
+use Rattle.taylor_job.specs.Calls.{TaylorAnswer}
 use Rattle.taylor_job.proofs.Jobs.{started_is, ends_planned}
 use Rattle.checks.specs.Reasons.{Sound, Refused}
 use Rattle.checks.specs.declared.Reason.{Reason}

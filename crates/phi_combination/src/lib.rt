@@ -13,8 +13,8 @@ ghost use Rattle.taylor_schedule.specs.Inner.{after_checks};
 ghost use Rattle.taylor_job.specs.Calls.{phi_combination};
 
 use checks::Refusal;
-use generator_action::{MatrixAnswer, Shape};
-use taylor_job::TaylorAnswer;
+use generator_action::Shape;
+use taylor_job::TaylorReport;
 
 // The combination over a generator that passed its checks.
 pub fn combined(
@@ -62,6 +62,6 @@ pub fn phi_combination(
     ensures { ends result out.new work.new ≡ phi_combination (forward (csr n starts.now cols.now vals.now) (given with_mass mass.now)) tau cap count w.now out.old work.old }
 {
     let matrix = generator_checks::check_generator(n, starts, cols, vals, with_mass, mass)?;
-    let g = generator_action::generator_shape(n, with_mass, vals.len(), norm);
+    let g = generator_action::generator_shape(n, with_mass, vals.len(), matrix.norm);
     combined(starts, cols, vals, mass, g, tau, cap, count, w, out, work)
 }

@@ -13,8 +13,9 @@ ghost use Rattle.taylor_schedule.specs.Inner.{after_checks};
 ghost use Rattle.krylov_job.specs.KrylovCall.{phi_combination_krylov};
 
 use checks::Refusal;
-use generator_action::{MatrixAnswer, Shape};
-use krylov_job::{Eta, KrylovAnswer, KrylovPhiOptions};
+use generator_action::Shape;
+use krylov_advance::KrylovPhiReport;
+use krylov_job::{Eta, KrylovPhiOptions};
 
 // The combination over a generator that passed its checks.
 pub fn combined(
@@ -59,6 +60,6 @@ pub fn phi_combination_krylov(
     ensures { ends result out.new work.new ≡ phi_combination_krylov (forward (csr n starts.now cols.now vals.now) (given with_mass mass.now)) tau count w.now o out.old work.old }
 {
     let matrix = generator_checks::check_generator(n, starts, cols, vals, with_mass, mass)?;
-    let g = generator_action::generator_shape(n, with_mass, vals.len(), norm);
+    let g = generator_action::generator_shape(n, with_mass, vals.len(), matrix.norm);
     combined(starts, cols, vals, mass, g, tau, count, w, o, out, work)
 }

@@ -15,7 +15,6 @@ use Rattle.expmv.specs.declared.Selected.TheVariants.{NoRow, Row}
 use Rattle.phi_action_helpers.specs.declared.SweepPlan.{SweepPlan}
 use Rattle.phi_shift.specs.declared.PlanAnswer.TheVariants.{NoPlan, Plan}
 use Rattle.phi_shift.specs.Plan.{argument, shifted_bound, plan, cheaper_shifted, usable, with_shift, plan_of, sweep_plan}
-use Rattle.checks.specs.declared.Reason.TheVariants.{NoPlan}
 
 -- ---- `cheaper_shifted`
 pub no_shifted_row : (s m : ℕ) (mu : Float) {row : Selected} → row ≡ NoRow → plan s m +0 ≡ cheaper_shifted s m mu row

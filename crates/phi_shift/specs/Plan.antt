@@ -12,7 +12,6 @@ use Rattle.expmv.specs.declared.Selected.TheVariants.{NoRow, Row}
 use Rattle.phi_action_helpers.specs.declared.SweepPlan.{SweepPlan}
 use Rattle.phi_shift.specs.declared.PlanAnswer.{PlanAnswer}
 use Rattle.phi_shift.specs.declared.PlanAnswer.TheVariants.{NoPlan, Plan}
-use Rattle.checks.specs.declared.Reason.TheVariants.{NoPlan}
 
 -- the bound of the augmented operator, tightened by 2: (tau * norm + 2) * 2
 unfoldable pub argument : Float → Float → Float

@@ -15,7 +15,7 @@ use Rattle.checks.specs.First.{before}
 use Rattle.checks.proofs.Numbers.{not_by}
 use Rattle.paused_run.specs.Paused.{PausedCall, leaves}
 use Rattle.paused_run.specs.declared.PausedRun.{PausedRun}
-use Rattle.paused_run.specs.Answer.{StartAnswer}
+use Rattle.paused_run.specs.Paused.{StartAnswer}
 use Rattle.rotation.specs.Unit.{run_at, waiting, UnitCall, unit_call, lowest_free, room, seated, admitted_by, admitted, join}
 use Rattle.rotation.specs.declared.Rotation.{Rotation}
 use Rattle.demand_3.specs.Krylov.{Zeros}

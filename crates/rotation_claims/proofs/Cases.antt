@@ -12,7 +12,7 @@ use Rattle.lists.proofs.Find.{find_holds}
 use Rattle.krylov_job.specs.declared.KrylovPhiOptions.{KrylovPhiOptions}
 use Rattle.paused_run.specs.Paused.{Job, Input, PausedCall, leaves, start, step}
 use Rattle.paused_run.specs.declared.PausedRun.{PausedRun}
-use Rattle.paused_run.specs.Answer.{StartAnswer}
+use Rattle.paused_run.specs.Paused.{StartAnswer}
 use Rattle.paused_run.specs.declared.StepAnswer.{StepAnswer}
 use Rattle.paused_run.specs.declared.StepAnswer.TheVariants as step_answer
 use Rattle.rotation.specs.Unit.{vacant, unread, run_at, waiting, UnitCall, unit_call, lowest_free, room, seated, admitted_by, admitted, join, run_left, back, passed_on, turn_of, turn}

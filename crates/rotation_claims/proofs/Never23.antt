@@ -9,7 +9,7 @@ use Rattle.checks.specs.First.{before}
 use Rattle.checks.proofs.Numbers.{not_by}
 use Rattle.paused_run.specs.Paused.{Input, PausedCall, step_checks}
 use Rattle.paused_run.specs.declared.PausedRun.{PausedRun}
-use Rattle.paused_run.specs.Answer.{StartAnswer}
+use Rattle.paused_run.specs.Paused.{StartAnswer}
 use Rattle.paused_run.specs.declared.StepAnswer.{StepAnswer}
 use Rattle.paused_run.specs.declared.StepAnswer.TheVariants as step_answer
 use Rattle.rotation.specs.Unit.{run_at, UnitCall, turn}

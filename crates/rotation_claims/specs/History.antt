@@ -3,7 +3,7 @@
 use Rattle.std.specs.Prelude.{Bool, false, not, ◌&&◌, ◌||◌, List, [], ◌∷◌, ℕ, suc, eqb, Float, if◌then◌else◌}
 use Rattle.krylov_job.specs.declared.KrylovPhiOptions.{KrylovPhiOptions}
 use Rattle.paused_run.specs.Paused.{Job, Input, PausedCall}
-use Rattle.paused_run.specs.Answer.{StartAnswer}
+use Rattle.paused_run.specs.Paused.{StartAnswer}
 use Rattle.paused_run.specs.declared.StepAnswer.{StepAnswer}
 use Rattle.paused_claims.specs.History.{run_in}
 use Rattle.rotation.specs.Unit.{empty, join, turn}

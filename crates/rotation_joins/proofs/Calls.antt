@@ -19,7 +19,7 @@ use Rattle.checks.specs.First.{Checked}
 use Rattle.krylov_job.specs.declared.KrylovPhiOptions.{KrylovPhiOptions}
 use Rattle.paused_run.specs.Paused.{Job, Input, PausedCall, leaves, begun, start_unless, start, step}
 use Rattle.paused_run.specs.declared.PausedRun.{PausedRun}
-use Rattle.paused_run.specs.Answer.{StartAnswer}
+use Rattle.paused_run.specs.Paused.{StartAnswer}
 use Rattle.paused_run.specs.declared.StepAnswer.{StepAnswer}
 use Rattle.paused_run.specs.declared.StepAnswer.TheVariants as step_answer
 use Rattle.rotation.specs.Unit.{vacant, run_at, waiting, first_of, next_place, UnitCall, unit_call, lowest_free, room, seated, admitted_by, admitted, join, run_left, passed_on, turn_of, turn}

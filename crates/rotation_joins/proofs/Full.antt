@@ -27,7 +27,7 @@ use Rattle.krylov_job.specs.declared.RunJob.{RunJob}
 use Rattle.krylov_job.specs.declared.Eta.TheVariants.{Own}
 use Rattle.paused_run.specs.Paused.{Job, PausedCall, start}
 use Rattle.paused_run.specs.Inner.{job_over, begun_of}
-use Rattle.paused_run.specs.Answer.{StartAnswer}
+use Rattle.paused_run.specs.Paused.{StartAnswer}
 use Rattle.paused_start.proofs.Starts.{refused_generator, refused_job, refused_field, started_is}
 use Rattle.rotation_joins.specs.Inner.{by_power, full_answer}
 use Rattle.checks.specs.Reasons.{Sound, Refused}

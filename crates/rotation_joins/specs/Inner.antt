@@ -4,7 +4,7 @@ use Rattle.std.specs.Float.{nan}
 use Rattle.pow2.specs.declared.Prescale.{Prescale}
 use Rattle.pow2.specs.declared.Prescale.TheVariants.{By, None}
 use Rattle.checks.specs.First.{Checked}
-use Rattle.paused_run.specs.Answer.{StartAnswer}
+use Rattle.paused_run.specs.Paused.{StartAnswer}
 use Rattle.rotation.specs.declared.Rotation.{Rotation}
 use Rattle.rotation.specs.Inner.{seat_of}
 use Rattle.rotation_joins.specs.declared.Joined.{Joined}

@@ -42,14 +42,13 @@ use Rattle.combination.specs.Call.{Call, unless_refused}
 use Rattle.combination.specs.Checks.{plan_checks, vector_checks}
 use Rattle.taylor_schedule.proofs.Admitted.{Vectors, vectors_known, further_within, first_within, length_start}
 use Rattle.taylor_job.specs.declared.TaylorReport.{TaylorReport}
-use Rattle.taylor_job.specs.Answer.{TaylorAnswer}
+use Rattle.taylor_job.specs.Calls.{TaylorAnswer}
 use Rattle.taylor_job.specs.Calls.{Fields, report, after_plan, swept_fields, combination_checks, combination_run, phi_combination}
 use Rattle.scaling.specs.Doubled.{doubled, CleanDoubled, operator_of, start_of, CleanJob, DoubledOutput, DoubledReport}
 use Rattle.scaling.proofs.Run.{run_scaled}
 use Rattle.scaling.proofs.Weights.{operators_scaled, start_scaled}
 use Rattle.checks.specs.Reasons.{Sound, Refused}
 use Rattle.std.specs.Prelude.{Ok, Err}
-use Rattle.checks.specs.declared.Reason.TheVariants.{NoPlan}
 
 -- ---- the vectors
 length_doubled : (j : ℤ) (x : List Float) → length (doubled j x) ≡ length x

@@ -31,7 +31,6 @@ use Rattle.phi_shift.specs.declared.PlanAnswer.TheVariants.{NoPlan, Plan}
 use Rattle.pow2.specs.Pow2.{exact_pow2}
 use Rattle.scaling.specs.Operations.{InRow, InShare, InParts, InTerm, InSweep, InSweeps, terms_from, sweeps_from}
 use Rattle.scaling.specs.Doubled.{CleanDoubled, scaling_of, operator_of, start_of, gain_of, InJob, CleanJob}
-use Rattle.checks.specs.declared.Reason.TheVariants.{NoPlan}
 
 -- a state along the run, and whether an operation before it was bad
 pub record Terms : Type 0 where

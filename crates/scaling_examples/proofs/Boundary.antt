@@ -22,7 +22,7 @@ use Rattle.pow2.specs.Pow2.{exact_pow2, eta_of}
 use Rattle.phi_shift.specs.Plan.{plan}
 use Rattle.combination.specs.Call.{Call, ends}
 use Rattle.taylor_job.specs.declared.TaylorReport.{TaylorReport}
-use Rattle.taylor_job.specs.Answer.{TaylorAnswer}
+use Rattle.taylor_job.specs.Calls.{TaylorAnswer}
 use Rattle.taylor_job.specs.Calls.{phi_combination, open_calls}
 use Rattle.scaling.specs.Doubled.{doubled, scaling_of, InJob, CleanJob}
 use Rattle.scaling.proofs.Tested.{job_bad, in_job, open_tested}

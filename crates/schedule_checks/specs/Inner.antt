@@ -2,8 +2,8 @@
 use Rattle.std.specs.Prelude.{Bool, true, false, List, ◌≡◌, ℕ, ◌+◌, ◌*◌, ◌≤◌, length, Float}
 use Rattle.lists.specs.Walk.{Turn, on, out}
 use Rattle.combination.specs.Call.{Call, ends}
-use Rattle.phi_solver.specs.declared.PhiAnswer.{PhiAnswer}
-use Rattle.phi_solver.specs.declared.PhiAnswer.TheVariants as phi
+use Rattle.phi_solver.specs.Combine.{PhiAnswer}
+use Rattle.phi_solver.specs.declared.PhiReport.TheVariants as phi
 use Rattle.schedule_checks.specs.Schedule.{Schedule, stages_of, Progress}
 use Rattle.schedule_checks.specs.declared.StagedAnswer.{StagedAnswer}
 use Rattle.schedule_checks.specs.declared.StagedAnswer.TheVariants.{Refusal}
@@ -41,8 +41,8 @@ turn_at (Ended k x i) field output memory = out (ends (Refusal k x i) output mem
 -- the vectors and the counts of a call that gave a result
 abbrev pub Few : ℕ → PhiAnswer → Type 0
 Few count (Err r) = Unit {0}
-Few count (phi.Taylor t) = (1 ≤ count) × (count ≤ 4) × (t.applications ≤ 128849018850)
-Few count (phi.Krylov t) = (1 ≤ count) × (count ≤ 4) × (t.matvecs ≤ 129000000) × (t.substeps ≤ 1000000) × (t.rejected ≤ 10000000)
+Few count (Ok (phi.Taylor t)) = (1 ≤ count) × (count ≤ 4) × (t.applications ≤ 128849018850)
+Few count (Ok (phi.Krylov t)) = (1 ≤ count) × (count ≤ 4) × (t.matvecs ≤ 129000000) × (t.substeps ≤ 1000000) × (t.rejected ≤ 10000000)
 
 -- what i stages use of the further vectors' slice, and their counts
 abbrev pub Counted : ℕ → SoFar → Type 0

@@ -8,8 +8,8 @@ use Rattle.combination.specs.Checks.{count_checks, time_checks, plan_checks, len
 use Rattle.combination.specs.Call.{Call, ends}
 use Rattle.phi_solver.specs.declared.PhiSolver.{PhiSolver}
 use Rattle.phi_solver.specs.declared.PhiSolver.TheVariants.{Taylor, Krylov}
-use Rattle.phi_solver.specs.declared.PhiAnswer.{PhiAnswer}
-use Rattle.phi_solver.specs.declared.PhiAnswer.TheVariants as phi
+use Rattle.phi_solver.specs.Combine.{PhiAnswer}
+use Rattle.phi_solver.specs.declared.PhiReport.TheVariants as phi
 use Rattle.schedule_checks.specs.declared.Stage.{Stage}
 use Rattle.schedule_checks.specs.declared.StagedReport.{StagedReport}
 use Rattle.schedule_checks.specs.declared.StagedAnswer.{StagedAnswer}
@@ -88,11 +88,11 @@ stage_checks n s last output field used further =
 -- the counts so far and those of a single call; Taylor has no substeps and rejects nothing
 unfoldable pub counted : StagedReport → PhiAnswer → StagedReport
 counted r (Err e) = r
-counted r (phi.Taylor t) = record { applications = r.applications + t.applications; substeps = r.substeps; rejected = r.rejected }
-counted r (phi.Krylov t) = record { applications = r.applications + t.matvecs; substeps = r.substeps + t.substeps; rejected = r.rejected + t.rejected }
+counted r (Ok (phi.Taylor t)) = record { applications = r.applications + t.applications; substeps = r.substeps; rejected = r.rejected }
+counted r (Ok (phi.Krylov t)) = record { applications = r.applications + t.matvecs; substeps = r.substeps + t.substeps; rejected = r.rejected + t.rejected }
 
 -- a refused call ends the soak with what it leaves, and the answer names the stage; any other leaves its field to the next stage
 unfoldable pub settle : ℕ → ℕ → StagedReport → Call PhiAnswer → PhiAnswer → Turn Progress (Call StagedAnswer)
 settle i used r c (Err e) = out (ends (Err e (i + 1)) c.output c.memory)
-settle i used r c (phi.Taylor t) = on (record { field = c.output; output = c.output; memory = c.memory; used = used; report = counted r (phi.Taylor t) })
-settle i used r c (phi.Krylov t) = on (record { field = c.output; output = c.output; memory = c.memory; used = used; report = counted r (phi.Krylov t) })
+settle i used r c (Ok (phi.Taylor t)) = on (record { field = c.output; output = c.output; memory = c.memory; used = used; report = counted r (Ok (phi.Taylor t)) })
+settle i used r c (Ok (phi.Krylov t)) = on (record { field = c.output; output = c.output; memory = c.memory; used = used; report = counted r (Ok (phi.Krylov t)) })

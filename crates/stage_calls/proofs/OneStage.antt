@@ -27,14 +27,14 @@ use Rattle.taylor_schedule.proofs.Stored.{quotients_rows}
 use Rattle.combination.proofs.Further.{further_behind, start_of}
 use Rattle.taylor_job.specs.Calls.{swept_fields, phi_combination}
 use Rattle.taylor_job.specs.Inner.{Allowed, operator_by, job_end}
-use Rattle.taylor_job.specs.Answer.{TaylorAnswer}
+use Rattle.taylor_job.specs.Calls.{TaylorAnswer}
 use Rattle.phi_combination.proofs.Calls as taylor_calls
 use Rattle.krylov_job.specs.KrylovCall.{dimension, option_checks, krylov_checks_by, krylov_checks, after_run, phi_combination_krylov}
 use Rattle.phi_solver.specs.Combine.{combine}
-use Rattle.phi_solver.specs.declared.PhiAnswer.{PhiAnswer}
-use Rattle.phi_solver.specs.declared.PhiAnswer.TheVariants as phi
+use Rattle.phi_solver.specs.Combine.{PhiAnswer}
+use Rattle.phi_solver.specs.declared.PhiReport.TheVariants as phi
 use Rattle.krylov_job.specs.Inner.{scaling_by, scaling_of, run_job_by, Admitted, Allowed as Runnable, run_of}
-use Rattle.krylov_job.specs.Answer.{KrylovAnswer}
+use Rattle.krylov_job.specs.KrylovCall.{KrylovAnswer}
 use Rattle.krylov_job.specs.declared.KrylovPhiOptions.{KrylovPhiOptions}
 use Rattle.krylov_job.specs.declared.RunJob.{RunJob}
 use Rattle.krylov_job.specs.declared.Eta.TheVariants.{Own}

@@ -5,8 +5,8 @@ use Rattle.checks.specs.First.{first}
 use Rattle.generator_action.specs.Generator.{Generator}
 use Rattle.combination.specs.Call.{Call, unless_refused}
 use Rattle.phi_solver.specs.Combine.{combine}
-use Rattle.phi_solver.specs.declared.PhiAnswer.{PhiAnswer}
-use Rattle.phi_solver.specs.declared.PhiAnswer.TheVariants as phi
+use Rattle.phi_solver.specs.Combine.{PhiAnswer}
+use Rattle.phi_solver.specs.declared.PhiReport.TheVariants as phi
 use Rattle.schedule_checks.specs.Schedule.{further_need, stage_checks}
 use Rattle.schedule_checks.specs.declared.Stage.{Stage}
 use Rattle.checks.specs.Reasons.{Refused}

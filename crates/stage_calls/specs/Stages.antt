@@ -9,7 +9,7 @@ use Rattle.combination.specs.Call.{Call, ends, unless_refused}
 use Rattle.taylor_job.specs.Calls.{open_calls}
 use Rattle.krylov_job.specs.KrylovCall.{open_krylov_call}
 use Rattle.phi_solver.specs.Combine.{of_taylor, of_krylov, answering, combine}
-use Rattle.phi_solver.specs.declared.PhiAnswer.{PhiAnswer}
+use Rattle.phi_solver.specs.Combine.{PhiAnswer}
 use Rattle.schedule_checks.specs.declared.Stage.{Stage}
 use Rattle.schedule_checks.specs.declared.StagedAnswer.{StagedAnswer}
 use Rattle.schedule_checks.specs.declared.StagedAnswer.TheVariants.{Refusal, Staged}

@@ -12,10 +12,10 @@ use Rattle.combination.specs.Call.{Call, unless_refused}
 use Rattle.combination.specs.Checks.{count_checks, plan_checks, time_checks, vector_checks, vector_checks_by}
 use Rattle.taylor_schedule.proofs.Admitted.{Vectors, vectors_known}
 use Rattle.taylor_job.specs.Calls.{combination_checks, phi_combination}
-use Rattle.taylor_job.specs.Answer.{TaylorAnswer}
+use Rattle.taylor_job.specs.Calls.{TaylorAnswer}
 use Rattle.krylov_job.specs.KrylovCall.{krylov_checks, krylov_checks_by, phi_combination_krylov}
 use Rattle.phi_solver.specs.Combine.{of_taylor, of_krylov, answering, combine}
-use Rattle.krylov_job.specs.Answer.{KrylovAnswer}
+use Rattle.krylov_job.specs.KrylovCall.{KrylovAnswer}
 use Rattle.phi_solver.specs.declared.PhiSolver.{PhiSolver}
 use Rattle.phi_solver.specs.declared.PhiSolver.TheVariants as solver
 use Rattle.schedule_checks.specs.Schedule.{time_checks_of}

@@ -13,8 +13,8 @@ use Rattle.checks.specs.First.{Checked}
 use Rattle.checks.proofs.First.{sound_append, sound_on}
 use Rattle.generator_action.specs.Generator.{Generator}
 use Rattle.combination.specs.Call.{Call, ends, unless_refused}
-use Rattle.phi_solver.specs.declared.PhiAnswer.{PhiAnswer}
-use Rattle.phi_solver.specs.declared.PhiAnswer.TheVariants as phi
+use Rattle.phi_solver.specs.Combine.{PhiAnswer}
+use Rattle.phi_solver.specs.declared.PhiReport.TheVariants as phi
 use Rattle.schedule_checks.specs.Schedule.{Schedule, stage, stages_of, schedule_checks, stage_checks, Progress}
 use Rattle.schedule_checks.specs.declared.StagedReport.{StagedReport}
 use Rattle.schedule_checks.specs.declared.StagedAnswer.{StagedAnswer}

@@ -11,8 +11,8 @@ use Rattle.generator_action.specs.Mass.{quotients}
 use Rattle.generator_action.specs.Generator.{forward}
 use Rattle.checks.specs.First.{first}
 use Rattle.combination.specs.Call.{Call, ends}
-use Rattle.phi_solver.specs.declared.PhiAnswer.{PhiAnswer}
-use Rattle.phi_solver.specs.declared.PhiAnswer.TheVariants as phi
+use Rattle.phi_solver.specs.Combine.{PhiAnswer}
+use Rattle.phi_solver.specs.declared.PhiReport.TheVariants as phi
 use Rattle.schedule_checks.specs.Inner.{schedule_of}
 use Rattle.schedule_checks.specs.Schedule.{Schedule, schedule_checks}
 use Rattle.schedule_checks.specs.declared.StagedAnswer.TheVariants.{Refusal, Staged}
@@ -89,10 +89,10 @@ abbrev after_both : List Float
 after_both = replicate 59 +0 ++ (nat 9 ∷ [])
 
 abbrev warmed : PhiAnswer
-warmed = phi.Krylov (record { matvecs = 12; substeps = 3; rejected = 1; est_error = bits 0x3f78892100e98bcf; shortest = bits 0x3f9fbe76c8b43958; last = bits 0x3fdb74bc6a7ef9da })
+warmed = Ok (phi.Krylov (record { matvecs = 12; substeps = 3; rejected = 1; est_error = bits 0x3f78892100e98bcf; shortest = bits 0x3f9fbe76c8b43958; last = bits 0x3fdb74bc6a7ef9da }))
 
 abbrev cooled : PhiAnswer
-cooled = phi.Taylor (record { s = 3; m = 20; mu = +0; applications = 60 })
+cooled = Ok (phi.Taylor (record { s = 3; m = 20; mu = +0; applications = 60 }))
 
 warm_up : call_at (forward four none) both start (heating ++ cooling) (replicate 4 +0) (replicate 60 (nat 9)) 0 start (replicate 4 +0) (replicate 60 (nat 9)) ≡ ends warmed warm after_both
 unfolding vectors_before open_stages

@@ -18,20 +18,19 @@ use Rattle.phi_shift.specs.declared.PlanAnswer.TheVariants.{NoPlan, Plan}
 use Rattle.combination.specs.Call.{Call, unless_refused, cleared}
 use Rattle.combination.proofs.Cleared.{cleared_less, cleared_more}
 use Rattle.taylor_job.specs.Calls.{Fields, after_plan, combination_run, phi_combination}
-use Rattle.taylor_job.specs.Answer.{TaylorAnswer}
+use Rattle.taylor_job.specs.Calls.{TaylorAnswer}
 use Rattle.krylov_advance.specs.Run.{End, finished, refused}
 use Rattle.krylov_job.specs.KrylovCall.{after_run, combination_run_krylov, phi_combination_krylov}
 use Rattle.phi_solver.specs.Combine.{of_taylor, of_krylov, answering, combine}
-use Rattle.krylov_job.specs.Answer.{KrylovAnswer}
+use Rattle.krylov_job.specs.KrylovCall.{KrylovAnswer}
 use Rattle.phi_solver.specs.declared.PhiSolver.{PhiSolver}
 use Rattle.phi_solver.specs.declared.PhiSolver.TheVariants as solver
-use Rattle.phi_solver.specs.declared.PhiAnswer.{PhiAnswer}
+use Rattle.phi_solver.specs.Combine.{PhiAnswer}
 use Rattle.schedule_checks.specs.Schedule.{Schedule}
 use Rattle.stages_claims.specs.Passing.{need_of, larger, largest_need}
 use Rattle.stages_claims.specs.Ran.{solver_at, count_at, Gave, Ran}
 use Rattle.checks.specs.Reasons.{Refused}
 use Rattle.std.specs.Prelude.{Ok, Err}
-use Rattle.checks.specs.declared.Reason.TheVariants.{NoPlan}
 
 -- ---- cleared twice
 cleared_both : (a b : ℕ) (w : List Float) → cleared b (cleared a w) ≡ cleared (larger a b) w

@@ -18,14 +18,14 @@ use Rattle.phi_shift.specs.declared.PlanAnswer.TheVariants.{NoPlan, Plan}
 use Rattle.combination.specs.Call.{Call, unless_refused}
 use Rattle.combination.specs.Checks.{out_of_range, count_checks, time_checks, degree_checks, plan_checks, length_checks}
 use Rattle.taylor_job.specs.Calls.{Fields, after_plan, combination_checks, combination_run, phi_combination}
-use Rattle.taylor_job.specs.Answer.{TaylorAnswer}
+use Rattle.taylor_job.specs.Calls.{TaylorAnswer}
 use Rattle.krylov_advance.specs.Run.{End, State, finished, refused}
 use Rattle.krylov_job.specs.KrylovCall.{krylov_checks, after_run, combination_run_krylov, phi_combination_krylov}
 use Rattle.phi_solver.specs.Combine.{of_taylor, of_krylov, answering, combine}
-use Rattle.krylov_job.specs.Answer.{KrylovAnswer}
+use Rattle.krylov_job.specs.KrylovCall.{KrylovAnswer}
 use Rattle.phi_solver.specs.declared.PhiSolver.{PhiSolver}
 use Rattle.phi_solver.specs.declared.PhiSolver.TheVariants as solver
-use Rattle.phi_solver.specs.declared.PhiAnswer.TheVariants as phi
+use Rattle.phi_solver.specs.declared.PhiReport.TheVariants as phi
 use Rattle.demand_3.specs.Demand3.{start_of}
 use Rattle.demand_3.proofs.Krylov.{expv_late}
 use Rattle.demand_3.proofs.Never23.{InRange, never_23, combination_no_number, krylov_no_number}
@@ -38,7 +38,6 @@ use Rattle.stages_claims.proofs.Walks.{ended_at}
 use Rattle.stages_claims.proofs.Reached.{stands, checks_at, Outcome, early, late, result, outcome}
 use Rattle.checks.specs.Reasons.{Refused}
 use Rattle.std.specs.Prelude.{Ok, Err}
-use Rattle.checks.specs.declared.Reason.TheVariants.{NoPlan}
 use Rattle.checks.specs.declared.Reason.{Reason}
 
 -- ---- put back anywhere behind a generator's checks and a stage's list it changes no first refusal

@@ -19,8 +19,8 @@ use Rattle.checks.specs.First.{Checked}
 use Rattle.generator_action.specs.Generator.{Generator}
 use Rattle.combination.specs.Call.{Call, ends}
 use Rattle.phi_solver.specs.Combine.{combine}
-use Rattle.phi_solver.specs.declared.PhiAnswer.{PhiAnswer}
-use Rattle.phi_solver.specs.declared.PhiAnswer.TheVariants as phi
+use Rattle.phi_solver.specs.Combine.{PhiAnswer}
+use Rattle.phi_solver.specs.declared.PhiReport.TheVariants as phi
 use Rattle.schedule_checks.specs.Schedule.{Schedule, solver_of, stage, stages_of, further_need, stage_checks, Progress, counted, settle}
 use Rattle.schedule_checks.specs.declared.StagedReport.{StagedReport}
 use Rattle.schedule_checks.specs.declared.StagedAnswer.{StagedAnswer}
@@ -43,15 +43,15 @@ total_snoc f (b ∷ bs) a = omega (arith, total_snoc f bs a)
 counted_sums : (xs : List PhiAnswer) (a : PhiAnswer) → Gave a → counted (sums xs) a ≡ sums (xs ++ (a ∷ []))
 unfolding counted
 counted_sums xs (Err r) h = absurd h
-counted_sums xs (phi.Taylor t) h =
-    let a = sym (total_snoc applications_of xs (phi.Taylor t)) in
-    let b : total substeps_of xs ≡ total substeps_of (xs ++ (phi.Taylor t ∷ [])) = omega (arith, total_snoc substeps_of xs (phi.Taylor t)) in
-    let c : total rejected_of xs ≡ total rejected_of (xs ++ (phi.Taylor t ∷ [])) = omega (arith, total_snoc rejected_of xs (phi.Taylor t)) in
+counted_sums xs (Ok (phi.Taylor t)) h =
+    let a = sym (total_snoc applications_of xs (Ok (phi.Taylor t))) in
+    let b : total substeps_of xs ≡ total substeps_of (xs ++ (phi.Taylor t ∷ [])) = omega (arith, total_snoc substeps_of xs (Ok (phi.Taylor t))) in
+    let c : total rejected_of xs ≡ total rejected_of (xs ++ (phi.Taylor t ∷ [])) = omega (arith, total_snoc rejected_of xs (Ok (phi.Taylor t))) in
     λ i. record { applications = a i; substeps = b i; rejected = c i }
-counted_sums xs (phi.Krylov t) h =
-    let a = sym (total_snoc applications_of xs (phi.Krylov t)) in
-    let b = sym (total_snoc substeps_of xs (phi.Krylov t)) in
-    let c = sym (total_snoc rejected_of xs (phi.Krylov t)) in
+counted_sums xs (Ok (phi.Krylov t)) h =
+    let a = sym (total_snoc applications_of xs (Ok (phi.Krylov t))) in
+    let b = sym (total_snoc substeps_of xs (Ok (phi.Krylov t))) in
+    let c = sym (total_snoc rejected_of xs (Ok (phi.Krylov t))) in
     λ i. record { applications = a i; substeps = b i; rejected = c i }
 
 solver_same : (b : Bool) (degree : ℕ) (tol : Float) (m limit : ℕ) → solver_of b degree tol m limit ≡ (if b then solver_of true degree tol m limit else solver_of false degree tol m limit)
@@ -115,12 +115,12 @@ module _ (g : Generator) (s : Schedule) (start further output memory : List Floa
 
       by_answer : Sound ≡ first (checks_at i p) → (a : PhiAnswer) → (made_at i p).answer ≡ a → Outcome i p
       by_answer e (Err r) ea = late r.reason r.value e ea (late_step i p e ea)
-      by_answer e (phi.Taylor t) ea =
+      by_answer e (Ok (phi.Taylor t)) ea =
           result e (subst Gave (sym ea) tt)
           (ap (λ (c : Checked). unless_stage_refused c i p settled) (sym e)
           ∙ ap (settle i (p.used + further_need n (stage s i)) p.report (made_at i p)) ea
           ∙ ap (λ (a : PhiAnswer). on (record { field = (made_at i p).output; output = (made_at i p).output; memory = (made_at i p).memory; used = p.used + further_need n (stage s i); report = counted p.report a })) (sym ea))
-      by_answer e (phi.Krylov t) ea =
+      by_answer e (Ok (phi.Krylov t)) ea =
           result e (subst Gave (sym ea) tt)
           (ap (λ (c : Checked). unless_stage_refused c i p settled) (sym e)
           ∙ ap (settle i (p.used + further_need n (stage s i)) p.report (made_at i p)) ea

@@ -24,8 +24,8 @@ use Rattle.krylov_job.specs.KrylovCall.{krylov_checks, krylov_checks_by, phi_com
 use Rattle.phi_solver.specs.Combine.{of_taylor, of_krylov, answering, combine}
 use Rattle.phi_solver.specs.declared.PhiSolver.{PhiSolver}
 use Rattle.phi_solver.specs.declared.PhiSolver.TheVariants as solver
-use Rattle.phi_solver.specs.declared.PhiAnswer.{PhiAnswer}
-use Rattle.phi_solver.specs.declared.PhiAnswer.TheVariants as phi
+use Rattle.phi_solver.specs.Combine.{PhiAnswer}
+use Rattle.phi_solver.specs.declared.PhiReport.TheVariants as phi
 use Rattle.schedule_checks.specs.declared.Stage.{Stage}
 use Rattle.schedule_checks.specs.declared.StagedAnswer.{StagedAnswer}
 use Rattle.schedule_checks.specs.declared.StagedAnswer.TheVariants.{Staged}
@@ -103,8 +103,8 @@ module _ (n : ℕ) (s : Stage) (last : Bool) (output long : ℕ) (w : ℕ) where
 counted_one : (a : PhiAnswer) → Gave a → Staged (counted (record { applications = 0; substeps = 0; rejected = 0 }) a) ≡ one_stage 1 a
 unfolding counted one_stage
 counted_one (Err r) h = absurd h
-counted_one (phi.Taylor t) h = λ i. Staged (record { applications = zero-add t.applications i; substeps = 0; rejected = 0 })
-counted_one (phi.Krylov t) h = λ i. Staged (record { applications = zero-add t.matvecs i; substeps = zero-add t.substeps i; rejected = zero-add t.rejected i })
+counted_one (Ok (phi.Taylor t)) h = λ i. Staged (record { applications = zero-add t.applications i; substeps = 0; rejected = 0 })
+counted_one (Ok (phi.Krylov t)) h = λ i. Staged (record { applications = zero-add t.matvecs i; substeps = zero-add t.substeps i; rejected = zero-add t.rejected i })
 
 -- ---- the whole
 module _ (g : Generator) (s : Schedule) (start further output memory : List Float) where

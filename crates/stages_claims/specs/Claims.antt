@@ -2,8 +2,8 @@
 use Rattle.std.specs.Prelude.{◌≡◌, ◌⊎◌, List, ℕ, ◌+◌, ◌*◌, ◌<◌, eqb, length, Float}
 use Rattle.checks.specs.First.{Check, first}
 use Rattle.generator_action.specs.Generator.{Generator}
-use Rattle.phi_solver.specs.declared.PhiAnswer.{PhiAnswer}
-use Rattle.phi_solver.specs.declared.PhiAnswer.TheVariants as phi
+use Rattle.phi_solver.specs.Combine.{PhiAnswer}
+use Rattle.phi_solver.specs.declared.PhiReport.TheVariants as phi
 use Rattle.schedule_checks.specs.Schedule.{Schedule, stage, stages_of, schedule_checks, stage_checks}
 use Rattle.schedule_checks.specs.declared.StagedReport.{StagedReport}
 use Rattle.stages_claims.specs.Ran.{vectors_before, sums, call_at, Ran}

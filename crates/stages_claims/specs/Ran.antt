@@ -7,7 +7,7 @@ use Rattle.combination.specs.Call.{Call}
 use Rattle.phi_solver.specs.Combine.{combine}
 use Rattle.phi_solver.specs.declared.PhiSolver.{PhiSolver}
 use Rattle.phi_solver.specs.declared.PhiSolver.TheVariants as solver
-use Rattle.phi_solver.specs.declared.PhiAnswer.{PhiAnswer}
+use Rattle.phi_solver.specs.Combine.{PhiAnswer}
 use Rattle.phi_solver.specs.declared.PhiAnswer.TheVariants.{Refusal, Taylor, Krylov}
 use Rattle.schedule_checks.specs.Schedule.{Schedule}
 use Rattle.schedule_checks.specs.declared.StagedReport.{StagedReport}

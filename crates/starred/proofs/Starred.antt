@@ -20,7 +20,7 @@ use Rattle.csr_shift.specs.declared.Shift.TheVariants.{Unshifted, By}
 use Rattle.phi_shift.specs.Plan.{argument, shifted_bound, open_plan}
 use Rattle.krylov_job.specs.KrylovCall.{phi_combination_krylov, open_krylov_call}
 use Rattle.krylov_job.specs.declared.KrylovPhiOptions.{KrylovPhiOptions}
-use Rattle.krylov_job.specs.Answer.{KrylovAnswer}
+use Rattle.krylov_job.specs.KrylovCall.{KrylovAnswer}
 use Rattle.std.specs.Prelude.{Ok, Err}
 
 -- a / b as a double

@@ -32,7 +32,7 @@ use Rattle.taylor_schedule.proofs.Stored.{Held, long₁, matrix_is, front_is, cl
 use Rattle.taylor_schedule.proofs.Stored as stored_laws
 use Rattle.taylor_job.specs.Calls.{Fields, after_plan, report, swept_fields}
 use Rattle.taylor_job.specs.Inner.{layout, Allowed, plan_by, operator_by, job_end}
-use Rattle.taylor_job.specs.Answer.{TaylorAnswer}
+use Rattle.taylor_job.specs.Calls.{TaylorAnswer}
 
 -- ---- the output
 pub soak_long : (b : Augmented) (tau : Float) (y : List Float) (p : SweepPlan) → length y ≡ b.matrix.n + b.d → length (swept_fields b tau y p).fields ≡ b.matrix.n

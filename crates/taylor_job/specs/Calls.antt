@@ -14,13 +14,19 @@ use Rattle.phi_action_helpers.specs.declared.SweepPlan.{SweepPlan}
 use Rattle.phi_shift.specs.Plan.{argument, sweep_plan}
 use Rattle.phi_shift.specs.declared.PlanAnswer.{PlanAnswer}
 use Rattle.phi_shift.specs.declared.PlanAnswer.TheVariants.{NoPlan, Plan}
-use Rattle.taylor_job.specs.Answer.{TaylorAnswer}
 use Rattle.combination.specs.Combination.{further, eta_of, combination_operator, combination_start, action_operator, init_aug_vector}
 use Rattle.combination.specs.Call.{Call, ends, unless_refused, cleared, open_call}
 use Rattle.combination.specs.Checks.{plan_checks, vector_checks, sweep_checks, job_checks, taylor_need, open_checks}
 use Rattle.checks.specs.Reasons.{Refused}
 use Rattle.std.specs.Prelude.{Ok}
-use Rattle.checks.specs.declared.Reason.TheVariants.{NoPlan}
+use Rattle.checks.specs.declared.Reason.TheVariants.{NoAdmissibleRow}
+use Rattle.std.specs.Prelude.{Result}
+use Rattle.checks.specs.declared.Refusal.{Refusal}
+use Rattle.taylor_job.specs.declared.TaylorReport.{TaylorReport}
+
+-- a refusal, or a report
+abbrev pub TaylorAnswer : Type 0
+TaylorAnswer = Result TaylorReport Refusal
 
 -- the fields made, and the products with the generator
 pub record Fields : Type 0 where
@@ -32,7 +38,7 @@ report p applied = Ok (record { s = p.s; m = p.m; mu = p.mu; applications = appl
 
 -- an accepted job leaves its fields and clears what it needed; that there is no plan is refusal 25 of the list already
 unfoldable pub after_plan : ℕ → Float → Float → List Float → List Float → PlanAnswer → (SweepPlan → Fields) → Call TaylorAnswer
-after_plan need tau norm output memory NoPlan run = ends (Refused NoPlan (argument tau norm)) output memory
+after_plan need tau norm output memory NoPlan run = ends (Refused NoAdmissibleRow (argument tau norm)) output memory
 after_plan need tau norm output memory (Plan p) run = ends (report p (run p).applied) (run p).fields (cleared need memory)
 
 -- the n values of the field after the sweeps

@@ -29,13 +29,6 @@ pub struct TaylorReport {
     pub applications: u64,
 }
 
-// A refusal's number and double, or a report.
-#[derive(Clone, Copy)]
-pub enum TaylorAnswer {
-    Refusal(u32, f64),
-    Result(TaylorReport),
-}
-
 pub fn layout(n: usize, d: usize, mass: bool) -> Layout
     requires { (n ≤ 1000000) × (d ≤ 3) }
     ensures { result ≡ layout n d mass }
@@ -123,7 +116,7 @@ pub fn finish(work: &mut [f64], need: usize, p: SweepPlan, applied: u64) -> Resu
     ensures work_after { work.new ≡ cleared need work.old }
 {
     vectors::clear_in(work, 0, need);
-    TaylorAnswer::Result(TaylorReport {
+    Ok(TaylorReport {
         s: p.s,
         m: p.m,
         mu: p.mu,

@@ -27,14 +27,14 @@ use Rattle.combination.specs.Call.{Call, unless_refused}
 use Rattle.combination.specs.Combination.{further, eta_of}
 use Rattle.combination.specs.Checks.{no_row, count_checks, index_checks, time_checks, degree_checks, plan_checks, length_checks, finite_checks, magnitude_checks, schedule_checks, memory_checks, vector_checks_by, vector_checks, sweep_checks, job_checks, taylor_need}
 use Rattle.taylor_job.specs.declared.TaylorReport.{TaylorReport}
-use Rattle.taylor_job.specs.Answer.{TaylorAnswer}
+use Rattle.taylor_job.specs.Calls.{TaylorAnswer}
 use Rattle.taylor_job.specs.Calls.{Fields, after_plan, combination_checks, combination_run, phi_combination, action_checks, phi_action, phi_action_batched}
 use Rattle.phi_batch.proofs.Batch.{soak_counted, batch_counted}
 use Rattle.taylor_plan.specs.TaylorPlan.{taylor_plan_checks, cost_alone, taylor_plan}
 use Rattle.taylor_plan.specs.Ahead.{own, combination_own, action_own, Foretold, PlanAhead}
 use Rattle.checks.specs.Reasons.{Sound, Refused}
 use Rattle.std.specs.Prelude.{Ok, Err}
-use Rattle.checks.specs.declared.Reason.TheVariants.{NoPlan, WorkLength}
+use Rattle.checks.specs.declared.Reason.TheVariants.{WorkLength}
 use Rattle.checks.specs.declared.Reason.{Reason}
 
 -- ---- lists of checks: gs, xs, ps, ys, ss, ws of a run; gs, ps, ss, ws₂ of its plan

@@ -31,7 +31,7 @@ use Rattle.taylor_schedule.specs.Inner.{matrix_of, after_checks}
 use Rattle.taylor_schedule.specs.declared.Schedule.{Schedule}
 use Rattle.taylor_schedule.proofs.Admitted.{Planned, planned_known}
 use Rattle.taylor_schedule.proofs.Stored.{Held, store_fits, matrix_is, cleared_is}
-use Rattle.taylor_job.specs.Answer.{TaylorAnswer}
+use Rattle.taylor_job.specs.Calls.{TaylorAnswer}
 use Rattle.taylor_job.specs.Calls.{after_plan, report}
 use Rattle.taylor_plan.specs.Inner.{admitted, quotients_alone}
 use Rattle.taylor_plan.specs.TaylorPlan.{taylor_plan_checks, cost_alone, taylor_plan}

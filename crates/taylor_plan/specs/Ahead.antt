@@ -6,7 +6,7 @@ use Rattle.combination.specs.Call.{Call}
 use Rattle.combination.specs.Combination.{further, eta_of}
 use Rattle.combination.specs.Checks.{count_checks, index_checks, length_checks, finite_checks, magnitude_checks}
 use Rattle.taylor_job.specs.declared.TaylorReport.{TaylorReport}
-use Rattle.taylor_job.specs.Answer.{TaylorAnswer}
+use Rattle.taylor_job.specs.Calls.{TaylorAnswer}
 use Rattle.taylor_job.specs.Calls.{phi_combination, phi_action, phi_action_batched}
 use Rattle.taylor_plan.specs.TaylorPlan.{taylor_plan}
 use Rattle.checks.specs.Reasons.{Sound, Refused}

@@ -17,9 +17,9 @@ ghost use Rattle.taylor_plan.specs.Inner.{quotients_alone, admitted};
 ghost use Rattle.taylor_plan.specs.TaylorPlan.{taylor_plan};
 
 use checks::Refusal;
-use generator_action::{MatrixAnswer, Shape};
+use generator_action::Shape;
 use phi_action_helpers::{Layout, SweepPlan};
-use taylor_job::TaylorAnswer;
+use taylor_job::TaylorReport;
 use taylor_schedule::Schedule;
 
 // 14, 33 and 24 to 26, with the row of the schedule.
@@ -110,6 +110,6 @@ pub fn taylor_plan(
     ensures { ends result [] work.new ≡ taylor_plan (forward (csr n starts.now cols.now vals.now) (given with_mass mass.now)) tau cap work.old }
 {
     let matrix = generator_checks::check_generator(n, starts, cols, vals, with_mass, mass)?;
-    let g = generator_action::generator_shape(n, with_mass, vals.len(), norm);
+    let g = generator_action::generator_shape(n, with_mass, vals.len(), matrix.norm);
     planned(starts, cols, vals, mass, g, tau, cap, work)
 }

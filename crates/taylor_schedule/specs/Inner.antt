@@ -17,11 +17,11 @@ use Rattle.taylor_schedule.specs.declared.Schedule.{Schedule}
 use Rattle.taylor_schedule.specs.declared.Job.{Job}
 use Rattle.combination.specs.Combination.{eta_of}
 use Rattle.combination.specs.Checks.{schedule_checks, memory_checks, taylor_need, sweep_checks, job_checks}
-use Rattle.checks.specs.declared.Reason.TheVariants.{ArgumentNotFinite, NoPlan}
+use Rattle.checks.specs.declared.Reason.TheVariants.{ArgumentNotFinite, NoAdmissibleRow}
 
 -- ---- 24 and 25
 abbrev pub argument_checks : Float → Bool → List Check
-argument_checks arg none = refuse ArgumentNotFinite (not (is_finite arg)) arg ∷ refuse NoPlan none arg ∷ []
+argument_checks arg none = refuse ArgumentNotFinite (not (is_finite arg)) arg ∷ refuse NoAdmissibleRow none arg ∷ []
 
 abbrev pub row_sweeps : Selected → ℕ
 row_sweeps NoRow = 0

@@ -19,7 +19,7 @@ fn check_argument(arg: f64, no_row: bool) -> Checked
         return Err(Refusal { reason: Reason::ArgumentNotFinite, value: arg });
     }
     if no_row {
-        return Err(Refusal { reason: Reason::NoPlan, value: arg });
+        return Err(Refusal { reason: Reason::NoAdmissibleRow, value: arg });
     }
     Ok(())
 }

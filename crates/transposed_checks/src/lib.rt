@@ -10,7 +10,7 @@ ghost use Rattle.generator_action.specs.Known.{Answered};
 ghost use Rattle.transpose.specs.Transpose.{lent, start_checks, forward_checks, lent_checks, before_transposing, buffers, lengths, buffers_after, transposed_answer};
 
 use checks::{Checked, Reason, Refusal};
-use generator_action::MatrixAnswer;
+use generator_action::Largest;
 
 // 9.
 fn check_start(n: usize, starts: &[u32]) -> Checked
@@ -18,7 +18,10 @@ fn check_start(n: usize, starts: &[u32]) -> Checked
     ensures { (columns : List ℕ) (entries : List Float) → result ≡ first (start_checks (csr n starts.now columns entries)) }
 {
     if starts[0] != 0 {
-        return Err(Refusal { reason: Reason::FirstRowStart, value: float::not_a_number() });
+        return Err(Refusal {
+            reason: Reason::FirstRowStart,
+            value: float::not_a_number(),
+        });
     }
     Ok(())
 }
@@ -48,13 +51,22 @@ fn check_lent(n: usize, entries: usize, t_starts: usize, t_cols: usize, t_vals: 
     ensures { (starts columns : List ℕ) (vals : List Float) → length vals ≡ entries → result ≡ first (lent_checks (csr n starts columns vals) (lent t_starts t_cols t_vals)) }
 {
     if t_starts <= n {
-        return Err(Refusal { reason: Reason::TransposedLength, value: float::not_a_number() });
+        return Err(Refusal {
+            reason: Reason::TransposedLength,
+            value: float::not_a_number(),
+        });
     }
     if t_cols < entries {
-        return Err(Refusal { reason: Reason::TransposedLength, value: float::not_a_number() });
+        return Err(Refusal {
+            reason: Reason::TransposedLength,
+            value: float::not_a_number(),
+        });
     }
     if t_vals < entries {
-        return Err(Refusal { reason: Reason::TransposedLength, value: float::not_a_number() });
+        return Err(Refusal {
+            reason: Reason::TransposedLength,
+            value: float::not_a_number(),
+        });
     }
     Ok(())
 }

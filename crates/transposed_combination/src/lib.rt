@@ -9,8 +9,7 @@ ghost use Rattle.combination.specs.Call.{ends};
 ghost use Rattle.transposed.specs.Transposed.{lends, phi_combination_transposed};
 
 use checks::Refusal;
-use taylor_job::TaylorAnswer;
-use transposed_shape::ShapeAnswer;
+use taylor_job::TaylorReport;
 
 // `phi_combination` on the transposed quotients, which stay in the buffers.
 pub fn phi_combination_transposed(
@@ -32,19 +31,14 @@ pub fn phi_combination_transposed(
 ) -> Result<TaylorReport, Refusal>
     ensures { lends (ends result out.new work.new) (buffers t_starts.new t_cols.new t_vals.new) ≡ phi_combination_transposed (csr n starts.now cols.now vals.now) (given with_mass mass.now) (buffers t_starts.old t_cols.old t_vals.old) tau cap count w.now out.old work.old }
 {
-    let shape = transposed_shape::transposed_shape(
+    let g = transposed_shape::transposed_shape(
         n, starts, cols, vals, with_mass, mass, t_starts, t_cols, t_vals,
-    );
-    match shape {
-        Err(Refusal { reason: k, value: x }) => Err(Refusal { reason: k, value: x }),
-        ShapeAnswer::Passed(g) => {
-            let q_rows = &t_starts[..n + 1];
-            let q_cols = &t_cols[..vals.len()];
-            let q_vals = &t_vals[..vals.len()];
-            let none = &mass[..0];
-            phi_combination::combined(
-                q_rows, q_cols, q_vals, none, g, tau, cap, count, w, out, work,
-            )
-        }
-    }
+    )?;
+    let q_rows = &t_starts[..n + 1];
+    let q_cols = &t_cols[..vals.len()];
+    let q_vals = &t_vals[..vals.len()];
+    let none = &mass[..0];
+    phi_combination::combined(
+        q_rows, q_cols, q_vals, none, g, tau, cap, count, w, out, work,
+    )
 }

@@ -9,14 +9,7 @@ ghost use Rattle.transpose.specs.Transpose.{buffers, lengths, buffers_after, tra
 ghost use Rattle.transposed_shape.specs.Inner.{shape_answer};
 
 use checks::Refusal;
-use generator_action::{MatrixAnswer, Shape};
-
-// A refusal's number and double, or what a job takes from its generator.
-#[derive(Clone, Copy)]
-pub enum ShapeAnswer {
-    Refusal(u32, f64),
-    Passed(Shape),
-}
+use generator_action::Shape;
 
 // Every check of the matrix. The transposed generator has no mass; a job over it needs the working memory of the forward one.
 pub fn transposed_shape(
@@ -35,17 +28,12 @@ pub fn transposed_shape(
 {
     let matrix = transposed_checks::check_transposed(
         n, starts, cols, vals, with_mass, mass, t_starts, t_cols, t_vals,
-    );
-    match matrix {
-        Err(Refusal { reason: k, value: x }) => Err(Refusal { reason: k, value: x }),
-        MatrixAnswer::Norm(norm, _) => {
-            let forward = generator_action::generator_shape(n, with_mass, vals.len(), norm);
-            ShapeAnswer::Passed(Shape {
-                n: n,
-                with_mass: false,
-                stored: forward.stored,
-                norm: norm,
-            })
-        }
-    }
+    )?;
+    let forward = generator_action::generator_shape(n, with_mass, vals.len(), matrix.norm);
+    Ok(Shape {
+        n: n,
+        with_mass: false,
+        stored: forward.stored,
+        norm: matrix.norm,
+    })
 }

@@ -28,7 +28,6 @@ use Rattle.trial_steps.specs.Memory.{outcome_at, Within}
 use Rattle.trial_steps.specs.declared.Estimate.{Estimate}
 use Rattle.trial_steps.specs.declared.Outcome.{Outcome}
 use Rattle.trial_steps.specs.declared.Outcome.TheVariants.{Next, Accepted, NoPlan}
-use Rattle.checks.specs.declared.Reason.TheVariants.{NoPlan}
 
 -- ---- one length
 module _ (l : Layout) (b : Coupling) (k : Krylov) (q : Csr) (vectors : List Float) (beta avnorm : Float) (h : List Float) (i r : ℕ) (t : Float) (x : SmallExp) (s : small_of (k.m + 2) x ≡ hess_exp_e1 h (k.m + 2) (k.m + 2) t) where

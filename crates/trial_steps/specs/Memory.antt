@@ -9,7 +9,6 @@ use Rattle.trial_steps.specs.Trials.{MAX_REJECT, Trying, Tried, accepted, stuck}
 use Rattle.trial_steps.specs.declared.Trial.{Trial}
 use Rattle.trial_steps.specs.declared.Outcome.{Outcome}
 use Rattle.trial_steps.specs.declared.Outcome.TheVariants.{Next, Accepted, NoPlan}
-use Rattle.checks.specs.declared.Reason.TheVariants.{NoPlan}
 
 -- an outcome, of which f holds the coefficients
 unfoldable pub outcome_at : List Float → Outcome → Turn Trying Tried

@@ -15,7 +15,7 @@ use Rattle.generator_action.specs.Mass.{Mass, given}
 use Rattle.generator_action.specs.Generator.{Generator, forward}
 use Rattle.combination.specs.Call.{Call}
 use Rattle.taylor_schedule.proofs.Stored.{forward_is}
-use Rattle.taylor_job.specs.Answer.{TaylorAnswer}
+use Rattle.taylor_job.specs.Calls.{TaylorAnswer}
 use Rattle.ambient_record.specs.Record.{record_call}
 use Rattle.ambient_checks.specs.Inner.{log_of, field_of}
 use Rattle.ambient_turns.specs.Inner.{turn_at, results_of}

@@ -1,13 +1,13 @@
 -- `ambient_checks::check_fields` meets its contract. Assumes nothing.
-use Rattle.checks.proofs.First.{refused_up, sound_on, passes, stops, not_eq, not_ne}
+use Rattle.checks.proofs.First.{handed, refused_up, sound_on, passes, stops, not_eq, not_ne}
 use Rattle.combination.specs.Checks.{finite_checks}
 use Rattle.ambient_checks.specs.Log.{field_checks}
 use Rattle.ambient_checks.proofs.check_fields.Goals as goal
 use Rattle.checks.specs.declared.Reason.TheVariants.{VectorLength}
 
-pub returns-in_default : goal.returns-in_default
+pub returns-in_err-check_lengths : goal.returns-in_err-check_lengths
 unfolding field_checks
-returns-in_default c = search refused_up
+returns-in_err-check_lengths c = rw (handed c.from_residual.ensures.1) (search refused_up)
 
 pub returns-then-load-n : goal.returns-then-load-n
 unfolding field_checks
@@ -17,4 +17,4 @@ pub returns : goal.returns
 unfolding field_checks finite_checks
 returns c =
     let fin = c.and_then.ensures _ _ c.check_finite.ensures c.check_finite-behind.ensures in
-    sound_on _ _ c.in-Sound.is c.check_lengths-lengths.ensures (passes VectorLength _ _ (not_eq c.if-load-n.false) fin)
+    sound_on _ _ c.in_ok-check_lengths.was c.check_lengths.ensures (passes VectorLength _ _ (not_eq c.if-load-n.false) fin)

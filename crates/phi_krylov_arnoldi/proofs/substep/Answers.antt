@@ -10,7 +10,6 @@ use Rattle.phi_action_helpers.specs.Laid.{matrix_at}
 use Rattle.trial_steps.specs.Memory.{Within, columns_in}
 use Rattle.krylov_advance.proofs.Settled.{columns_few, columns_within, products_few, after_rejections, after_no_plan, after_step}
 use Rattle.phi_krylov_arnoldi.proofs.substep.Goals as goal
-use Rattle.checks.specs.declared.Reason.TheVariants.{NoPlan}
 
 two : {m : ℕ} → m ≤ 128 → m + 2 ≤ 130
 two p = omega (arith, p)

@@ -12,7 +12,7 @@ use Rattle.generator_action.specs.Mass.{Mass, given}
 use Rattle.generator_action.specs.Generator.{Generator, forward}
 use Rattle.combination.specs.Call.{Call}
 use Rattle.taylor_schedule.proofs.Stored.{forward_is, quotients_rows}
-use Rattle.phi_solver.specs.declared.PhiAnswer.{PhiAnswer}
+use Rattle.phi_solver.specs.Combine.{PhiAnswer}
 use Rattle.schedule_checks.specs.declared.Stage.{Stage}
 use Rattle.schedule_checks.specs.Schedule.{Schedule}
 use Rattle.schedule_checks.specs.Inner.{schedule_of, field_of, Few, Moderate, turn_at, Even}
