@@ -87,7 +87,7 @@ module _ (g : Generator) (log : Log) (start load : List Float) (W node : ℕ) (o
   module _ (plain : before WorkLength g.checks ≡ g.checks) where
     early_no_26 : before WorkLength early ≡ early
     unfolding before ambient_checks field_checks log_checks length_checks finite_checks
-    early_no_26 = before_append 26 g.checks _ plain
+    early_no_26 = before_append WorkLength g.checks _ plain
 
     -- the checks of a record, of which 26 is the last
     abbrev listed : Float → List Float → ℕ → ℕ → List Check
@@ -97,13 +97,13 @@ module _ (g : Generator) (log : Log) (start load : List Float) (W node : ℕ) (o
     unfolding combination_checks sweep_checks vector_checks vector_checks_by count_checks plan_checks time_checks degree_checks length_checks finite_checks magnitude_checks schedule_checks memory_checks before
     only_26 tau w o m e =
         let n = g.matrix.n in
-        only_by 26 (ltb (m - n) (taylor_need n 1 g.stored)) nan g.checks (vector_checks n (plan_checks tau 30) 2 w o ++ (magnitude_checks n (further n w) tau 1 (eta_of n (further n w) tau 1).eta ++ schedule_checks 30 (row_sum_norm g.matrix) tau)) [] plain refl refl (sym e)
+        only_by WorkLength (ltb (m - n) (taylor_need n 1 g.stored)) nan g.checks (vector_checks n (plan_checks tau 30) 2 w o ++ (magnitude_checks n (further n w) tau 1 (eta_of n (further n w) tau 1).eta ++ schedule_checks 30 (row_sum_norm g.matrix) tau)) [] plain refl refl (sym e)
 
     if_26 : (tau : Float) (w : List Float) (o m : ℕ) → Sound ≡ first (before WorkLength (listed tau w o m)) → ltb (m - g.matrix.n) (taylor_need g.matrix.n 1 g.stored) ≡ true → first (listed tau w o m) ≡ Refused WorkLength nan
     unfolding combination_checks sweep_checks vector_checks vector_checks_by count_checks plan_checks time_checks degree_checks length_checks finite_checks magnitude_checks schedule_checks memory_checks before
     if_26 tau w o m s b =
         let n = g.matrix.n in
-        sym (if_by 26 (ltb (m - n) (taylor_need n 1 g.stored)) nan g.checks (vector_checks n (plan_checks tau 30) 2 w o ++ (magnitude_checks n (further n w) tau 1 (eta_of n (further n w) tau 1).eta ++ schedule_checks 30 (row_sum_norm g.matrix) tau)) [] plain refl refl s b refl)
+        sym (if_by WorkLength (ltb (m - n) (taylor_need n 1 g.stored)) nan g.checks (vector_checks n (plan_checks tau 30) 2 w o ++ (magnitude_checks n (further n w) tau 1 (eta_of n (further n w) tau 1).eta ++ schedule_checks 30 (row_sum_norm g.matrix) tau)) [] plain refl refl s b refl)
 
     short_known : (m : ℕ) → ltb (m - g.matrix.n) (taylor_need g.matrix.n 1 g.stored) ≡ true → m < record_need g
     unfolding taylor_need
@@ -126,7 +126,7 @@ module _ (g : Generator) (log : Log) (start load : List Float) (W node : ℕ) (o
 
     pub short_only : (x : Float) (j : ℕ) → left.call.answer ≡ Refused WorkLength x j → Short x j
     unfolding Ran
-    short_only x j e = by_either 26 x j e (Short x j) (λ f. absurd (not_by 26 early early_no_26 (sym f))) by_record
+    short_only x j e = by_either 26 x j e (Short x j) (λ f. absurd (not_by WorkLength early early_no_26 (sym f))) by_record
       where
         by_record : (i : ℕ) (o m xs : List Float) → Sound ≡ first early → j ≡ i + 1 → RefusedAt g log start load node output memory i 26 x o m xs → Short x j
         by_record zero o m xs s n c =

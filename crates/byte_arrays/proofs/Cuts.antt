@@ -101,8 +101,8 @@ refuses_on {G = G} R H h h' =
       long_starts = λ s t cols mass ls lt. in_front _ _ _ _ (R.long_starts s t cols mass ls lt);
       long_mass = λ s cols m p lm lp. in_front _ _ _ _ (R.long_mass s cols m p lm lp);
       other_columns = λ s cols other mass d d'. both_on _ _ _ _ (R.other_columns s cols other mass d d');
-      not_15 = λ s cols mass. before_append 15 (G s cols mass) (H s cols mass) (R.not_15 s cols mass) ∙ ap (λ r. G s cols mass ++ r) (h s cols mass);
-      not_16 = λ s cols mass. before_append 16 (G s cols mass) (H s cols mass) (R.not_16 s cols mass) ∙ ap (λ r. G s cols mass ++ r) (h' s cols mass);
+      not_15 = λ s cols mass. before_append OutputLength (G s cols mass) (H s cols mass) (R.not_15 s cols mass) ∙ ap (λ r. G s cols mass ++ r) (h s cols mass);
+      not_16 = λ s cols mass. before_append VectorLength (G s cols mass) (H s cols mass) (R.not_16 s cols mass) ∙ ap (λ r. G s cols mass ++ r) (h' s cols mass);
     }
 
 -- nothing of a matrix was cut

@@ -80,7 +80,7 @@ checks call g tau k v output memory =
     ∷ others call g tau k v memory)))
 
 -- ---- a refused call changes nothing
-refused_by : {A : Type 0} (tell : A → Numbers) (refusal : ℕ → Float → A) {c : Checked} {j : Reason} {x : Float} (output memory : List Float) (run : Call A) → tell (refusal j x) ≡ numbers j x 0 0 0 → c ≡ Refused j x → answering tell (unless_refused refusal c output memory run) ≡ ends (numbers j x 0 0 0) output memory
+refused_by : {A : Type 0} (tell : A → Numbers) (refusal : Reason → Float → A) {c : Checked} {j : Reason} {x : Float} (output memory : List Float) (run : Call A) → tell (refusal j x) ≡ numbers j x 0 0 0 → c ≡ Refused j x → answering tell (unless_refused refusal c output memory run) ≡ ends (numbers j x 0 0 0) output memory
 unfolding answering unless_refused
 refused_by tell refusal {c} output memory run t e = rw e (ap (λ (r : Numbers). ends r output memory) t)
 

@@ -66,8 +66,8 @@ pub same_double : {A : Type 0} {j k : Reason} {x y : Float} → Refused {A = A} 
 same_double e = ap (λ (r : Refusal). r.value) (err_is e)
 
 -- what `?` returns is the refusal that it was given
-pub handed : {A : Type 0} {r : Result A Refusal} {e : Refusal} → IsErrAnd r (λ d. d ≡ e) → r ≡ Err e
-handed {r = r} h = let p = err_from_is_err_and r h in p.1 ∙ ap Err p.2
+pub passed_on : {A : Type 0} {r : Result A Refusal} {e : Refusal} → IsErrAnd r (λ d. d ≡ e) → r ≡ Err e
+passed_on {r = r} h = let p = err_from_is_err_and r h in p.1 ∙ ap Err p.2
 
 pub refused_up : (xs ys : List Check) {r : Checked} {k : Reason} {x : Float} → r ≡ Refused k x → r ≡ first xs → r ≡ first (xs ++ ys)
 unfolding and_then

@@ -1,7 +1,7 @@
 -- Why a job is refused: each reason's number (document 01, 'Refusals'; document 02). Definitions only.
 use Rattle.std.specs.Prelude.{ℕ, Result, Ok, Err, Float}
 use Rattle.checks.specs.declared.Reason.{Reason}
-use Rattle.checks.specs.declared.Reason.TheVariants.{RowStartsLength, EntryCount, MatrixTooLarge, RowStartsFall, ColumnRange, EntryNotFinite, MassLength, MassRange, FirstRowStart, RowSumNotFinite, NormNotFinite, VectorCount, IndexRange, TauRange, OutputLength, VectorLength, VectorNotFinite, TolRange, NoSubsteps, OptionTooLarge, MagnitudeNotFinite, GainNotFinite, ArgumentNotFinite, WorkLength, SubstepLimit, LengthsRejected, NoInnerPlan, TransposedLength, RunEnded, UnitFull, DegreeRange, JoinRows, JoinColumnOrder, JoinLength, StageCount, WindowOrNode, RecordCount, ResultsLength}
+use Rattle.checks.specs.declared.Reason.TheVariants.{RowStartsLength, EntryCount, MatrixTooLarge, RowStartsFall, ColumnRange, EntryNotFinite, MassLength, MassRange, FirstRowStart, RowSumNotFinite, NormNotFinite, VectorCount, IndexRange, TauRange, OutputLength, VectorLength, VectorNotFinite, TolRange, NoSubsteps, OptionTooLarge, MagnitudeNotFinite, GainNotFinite, ArgumentNotFinite, NoAdmissibleRow, WorkLength, SubstepLimit, LengthsRejected, NoInnerPlan, TransposedLength, RunEnded, UnitFull, DegreeRange, JoinRows, JoinColumnOrder, JoinLength, StageCount, WindowOrNode, RecordCount, ResultsLength}
 use Rattle.checks.specs.declared.Refusal.{Refusal}
 
 abbrev pub number : Reason → ℕ

@@ -69,9 +69,9 @@ module _ (xs ys : List Float) (cs : List Check) where
   in_front l =
       let e = find_ext (not_finite_at (xs ++ ys)) (not_finite_at xs) (length xs) within in
       let found = sym e ∙ find_front (not_finite_at (xs ++ ys)) (length xs) (length ys) (omega (arith, e)) ∙ ap (find (not_finite_at (xs ++ ys))) (sym (length-append xs ys)) in
-      sym (stops_find 17 (xs ++ ys) cs (not_finite_at (xs ++ ys)) (length (xs ++ ys)) found (omega (arith, length-append xs ys)))
+      sym (stops_find VectorNotFinite (xs ++ ys) cs (not_finite_at (xs ++ ys)) (length (xs ++ ys)) found (omega (arith, length-append xs ys)))
       ∙ ap (Refused VectorNotFinite) (get_or-append xs ys nan _ l)
-      ∙ stops_find 17 xs (finite_checks ys ++ cs) (not_finite_at xs) (length xs) refl l
+      ∙ stops_find VectorNotFinite xs (finite_checks ys ++ cs) (not_finite_at xs) (length xs) refl l
 
   found_behind : length xs ≤ find (not_finite_at xs) (length xs) → length xs + find (not_finite_at ys) (length ys) ≡ find (not_finite_at (xs ++ ys)) (length (xs ++ ys))
   found_behind l =
@@ -83,16 +83,16 @@ module _ (xs ys : List Float) (cs : List Check) where
   then_behind : length xs ≤ find (not_finite_at xs) (length xs) → first (finite_checks (xs ++ ys) ++ cs) ≡ first (finite_checks ys ++ cs)
   unfolding finite_checks
   then_behind l = elim (lt_or_le (find (not_finite_at ys) (length ys)) (length ys)) [
-    | inl h ↦ sym (stops_find 17 (xs ++ ys) cs (not_finite_at (xs ++ ys)) (length (xs ++ ys)) (found_behind l) (omega (arith, length-append xs ys)))
+    | inl h ↦ sym (stops_find VectorNotFinite (xs ++ ys) cs (not_finite_at (xs ++ ys)) (length (xs ++ ys)) (found_behind l) (omega (arith, length-append xs ys)))
         ∙ ap (Refused VectorNotFinite) (get_or-append-add xs ys _ nan)
-        ∙ stops_find 17 ys cs (not_finite_at ys) (length ys) refl h
-    | inr h ↦ sym (passes_find 17 _ cs (not_finite_at (xs ++ ys)) (length (xs ++ ys)) (found_behind l) (omega (arith, length-append xs ys)) refl)
-        ∙ passes_find 17 _ cs (not_finite_at ys) (length ys) refl h refl
+        ∙ stops_find VectorNotFinite ys cs (not_finite_at ys) (length ys) refl h
+    | inr h ↦ sym (passes_find VectorNotFinite _ cs (not_finite_at (xs ++ ys)) (length (xs ++ ys)) (found_behind l) (omega (arith, length-append xs ys)) refl)
+        ∙ passes_find VectorNotFinite _ cs (not_finite_at ys) (length ys) refl h refl
   ]
 
   pub finite_behind : first (finite_checks (xs ++ ys) ++ cs) ≡ first (finite_checks xs ++ (finite_checks ys ++ cs))
   unfolding finite_checks
   finite_behind = elim (lt_or_le (find (not_finite_at xs) (length xs)) (length xs)) [
     | inl l ↦ in_front l
-    | inr l ↦ then_behind l ∙ passes_find 17 _ (finite_checks ys ++ cs) (not_finite_at xs) (length xs) refl l refl
+    | inr l ↦ then_behind l ∙ passes_find VectorNotFinite _ (finite_checks ys ++ cs) (not_finite_at xs) (length xs) refl l refl
   ]

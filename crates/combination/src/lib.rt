@@ -8,7 +8,6 @@ ghost use Rattle.combination.specs.Checks.{count_checks, index_checks, out_of_ra
 
 use checks::{Checked, Reason, Refusal};
 
-
 fn wrong_count(count: usize) -> bool
     ensures { result ≡ (eqb count 0 || ltb 4 count) }
 {
@@ -23,7 +22,10 @@ pub fn check_count(count: usize) -> Checked
     ensures { result ≡ first (count_checks count) }
 {
     if wrong_count(count) {
-        return Err(Refusal { reason: Reason::VectorCount, value: float::count(count) });
+        return Err(Refusal {
+            reason: Reason::VectorCount,
+            value: float::count(count),
+        });
     }
     Ok(())
 }
@@ -33,7 +35,10 @@ pub fn check_index(k: usize) -> Checked
     ensures { result ≡ first (index_checks k) }
 {
     if k > 3 {
-        return Err(Refusal { reason: Reason::IndexRange, value: float::count(k) });
+        return Err(Refusal {
+            reason: Reason::IndexRange,
+            value: float::count(k),
+        });
     }
     Ok(())
 }
@@ -52,7 +57,10 @@ pub fn check_time(tau: f64) -> Checked
     ensures { result ≡ first (time_checks tau) }
 {
     if out_of_range(tau) {
-        return Err(Refusal { reason: Reason::TauRange, value: tau });
+        return Err(Refusal {
+            reason: Reason::TauRange,
+            value: tau,
+        });
     }
     Ok(())
 }
@@ -71,7 +79,10 @@ fn check_degree(cap: u32) -> Checked
     ensures { result ≡ first (degree_checks cap) }
 {
     if wrong_degree(cap) {
-        return Err(Refusal { reason: Reason::DegreeRange, value: float::not_a_number() });
+        return Err(Refusal {
+            reason: Reason::DegreeRange,
+            value: float::not_a_number(),
+        });
     }
     Ok(())
 }
@@ -90,7 +101,10 @@ pub fn check_memory(memory: usize, need: usize) -> Checked
     ensures { result ≡ first (memory_checks memory need) }
 {
     if memory < need {
-        return Err(Refusal { reason: Reason::WorkLength, value: float::not_a_number() });
+        return Err(Refusal {
+            reason: Reason::WorkLength,
+            value: float::not_a_number(),
+        });
     }
     Ok(())
 }
@@ -99,8 +113,6 @@ pub fn check_memory(memory: usize, need: usize) -> Checked
 pub fn and_then(a: Checked, b: Checked) -> Checked
     ensures { (xs ys : List Check) → a ≡ first xs → b ≡ first ys → result ≡ first (xs ++ ys) }
 {
-    let Ok(()) = a else {
-        return a;
-    };
+    a?;
     b
 }

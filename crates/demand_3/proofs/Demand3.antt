@@ -44,7 +44,7 @@ use Rattle.demand_3.proofs.Never23.{transposed_in_range}
 use Rattle.demand_3.proofs.Taylor.{fits_is, combination_claim, action_claim, batch_claim}
 use Rattle.checks.specs.Reasons.{Sound, Refused}
 use Rattle.std.specs.Prelude.{Ok, Err}
-use Rattle.checks.specs.declared.Reason.TheVariants.{VectorNotFinite, NoAdmissibleRow, SubstepLimit, DegreeRange}
+use Rattle.checks.specs.declared.Reason.TheVariants.{VectorNotFinite, NoAdmissibleRow, WorkLength, SubstepLimit, DegreeRange}
 use Rattle.checks.specs.declared.Reason.{Reason}
 
 -- ---- a Krylov call
@@ -74,7 +74,7 @@ module _
   -- none is numbered 27
   low : before SubstepLimit checks ≡ checks
   unfolding before krylov_checks krylov_checks_by vector_checks vector_checks_by count_checks time_checks length_checks finite_checks option_checks run_checks magnitude_checks bound_checks memory_checks
-  low = before_append 27 g.checks _ none_27
+  low = before_append SubstepLimit g.checks _ none_27
 
   -- 12 to 17, and 18 on
   vectors_sound : Sound ≡ first checks → Sound ≡ first (vector_checks n (time_checks tau) count w (length output))
@@ -127,7 +127,7 @@ module _
     where
       same : {i j : Reason} {x y : Float} → Refused i x ≡ Refused j y → refused i x s ≡ refused j y s
       same g = cc
-  refused_run (Err r) e need {x} d f = let n : r.reason ≡ 27 = number f in absurd (not_by 27 checks low (subst (λ (i : Reason). Refused i r.value ≡ first checks) n d))
+  refused_run (Err r) e need {x} d f = let n : r.reason ≡ 27 = number f in absurd (not_by SubstepLimit checks low (subst (λ (i : Reason). Refused i r.value ≡ first checks) n d))
     where
       number : {i j : Reason} {x y : Float} → Refused i x ≡ Refused j y → i ≡ j
       number g = cc
@@ -151,7 +151,7 @@ module _
   -- ---- 25 is not of a Krylov call
   not_of_memory : {x : Float} → Refused NoAdmissibleRow x ≡ first (memory_checks (length memory) (krylov_need n (count - 1) M g.stored)) → ⊥
   unfolding memory_checks first
-  not_of_memory {x} e = go (ltb (length memory) (krylov_need n (count - 1) M g.stored)) (e ∙ first_cons 26 (ltb (length memory) (krylov_need n (count - 1) M g.stored)) nan [])
+  not_of_memory {x} e = go (ltb (length memory) (krylov_need n (count - 1) M g.stored)) (e ∙ first_cons WorkLength (ltb (length memory) (krylov_need n (count - 1) M g.stored)) nan [])
     where
       go : (b : Bool) → Refused NoAdmissibleRow x ≡ unless b 26 nan Sound → ⊥
       go true e = let n : ◌≡◌ {A = ℕ} 25 26 = cc in absurd (omega (arith, n))
@@ -176,13 +176,13 @@ module _
   checks_25 : {x : Float} → Refused NoAdmissibleRow x ≡ first checks → ⊥
   unfolding krylov_checks krylov_checks_by vector_checks run_checks
   checks_25 e =
-      let v = refused_past 25 _ _ low_vectors (refused_past 25 _ _ none_25 e).1 in
-      let r = refused_past 25 _ _ (low_magnitude _ _) (refused_past 25 _ _ low_options v.1).1 in
-      not_of_memory (refused_past 25 _ _ (low_bound _) r.1).1
+      let v = refused_past NoAdmissibleRow _ _ low_vectors (refused_past NoAdmissibleRow _ _ none_25 e).1 in
+      let r = refused_past NoAdmissibleRow _ _ (low_magnitude _ _) (refused_past NoAdmissibleRow _ _ low_options v.1).1 in
+      not_of_memory (refused_past NoAdmissibleRow _ _ (low_bound _) r.1).1
 
   low_33 : before DegreeRange checks ≡ checks
   unfolding before krylov_checks krylov_checks_by vector_checks vector_checks_by count_checks time_checks length_checks finite_checks option_checks run_checks magnitude_checks bound_checks memory_checks
-  low_33 = before_append 33 g.checks _ none_33
+  low_33 = before_append DegreeRange g.checks _ none_33
 
   -- no run refuses by j, and no check does
   refused_by_none : (j : Reason) → ((x : Float) → Refused j x ≡ first checks → ⊥) → ((k : ℕ) → 26 < k → k < 30 → k ≡ j → ⊥) → (c : Checked) (e : End) (need : ℕ) {x : Float} → c ≡ first checks
@@ -205,7 +205,7 @@ module _
 
   pub krylov_no_33 : (x : Float) → call.answer ≡ Refused DegreeRange x → ⊥
   unfolding combination_run_krylov phi_combination_krylov
-  krylov_no_33 x e = refused_by_none 33 (λ y. not_by 33 checks low_33) (λ k l m n. absurd (omega (arith, m, n))) (first checks) _ _ refl (λ r z s. expv_late _ tau _ o.tol o.m o.max_substeps (start_of g tau count w)) e
+  krylov_no_33 x e = refused_by_none 33 (λ y. not_by DegreeRange checks low_33) (λ k l m n. absurd (omega (arith, m, n))) (first checks) _ _ refl (λ r z s. expv_late _ tau _ o.tol o.m o.max_substeps (start_of g tau count w)) e
 
   pub zeros_idle : Sound ≡ first checks → Zeros (start_of g tau count w) → call.answer ≡ Ok (record { matvecs = 0; substeps = 0; rejected = 0; est_error = +0; shortest = +0; last = +0 })
   unfolding combination_run_krylov phi_combination_krylov unless_refused after_run idle

@@ -46,7 +46,7 @@ use Rattle.demand_3.specs.Demand3.{start_of, operator_of, action_start, action_o
 use Rattle.demand_3.proofs.Products.{Made, one_made, batch_made}
 use Rattle.checks.specs.Reasons.{Sound, Refused}
 use Rattle.std.specs.Prelude.{Ok, Err}
-use Rattle.checks.specs.declared.Reason.TheVariants.{VectorNotFinite, ArgumentNotFinite, NoAdmissibleRow, SubstepLimit, DegreeRange}
+use Rattle.checks.specs.declared.Reason.TheVariants.{VectorNotFinite, ArgumentNotFinite, NoAdmissibleRow, WorkLength, SubstepLimit, DegreeRange}
 use Rattle.checks.specs.declared.Reason.{Reason}
 
 reported : {a b : TaylorReport} → Ok a ≡ Ok b → a ≡ b
@@ -140,12 +140,12 @@ module _ (gs xs ys : List Check) (tau : Float) (cap : ℕ) (norm : Float) (memor
 
     before_is : before NoAdmissibleRow in_order ≡ gs ++ (xs ++ (time_checks tau ++ (ys ++ just_before)))
     before_is =
-        before_append 25 gs _ lg
-        ∙ ap (λ (r : List Check). gs ++ r) (before_append 25 xs _ lx ∙ ap (λ (r : List Check). xs ++ r) (before_append 25 (time_checks tau) _ lt ∙ ap (λ (r : List Check). time_checks tau ++ r) (before_append 25 ys _ ly ∙ ap (λ (r : List Check). ys ++ r) last)))
+        before_append NoAdmissibleRow gs _ lg
+        ∙ ap (λ (r : List Check). gs ++ r) (before_append NoAdmissibleRow xs _ lx ∙ ap (λ (r : List Check). xs ++ r) (before_append NoAdmissibleRow (time_checks tau) _ lt ∙ ap (λ (r : List Check). time_checks tau ++ r) (before_append NoAdmissibleRow ys _ ly ∙ ap (λ (r : List Check). ys ++ r) last)))
 
     not_26 : {x : Float} → Refused NoAdmissibleRow x ≡ first (memory_checks memory need) → ⊥
     unfolding memory_checks first
-    not_26 {x} e = go (ltb memory need) (e ∙ first_cons 26 (ltb memory need) nan [])
+    not_26 {x} e = go (ltb memory need) (e ∙ first_cons WorkLength (ltb memory need) nan [])
       where
         go : (b : Bool) → Refused NoAdmissibleRow x ≡ unless b 26 nan Sound → ⊥
         go true e = let n : ◌≡◌ {A = ℕ} 25 26 = cc in absurd (omega (arith, n))
@@ -165,12 +165,12 @@ module _ (gs xs ys : List Check) (tau : Float) (cap : ℕ) (norm : Float) (memor
     pub only_25 : {x : Float} → Refused NoAdmissibleRow x ≡ first in_order → NoRowFits in_order tau cap norm x
     unfolding schedule_checks argument
     only_25 {x} e =
-        let g = refused_past 25 gs _ lg e in
-        let h = refused_past 25 xs _ lx g.1 in
-        let t = refused_past 25 (time_checks tau) _ lt h.1 in
-        let y = refused_past 25 ys _ ly t.1 in
-        let s = refused_past 25 just_before (refuse NoAdmissibleRow (no_row (select_s_m cap (argument tau norm))) (argument tau norm) ∷ memory_checks memory need) ls y.1 in
-        let r = refused_here 25 _ _ (memory_checks memory need) not_26 s.1 in
+        let g = refused_past NoAdmissibleRow gs _ lg e in
+        let h = refused_past NoAdmissibleRow xs _ lx g.1 in
+        let t = refused_past NoAdmissibleRow (time_checks tau) _ lt h.1 in
+        let y = refused_past NoAdmissibleRow ys _ ly t.1 in
+        let s = refused_past NoAdmissibleRow just_before (refuse NoAdmissibleRow (no_row (select_s_m cap (argument tau norm))) (argument tau norm) ∷ memory_checks memory need) ls y.1 in
+        let r = refused_here NoAdmissibleRow _ _ (memory_checks memory need) not_26 s.1 in
         let b : Sound ≡ first (before NoAdmissibleRow in_order) = sound_on gs _ refl g.0 (sound_on xs _ refl h.0 (sound_on (time_checks tau) _ refl t.0 (sound_on ys _ refl y.0 s.0))) ∙ ap first (sym before_is) in
         let f = ranged b in
         record { earlier = b; none = λ j l. sym (fits_is cap _ j) ∙ none_fits cap _ f.0 f.1 (none_only cap _ (row_none _ r.0)) j l; told = r.1 }
@@ -232,7 +232,7 @@ module _ (gs xs ys : List Check) (tau : Float) (cap : ℕ) (norm : Float) (memor
 
           go : (c : Checked) → c ≡ first cs → (call c).answer ≡ Refused SubstepLimit x → ⊥
           go (Ok _) d f = absurd (has_run _ (has_plan tau cap q norm (planned (d ∙ ap first e))) f)
-          go (Err r) d f = let n : r.reason ≡ 27 = number f in not_by 27 cs low (subst (λ (i : Reason). Refused i r.value ≡ first cs) n d)
+          go (Err r) d f = let n : r.reason ≡ 27 = number f in not_by SubstepLimit cs low (subst (λ (i : Reason). Refused i r.value ≡ first cs) n d)
 
 -- ---- 33 and 17
 -- what a call answers is what its list does
@@ -258,8 +258,8 @@ refused_outside cap (inr l) = rw (lt-ltb 30 cap l) (or_true (eqb cap 0))
 module _ (cs gs xs ys : List Check) (cap : ℕ) (c : Call TaylorAnswer) (listed : ByList c cs) where
   exactly_33 : cs ≡ gs ++ (xs ++ (refuse DegreeRange (eqb cap 0 || ltb 30 cap) nan ∷ ys)) → before DegreeRange gs ≡ gs → before DegreeRange xs ≡ xs → before DegreeRange ys ≡ ys → Exactly33 c cs cap
   exactly_33 e ng nx ny x = (
-    (λ f. let h = only_by 33 _ nan gs xs ys ng nx ny ((listed 33 x).0 f ∙ ap first e) in record { earlier = h.0 ∙ ap (λ (r : List Check). first (before DegreeRange r)) (sym e); outside = outside cap h.1.0; told = h.1.1 }),
-    (λ r. (listed 33 x).1 (if_by 33 _ nan gs xs ys ng nx ny (r.earlier ∙ ap (λ (l : List Check). first (before DegreeRange l)) e) (refused_outside cap r.outside) r.told ∙ ap first (sym e))),
+    (λ f. let h = only_by DegreeRange _ nan gs xs ys ng nx ny ((listed 33 x).0 f ∙ ap first e) in record { earlier = h.0 ∙ ap (λ (r : List Check). first (before DegreeRange r)) (sym e); outside = outside cap h.1.0; told = h.1.1 }),
+    (λ r. (listed 33 x).1 (if_by DegreeRange _ nan gs xs ys ng nx ny (r.earlier ∙ ap (λ (l : List Check). first (before DegreeRange l)) e) (refused_outside cap r.outside) r.told ∙ ap first (sym e))),
   )
 
 not_true : (b : Bool) → not b ≡ true → b ≡ false
@@ -276,7 +276,7 @@ module _ (cs gs xs ys : List Check) (v : List Float) (c : Call TaylorAnswer) (li
     where
       only : c.answer ≡ Refused VectorNotFinite x → ValueRefused cs v x
       only f =
-          let h = only_by 17 _ _ gs xs ys ng nx ny ((listed 17 x).0 f ∙ ap first e) in
+          let h = only_by VectorNotFinite _ _ gs xs ys ng nx ny ((listed 17 x).0 f ∙ ap first e) in
           let l = ltb-true (find bad (length v)) (length v) h.1.0 in
           record {
             earlier = h.0 ∙ ap (λ (r : List Check). first (before VectorNotFinite r)) (sym e);
@@ -290,7 +290,7 @@ module _ (cs gs xs ys : List Check) (v : List Float) (c : Call TaylorAnswer) (li
       only_if : ValueRefused cs v x → c.answer ≡ Refused VectorNotFinite x
       only_if r =
           let p = found_at {p = bad} (record { none = λ j m. ap not (r.finite_before j m) }) (length v) r.below (ap not r.not_finite) in
-          (listed 17 x).1 (if_by 17 _ _ gs xs ys ng nx ny (r.earlier ∙ ap (λ (l : List Check). first (before VectorNotFinite l)) e) (rw (← p) (lt-ltb _ _ r.below)) (r.told ∙ ap (at v) p) ∙ ap first (sym e))
+          (listed 17 x).1 (if_by VectorNotFinite _ _ gs xs ys ng nx ny (r.earlier ∙ ap (λ (l : List Check). first (before VectorNotFinite l)) e) (rw (← p) (lt-ltb _ _ r.below)) (r.told ∙ ap (at v) p) ∙ ap first (sym e))
 
 -- ---- the three calls
 module _
@@ -336,7 +336,7 @@ module _
 
     low_combination : before SubstepLimit (combination_checks g tau cap count w (length output) (length memory)) ≡ combination_checks g tau cap count w (length output) (length memory)
     unfolding before combination_checks vector_checks vector_checks_by count_checks plan_checks time_checks degree_checks length_checks finite_checks sweep_checks magnitude_checks schedule_checks memory_checks
-    low_combination = before_append 27 g.checks _ none_27
+    low_combination = before_append SubstepLimit g.checks _ none_27
 
     combination_no_27 : (x : Float) → (phi_combination g tau cap count w output memory).answer ≡ Refused SubstepLimit x → ⊥
     unfolding combination_run phi_combination
@@ -403,7 +403,7 @@ module _
 
     low_action : (wanted : ℕ) → before SubstepLimit (action_checks g tau cap k v (length output) wanted (length memory)) ≡ action_checks g tau cap k v (length output) wanted (length memory)
     unfolding before action_checks job_checks index_checks plan_checks time_checks degree_checks length_checks finite_checks schedule_checks memory_checks
-    low_action wanted = before_append 27 g.checks _ none_27
+    low_action wanted = before_append SubstepLimit g.checks _ none_27
 
     action_no_27 : (wanted : ℕ) (run : SweepPlan → Fields) (x : Float)
         → (unless_refused Refused (first (action_checks g tau cap k v (length output) wanted (length memory))) output memory (after_plan (taylor_need g.matrix.n 3 g.stored) tau norm output memory (sweep_plan cap tau g.matrix norm) run)).answer ≡ Refused SubstepLimit x → ⊥

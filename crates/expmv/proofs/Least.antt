@@ -15,8 +15,6 @@ use Rattle.expmv.specs.declared.Selected.{Selected}
 use Rattle.expmv.specs.declared.Selected.TheVariants.{NoRow, Row}
 use Rattle.expmv.specs.Select.{degree, admissible, sweeps, cost, cheaper, consider, select_s_m, Bounds, Least}
 use Rattle.expmv.proofs.Rows.{degree_bounds, degree_most, sweeps_bounds}
-use Rattle.checks.specs.Reasons.{Refused}
-use Rattle.checks.specs.declared.Reason.{Reason}
 
 -- what the rows below n give
 abbrev Best : ℕ → Float → ℕ → Selected → Type 0
@@ -97,7 +95,7 @@ unfolding select_s_m
 searched m_max arg f g = rw (f, g)
 
 -- why no row is taken: the argument is not finite, or negative, or no row is admissible
-pub data Refused (m_max : Reason) (arg : Float) : Type 0 where
+pub data Refused (m_max : ℕ) (arg : Float) : Type 0 where
   not_finite : is_finite arg ≡ false → Refused m_max arg
   below_zero : (arg ⋖ +0) ≡ true → Refused m_max arg
   no_row : ((j : ℕ) → j < 22 → admissible m_max arg j ≡ false) → Refused m_max arg
@@ -120,10 +118,10 @@ outcome m_max arg true false f e = subst (Given m_max arg) (searched m_max arg f
 pub least : (m_max : ℕ) (arg : Float) (s m : ℕ) → select_s_m m_max arg ≡ Row s m → (i : ℕ) × Least m_max arg 22 s m i
 least m_max arg s m e = subst (Given m_max arg) e (outcome m_max arg _ _ refl refl)
 
-pub none_only : (m_max : Reason) (arg : Float) → select_s_m m_max arg ≡ NoRow → Refused m_max arg
+pub none_only : (m_max : ℕ) (arg : Float) → select_s_m m_max arg ≡ NoRow → Refused m_max arg
 none_only m_max arg e = subst (Given m_max arg) e (outcome m_max arg _ _ refl refl)
 
-pub none_if : (m_max : Reason) (arg : Float) → Refused m_max arg → select_s_m m_max arg ≡ NoRow
+pub none_if : (m_max : ℕ) (arg : Float) → Refused m_max arg → select_s_m m_max arg ≡ NoRow
 none_if m_max arg (not_finite f) = sym (endless m_max arg f)
 none_if m_max arg (below_zero g) = sym (negative m_max arg g)
 none_if m_max arg (no_row h) = go (select_s_m m_max arg) (outcome m_max arg _ _ refl refl)

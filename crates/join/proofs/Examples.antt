@@ -21,7 +21,7 @@ unfolding open_join
 joined = refl
 
 -- places beyond the result are unchanged
-called : join_call barrel mount (replicate 4 9) (replicate 3 9) (replicate 4 2f) ≡ record { answer = Joined 3; starts = 0 ∷ 2 ∷ 3 ∷ 9 ∷ []; columns = 0 ∷ 1 ∷ 1 ∷ []; values = 1f ∷ 1f ∷ +0 ∷ 2f ∷ [] }
+called : join_call barrel mount (replicate 4 9) (replicate 3 9) (replicate 4 2f) ≡ record { answer = Ok 3; starts = 0 ∷ 2 ∷ 3 ∷ 9 ∷ []; columns = 0 ∷ 1 ∷ 1 ∷ []; values = 1f ∷ 1f ∷ +0 ∷ 2f ∷ [] }
 unfolding open_join
 called = refl
 

@@ -17,7 +17,7 @@ order a b l = refl
 
 -- entries of no row that fall are no 35; -0 alone stays -0, -0 and -0 give -0, -0 and +0 give +0
 zeros : join_call (csr 2 (2 ∷ 4 ∷ 4 ∷ []) (1 ∷ 0 ∷ 0 ∷ 1 ∷ []) (1f ∷ 1f ∷ bits 0x8000_0000_0000_0000 ∷ bits 0x8000_0000_0000_0000 ∷ [])) (csr 2 (0 ∷ 1 ∷ 2 ∷ []) (1 ∷ 0 ∷ []) (bits 0x8000_0000_0000_0000 ∷ +0 ∷ [])) (9 ∷ 9 ∷ 9 ∷ []) (9 ∷ 9 ∷ 9 ∷ []) (2f ∷ 2f ∷ 2f ∷ [])
-    ≡ record { answer = Joined 3; starts = 0 ∷ 2 ∷ 3 ∷ []; columns = 0 ∷ 1 ∷ 0 ∷ []; values = bits 0x8000_0000_0000_0000 ∷ bits 0x8000_0000_0000_0000 ∷ +0 ∷ [] }
+    ≡ record { answer = Ok 3; starts = 0 ∷ 2 ∷ 3 ∷ []; columns = 0 ∷ 1 ∷ 0 ∷ []; values = bits 0x8000_0000_0000_0000 ∷ bits 0x8000_0000_0000_0000 ∷ +0 ∷ [] }
 unfolding open_join
 zeros = refl
 

@@ -49,10 +49,16 @@ fn check_result(
     let entries = join_rows::count_entries(n, starts_a, cols_a, starts_b, cols_b);
     let short = is_short(n, entries, l);
     if short {
-        return Err(Refusal { reason: Reason::JoinLength, value: float::not_a_number() });
+        return Err(Refusal {
+            reason: Reason::JoinLength,
+            value: float::not_a_number(),
+        });
     }
     if entries > 16777216 {
-        return Err(Refusal { reason: Reason::MatrixTooLarge, value: float::not_a_number() });
+        return Err(Refusal {
+            reason: Reason::MatrixTooLarge,
+            value: float::not_a_number(),
+        });
     }
     join_rows::check_values(n, starts_a, cols_a, vals_a, starts_b, cols_b, vals_b)
 }
@@ -71,13 +77,22 @@ fn check_pair(
     ensures { (u v : List Float) → result ≡ first (pair_checks (csr n_a starts_a.now cols_a.now u) (csr n_b starts_b.now cols_b.now v)) }
 {
     if n_a != n_b {
-        return Err(Refusal { reason: Reason::JoinRows, value: float::not_a_number() });
+        return Err(Refusal {
+            reason: Reason::JoinRows,
+            value: float::not_a_number(),
+        });
     }
     if join_rows::is_unordered(n_a, starts_a, cols_a) {
-        return Err(Refusal { reason: Reason::JoinColumnOrder, value: float::not_a_number() });
+        return Err(Refusal {
+            reason: Reason::JoinColumnOrder,
+            value: float::not_a_number(),
+        });
     }
     if join_rows::is_unordered(n_b, starts_b, cols_b) {
-        return Err(Refusal { reason: Reason::JoinColumnOrder, value: float::not_a_number() });
+        return Err(Refusal {
+            reason: Reason::JoinColumnOrder,
+            value: float::not_a_number(),
+        });
     }
     Ok(())
 }

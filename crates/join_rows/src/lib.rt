@@ -12,7 +12,6 @@ ghost use Rattle.row_merge.specs.Merge.{advance};
 
 use checks::{Checked, Reason, Refusal};
 
-
 // The lengths of the slices that the result is written to.
 #[derive(Clone, Copy)]
 pub struct Lengths {
@@ -129,7 +128,10 @@ fn check_row_values(
         }
         let value = row_merge::value_at(vals_a, vals_b, m, x);
         if !float::is_finite(value) {
-            return Err(Refusal { reason: Reason::EntryNotFinite, value: value });
+            return Err(Refusal {
+                reason: Reason::EntryNotFinite,
+                value: value,
+            });
         }
         m = row_merge::advance(m, x);
     }

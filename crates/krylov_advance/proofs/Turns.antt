@@ -21,7 +21,6 @@ use Rattle.krylov_advance.specs.declared.Control.{Control}
 use Rattle.krylov_advance.specs.declared.KrylovPhiReport.{KrylovPhiReport}
 use Rattle.krylov_advance.specs.declared.Progress.{Progress}
 use Rattle.krylov_advance.specs.declared.Progress.TheVariants.{On, Finished, Refused}
-use Rattle.checks.specs.Reasons.{Refused}
 
 -- ---- one substep has at most M + 1 products and ten rejections
 pub applied_few : (p : Setting) (y : List Float) (beta : Float) → applied_of (arnoldi p y beta) ≤ suc p.m

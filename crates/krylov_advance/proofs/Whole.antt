@@ -27,7 +27,6 @@ use Rattle.krylov_advance.specs.Run.{empty_report, first_length, substep, spent,
 use Rattle.krylov_advance.specs.Memory.{state_at, end_at}
 use Rattle.krylov_advance.specs.declared.RunAnswer.{RunAnswer}
 use Rattle.krylov_advance.specs.declared.RunAnswer.TheVariants.{Finished, Refused}
-use Rattle.checks.specs.Reasons.{Refused}
 
 module _ (l : Layout) (b : Coupling) (k : Krylov) (q : Csr) (vectors w : List Float) where
   pub begins : (limit : ℕ) {beta next : Float} → beta ≡ norm2 (window k.y (l.n + l.d) w) → next ≡ first_length k.m k.anorm k.tol beta

@@ -49,7 +49,7 @@ use Rattle.paused_claims.proofs.Start.{field_passes}
 use Rattle.paused_claims.proofs.Standing.{ended_by, tol_is, standing_as, run_with, Stood, left_sound, left_stands}
 use Rattle.checks.specs.Reasons.{Sound, Refused}
 use Rattle.std.specs.Prelude.{Ok, Err}
-use Rattle.checks.specs.declared.Reason.TheVariants.{VectorLength, VectorNotFinite, MagnitudeNotFinite, GainNotFinite, RunEnded}
+use Rattle.checks.specs.declared.Reason.TheVariants.{VectorLength, VectorNotFinite, MagnitudeNotFinite, GainNotFinite, SubstepLimit, LengthsRejected, NoInnerPlan, RunEnded}
 use Rattle.checks.specs.declared.Reason.{Reason}
 
 -- ---- of a run as it was left 31 asks whether it has ended, and its field is n + d long
@@ -164,7 +164,7 @@ module _ (s : PausedRun) (long : ℕ) (i : Input) where
   -- not over: those of the job, with the second 16 between
   not_over : over s ≡ false → first (step_checks s long i) ≡ first ((g.g.checks ++ (front ++ (other_checks s g ++ rest s.eta))) ++ field_checks long (rows g + degree g))
   unfolding step_checks krylov_checks_by vector_checks_by count_checks time_checks length_checks other_checks finite_checks
-  not_over e = first_cons 31 (over s) nan _ ∙ ap (λ (b : Bool). unless b 31 nan (first ((g.g.checks ++ (front ++ (other_checks s g ++ rest s.eta))) ++ field_checks long (rows g + degree g)))) e
+  not_over e = first_cons RunEnded (over s) nan _ ∙ ap (λ (b : Bool). unless b 31 nan (first ((g.g.checks ++ (front ++ (other_checks s g ++ rest s.eta))) ++ field_checks long (rows g + degree g)))) e
 
   and_sound : (r : Checked) → and_then r Sound ≡ r
   unfolding and_then
@@ -216,14 +216,14 @@ module _ (s : PausedRun) (long : ℕ) (i : Input) where
   -- no check of a step is numbered 27 to 29
   pub early_number : Plain g.g → (k : Reason) (x : Float) → Refused k x ≡ first (step_checks s long i) → (k ≡ 27) ⊎ ((k ≡ 28) ⊎ (k ≡ 29)) → ⊥
   unfolding before count_checks time_checks length_checks other_checks finite_checks option_checks run_checks magnitude_checks bound_checks memory_checks field_checks step_checks krylov_checks_by vector_checks_by
-  early_number h k x e (inl n) = not_by 27 (step_checks s long i) (ap (λ (l : List Check). refuse RunEnded (over s) nan ∷ l) (none_numbered 27 h.no_27 refl refl)) (ap (λ (m : Reason). Refused m x) (sym n) ∙ e)
-  early_number h k x e (inr (inl n)) = not_by 28 (step_checks s long i) (ap (λ (l : List Check). refuse RunEnded (over s) nan ∷ l) (none_numbered 28 h.no_28 refl refl)) (ap (λ (m : Reason). Refused m x) (sym n) ∙ e)
-  early_number h k x e (inr (inr n)) = not_by 29 (step_checks s long i) (ap (λ (l : List Check). refuse RunEnded (over s) nan ∷ l) (none_numbered 29 h.no_29 refl refl)) (ap (λ (m : Reason). Refused m x) (sym n) ∙ e)
+  early_number h k x e (inl n) = not_by SubstepLimit (step_checks s long i) (ap (λ (l : List Check). refuse RunEnded (over s) nan ∷ l) (none_numbered 27 h.no_27 refl refl)) (ap (λ (m : Reason). Refused m x) (sym n) ∙ e)
+  early_number h k x e (inr (inl n)) = not_by LengthsRejected (step_checks s long i) (ap (λ (l : List Check). refuse RunEnded (over s) nan ∷ l) (none_numbered 28 h.no_28 refl refl)) (ap (λ (m : Reason). Refused m x) (sym n) ∙ e)
+  early_number h k x e (inr (inr n)) = not_by NoInnerPlan (step_checks s long i) (ap (λ (l : List Check). refuse RunEnded (over s) nan ∷ l) (none_numbered 29 h.no_29 refl refl)) (ap (λ (m : Reason). Refused m x) (sym n) ∙ e)
 
   -- none is numbered 31 but the first
   no_31_behind : Plain g.g → (x : Float) → over s ≡ false → Refused RunEnded x ≡ first (step_checks s long i) → ⊥
   unfolding before count_checks time_checks length_checks other_checks finite_checks option_checks run_checks magnitude_checks bound_checks memory_checks field_checks
-  no_31_behind h x e r = not_by 31 ((g.g.checks ++ behind) ++ field_checks long (rows g + degree g)) (none_numbered 31 h.no_31 refl refl) (r ∙ not_over e)
+  no_31_behind h x e r = not_by RunEnded ((g.g.checks ++ behind) ++ field_checks long (rows g + degree g)) (none_numbered 31 h.no_31 refl refl) (r ∙ not_over e)
 
 -- ---- the landed list of a job
 module _ (o : KrylovPhiOptions) (g : Job) (output memory : List Float) where
@@ -232,7 +232,7 @@ module _ (o : KrylovPhiOptions) (g : Job) (output memory : List Float) where
 
   up_to_16 : Plain g.g → before VectorNotFinite (job_checks o g output memory) ≡ g.g.checks ++ in_front
   unfolding before krylov_checks krylov_checks_by vector_checks_by count_checks time_checks length_checks finite_checks
-  up_to_16 h = before_append 17 g.g.checks _ h.no_17
+  up_to_16 h = before_append VectorNotFinite g.g.checks _ h.no_17
 
   -- with b asked by 22
   abbrev asking : Bool → List Check
@@ -276,9 +276,9 @@ module _ (o : KrylovPhiOptions) (g : Job) (output memory : List Float) where
   front_22 : Plain g.g → (b : Bool) → before GainNotFinite (g.g.checks ++ (up_to_21 ++ (refuse GainNotFinite b nan ∷ from_24))) ≡ before GainNotFinite (job_checks o g output memory)
   unfolding krylov_checks before
   front_22 h b =
-      before_append 22 g.g.checks _ h.no_22
-      ∙ ap (λ (l : List Check). g.g.checks ++ l) (before_append 22 up_to_21 _ others_22.0 ∙ sym (before_append 22 up_to_21 _ others_22.0))
-      ∙ sym (ap (before GainNotFinite) (asked_by (own_eta g) ∙ ap (λ (l : List Check). g.g.checks ++ l) (one_22 _)) ∙ before_append 22 g.g.checks _ h.no_22)
+      before_append GainNotFinite g.g.checks _ h.no_22
+      ∙ ap (λ (l : List Check). g.g.checks ++ l) (before_append GainNotFinite up_to_21 _ others_22.0 ∙ sym (before_append GainNotFinite up_to_21 _ others_22.0))
+      ∙ sym (ap (before GainNotFinite) (asked_by (own_eta g) ∙ ap (λ (l : List Check). g.g.checks ++ l) (one_22 _)) ∙ before_append GainNotFinite g.g.checks _ h.no_22)
 
 -- ---- what the run has of the start
 pub record Same (o : KrylovPhiOptions) (j : Job) (p : Past) : Type 0 where
@@ -360,7 +360,7 @@ module _ {o : KrylovPhiOptions} {j : Job} {p : Past} (l : Left o j p) (i : Input
     unfolding exists
     only_22 e fit {x} r =
         let k = others_22 o₃ i.job i.output i.memory in
-        let h = only_by 22 bad nan i.job.g.checks (up_to_21 o₃ i.job i.output i.memory) (from_24 o₃ i.job i.output i.memory) plain.no_22 k.0 k.1 (sym r ∙ as_22 e fit) in
+        let h = only_by GainNotFinite bad nan i.job.g.checks (up_to_21 o₃ i.job i.output i.memory) (from_24 o₃ i.job i.output i.memory) plain.no_22 k.0 k.1 (sym r ∙ as_22 e fit) in
         let d = i.job.count - 1 in
         let t = overflows i.job (own_eta j) in
         let l : find t d < d = ltb-true (find t d) d h.1.0 in
@@ -370,7 +370,7 @@ module _ {o : KrylovPhiOptions} {j : Job} {p : Past} (l : Left o j p) (i : Input
     if_22 e fit h =
         let k = others_22 o₃ i.job i.output i.memory in
         as_22 e fit
-        ∙ sym (if_by 22 bad nan i.job.g.checks (up_to_21 o₃ i.job i.output i.memory) (from_24 o₃ i.job i.output i.memory) plain.no_22 k.0 k.1 (h.earlier ∙ sym (ap first (front_22 o₃ i.job i.output i.memory plain bad))) (there h) refl)
+        ∙ sym (if_by GainNotFinite bad nan i.job.g.checks (up_to_21 o₃ i.job i.output i.memory) (from_24 o₃ i.job i.output i.memory) plain.no_22 k.0 k.1 (h.earlier ∙ sym (ap first (front_22 o₃ i.job i.output i.memory plain bad))) (there h) refl)
       where
         there : Refused22 o j p i → bad ≡ true
         there h = go bad refl

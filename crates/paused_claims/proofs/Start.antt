@@ -38,7 +38,7 @@ use Rattle.checks.specs.declared.Reason.{Reason}
 -- ---- the field's length
 field_told : (long wanted : ℕ) → first (field_checks long wanted) ≡ unless (not (eqb long wanted)) 26 nan Sound
 unfolding field_checks
-field_told long wanted = first_cons 26 (not (eqb long wanted)) nan [] ∙ ap (unless (not (eqb long wanted)) 26 nan) first_none
+field_told long wanted = first_cons WorkLength (not (eqb long wanted)) nan [] ∙ ap (unless (not (eqb long wanted)) 26 nan) first_none
 
 pub field_sound : (long wanted : ℕ) → Sound ≡ first (field_checks long wanted) → long ≡ wanted
 unfolding field_checks

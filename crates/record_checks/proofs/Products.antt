@@ -34,11 +34,11 @@ module _ (load : List Float) (level : Float) {i : ℕ} (e : i ≡ find (not_fini
   unfolding finite_checks
   product_bad l =
       ap (Refused VectorNotFinite) (sym (scale_at level load i l))
-      ∙ stops_find 17 (scale level load) [] (not_finite_at (scale level load)) (length (scale level load)) found (omega (arith, length_scale level load))
+      ∙ stops_find VectorNotFinite (scale level load) [] (not_finite_at (scale level load)) (length (scale level load)) found (omega (arith, length_scale level load))
 
   pub products_finite : length load ≤ i → Sound ≡ first (finite_checks (scale level load))
   unfolding finite_checks
-  products_finite l = passes_find 17 _ [] (not_finite_at (scale level load)) (length (scale level load)) found (omega (arith, length_scale level load)) ends_sound
+  products_finite l = passes_find VectorNotFinite _ [] (not_finite_at (scale level load)) (length (scale level load)) found (omega (arith, length_scale level load)) ends_sound
 
 -- of one list, then of another
 pub both_finite : (xs ys : List Float) → first (finite_checks xs ++ finite_checks ys) ≡ first (finite_checks (xs ++ ys))

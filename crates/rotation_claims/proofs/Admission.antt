@@ -203,7 +203,7 @@ module _ (h : List Act) (c : Coming) where
   -- 32 of the start itself is of a generator that has a check of that number
   not_32 : before UnitFull c.j.g.checks ≡ c.j.g.checks → {x : Float} → (start_of c).answer ≡ Refused UnitFull x → ⊥
   not_32 g {x} e = elim ((the_start c.o c.j c.output c.memory c.field).only_refused 32 x e) [
-    | inl r ↦ not_by 32 _ (none_32 c.o c.j (length c.output) (length c.memory) g) r
+    | inl r ↦ not_by UnitFull _ (none_32 c.o c.j (length c.output) (length c.memory) g) r
     | inr r ↦ (let z = r.2 in absurd (omega (arith, z)))
   ]
 

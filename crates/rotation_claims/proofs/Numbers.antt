@@ -34,7 +34,7 @@ module _ (o : KrylovPhiOptions) (j : Job) (output memory : ℕ) where
 
   pub none_32 : before UnitFull j.g.checks ≡ j.g.checks → before UnitFull own ≡ own
   unfolding before krylov_checks krylov_checks_by vector_checks_by count_checks time_checks length_checks finite_checks option_checks run_checks magnitude_checks bound_checks memory_checks
-  none_32 h = before_append 32 j.g.checks _ h
+  none_32 h = before_append UnitFull j.g.checks _ h
 
   pub none_23 : before 23 j.g.checks ≡ j.g.checks → before 23 own ≡ own
   unfolding before krylov_checks krylov_checks_by vector_checks_by count_checks time_checks length_checks finite_checks option_checks run_checks magnitude_checks bound_checks memory_checks
@@ -59,11 +59,11 @@ behind_none : (s : PausedRun) (field : ℕ) (i : Input) → before RunEnded i.jo
 unfolding before krylov_checks_by vector_checks_by count_checks time_checks length_checks other_checks finite_checks option_checks run_checks magnitude_checks bound_checks memory_checks field_checks
 behind_none s field i h =
     let j = i.job in
-    ap (before RunEnded) (append_assoc j.g.checks _ (field_checks field (rows j + degree j))) ∙ before_append 31 j.g.checks _ h ∙ sym (append_assoc j.g.checks _ (field_checks field (rows j + degree j)))
+    ap (before RunEnded) (append_assoc j.g.checks _ (field_checks field (rows j + degree j))) ∙ before_append RunEnded j.g.checks _ h ∙ sym (append_assoc j.g.checks _ (field_checks field (rows j + degree j)))
 
 pub only_over : (s : PausedRun) (field : ℕ) (i : Input) → before RunEnded i.job.g.checks ≡ i.job.g.checks → over s ≡ false → (x : Float) → Refused RunEnded x ≡ first (step_checks s field i) → ⊥
 unfolding step_checks
-only_over s field i h e x r = not_by 31 (behind s field i) (behind_none s field i h) (r ∙ first_cons 31 (over s) nan (behind s field i) ∙ ap (λ (b : Bool). unless b 31 nan (first (behind s field i))) e)
+only_over s field i h e x r = not_by RunEnded (behind s field i) (behind_none s field i h) (r ∙ first_cons RunEnded (over s) nan (behind s field i) ∙ ap (λ (b : Bool). unless b 31 nan (first (behind s field i))) e)
 
 -- ---- nor has a substep's answer one of them: it is 27, 28 or 29
 pub verdict_number : (s : PausedRun) (tol : Float) (t : State) (o : Turn State End) → Refuses t o → (k : ℕ) → (k ≡ 0 → ⊥) → (k ≡ 27 → ⊥) → (k ≡ 28 → ⊥) → (k ≡ 29 → ⊥) → number_in (verdict s tol o) ≡ k → ⊥

@@ -20,7 +20,7 @@ module _ (a : Csr) (mass : Mass) where
   refused_shape e = rw (← e) refl
 
   pub passed_shape : {c : Checked} {stored : ℕ} {x : Float} → Sound ≡ c → stored ≡ quotient_need a mass → x ≡ row_sum_norm (transpose (quotients a mass))
-      → Shaped (record { n = a.n; with_mass = false; stored = stored; norm = x }) ≡ shape_answer a mass c
+      → Ok (record { n = a.n; with_mass = false; stored = stored; norm = x }) ≡ shape_answer a mass c
   unfolding shape_answer
   passed_shape e d f = rw (← e, d, f) refl
 
@@ -29,7 +29,7 @@ module _ (a : Csr) (mass : Mass) where
   refused_told (Err r) e = cc
   refused_told (Ok _) e = cc
 
-  pub passed_told : (c : Checked) {g : Shape} → Shaped g ≡ shape_answer a mass c → (Sound ≡ c) × (g ≡ transposed_shape a mass)
+  pub passed_told : (c : Checked) {g : Shape} → Ok g ≡ shape_answer a mass c → (Sound ≡ c) × (g ≡ transposed_shape a mass)
   unfolding shape_answer
   passed_told (Err r) e = (cc, cc)
   passed_told (Ok _) e = (refl, cc)

@@ -8,16 +8,21 @@ ghost use Rattle.combination.specs.Checks.{length_checks, not_finite_at, finite_
 
 use checks::{Checked, Reason, Refusal};
 
-
 // 15 and 16.
 pub fn check_lengths(output: usize, wanted: usize, vectors: usize, expected: usize) -> Checked
     ensures { result ≡ first (length_checks output wanted vectors expected) }
 {
     if output != wanted {
-        return Err(Refusal { reason: Reason::OutputLength, value: float::count(output) });
+        return Err(Refusal {
+            reason: Reason::OutputLength,
+            value: float::count(output),
+        });
     }
     if vectors != expected {
-        return Err(Refusal { reason: Reason::VectorLength, value: float::count(vectors) });
+        return Err(Refusal {
+            reason: Reason::VectorLength,
+            value: float::count(vectors),
+        });
     }
     Ok(())
 }
@@ -39,7 +44,10 @@ pub fn check_finite(w: &[f64]) -> Checked
 {
     let i = first_not_finite(w);
     if i < w.len() {
-        return Err(Refusal { reason: Reason::VectorNotFinite, value: w[i] });
+        return Err(Refusal {
+            reason: Reason::VectorNotFinite,
+            value: w[i],
+        });
     }
     Ok(())
 }
@@ -57,9 +65,7 @@ pub fn validate_combination(
     ensures { (ts os : List Check) → time ≡ first ts → others ≡ first os → result ≡ first (vector_checks_by ts (length_checks output n (length w.now) (count * n) ++ os) count w.now) }
 {
     combination::check_count(count)?;
-    let Ok(()) = time else {
-        return time;
-    };
+    time?;
     combination::and_then(check_lengths(output, n, w.len(), count * n), others)?;
     check_finite(w)
 }

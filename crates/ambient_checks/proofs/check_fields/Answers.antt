@@ -1,5 +1,5 @@
 -- `ambient_checks::check_fields` meets its contract. Assumes nothing.
-use Rattle.checks.proofs.First.{handed, refused_up, sound_on, passes, stops, not_eq, not_ne}
+use Rattle.checks.proofs.First.{passed_on, refused_up, sound_on, passes, stops, not_eq, not_ne}
 use Rattle.combination.specs.Checks.{finite_checks}
 use Rattle.ambient_checks.specs.Log.{field_checks}
 use Rattle.ambient_checks.proofs.check_fields.Goals as goal
@@ -7,7 +7,7 @@ use Rattle.checks.specs.declared.Reason.TheVariants.{VectorLength}
 
 pub returns-in_err-check_lengths : goal.returns-in_err-check_lengths
 unfolding field_checks
-returns-in_err-check_lengths c = rw (handed c.from_residual.ensures.1) (search refused_up)
+returns-in_err-check_lengths c = rw (passed_on c.from_residual.ensures.1) (search refused_up)
 
 pub returns-then-load-n : goal.returns-then-load-n
 unfolding field_checks

@@ -5,7 +5,7 @@ use mathlib.Core.List.{List}
 use Prim.Native.Nat.{ℕ}
 use lib.ListN.{length}
 use lib.Ieee.{Float}
-use Rattle.checks.proofs.First.{handed}
+use Rattle.checks.proofs.First.{passed_on}
 use Rattle.vectors.proofs.Laws.{length_scale}
 use Rattle.ambient_checks.specs.Inner.{field_of}
 use Rattle.ambient_record.proofs.OneRecord.{spliced_long, record_refused, record_not_admitted, record_fits, record_runs, record_is}
@@ -18,7 +18,7 @@ either false n field out e f = f
 
 pub returns-in_err-check_record : goal.returns-in_err-check_record
 returns-in_err-check_record c gs sound =
-    rw (handed c.from_residual.ensures.1)
+    rw (passed_on c.from_residual.ensures.1)
     (let v : List Float = field_of c.args.initial c.args.field.now c.args.out.now in
     let long : length v ≡ c.args.g.n = either c.args.initial c.args.g.n c.args.field.now c.args.out.now c.requires.field_len.0 c.requires.field_len.2 in
     let a = c.args in
@@ -27,7 +27,7 @@ returns-in_err-check_record c gs sound =
 
 pub returns-in_err-j.checked : goal.returns-in_err-j.checked
 returns-in_err-j.checked c gs sound =
-    rw (handed c.from_residual-in_err-j.checked.ensures.1)
+    rw (passed_on c.from_residual-in_err-j.checked.ensures.1)
     (let v : List Float = field_of c.args.initial c.args.field.now c.args.out.now in
     let long : length v ≡ c.args.g.n = either c.args.initial c.args.g.n c.args.field.now c.args.out.now c.requires.field_len.0 c.requires.field_len.2 in
     let a = c.args in

@@ -3,7 +3,6 @@ use mathlib.Core.Path.{refl}
 use Rattle.krylov_advance.specs.Run.{scaled_back, back}
 use Rattle.krylov_advance.specs.Memory.{end_at}
 use Rattle.expv.proofs.relative.Goals as goal
-use Rattle.checks.specs.Reasons.{Refused}
 
 pub returns-in-Finished : goal.returns-in-Finished
 unfolding scaled_back back end_at

@@ -3,7 +3,6 @@ use mathlib.Core.Path.{refl}
 use Rattle.krylov_advance.specs.Run.{spent}
 use Rattle.krylov_advance.specs.Memory.{progress_at, end_at}
 use Rattle.expv.proofs.spent.Goals as goal
-use Rattle.checks.specs.Reasons.{Refused}
 
 pub returns-in-On : goal.returns-in-On
 unfolding spent progress_at end_at

@@ -2,7 +2,7 @@
 use borrow.Author.Rules.{rules}
 use native.Mathlib.Omega.{arith}
 use mathlib.Core.Path.{sym, ◌∙◌}
-use Rattle.checks.proofs.First.{handed}
+use Rattle.checks.proofs.First.{passed_on}
 use Rattle.general_operator.proofs.Sound.{sound_valid, sound_finite}
 use Rattle.generator_action.specs.Mass.{quotients, bound_checks, generator_checks}
 use Rattle.generator_action.proofs.Ways.{answered_up, answered_on, answer_is, mass_sound}
@@ -14,7 +14,7 @@ validate_csr-requires c = tt
 pub returns-in_err-validate_csr : goal.returns-in_err-validate_csr
 unfolding generator_checks
 returns-in_err-validate_csr c =
-    rw (handed c.from_residual.ensures.1)
+    rw (passed_on c.from_residual.ensures.1)
     (answer_is _ _ (answered_up _ _ (c.in_err-validate_csr.was) c.validate_csr.ensures))
 
 pub check_mass-requires : goal.check_mass-requires
@@ -23,7 +23,7 @@ check_mass-requires c = omega (arith, (sound_valid _ (sym c.in_ok-validate_csr.w
 pub returns-in_err-check_mass : goal.returns-in_err-check_mass
 unfolding generator_checks bound_checks quotients
 returns-in_err-check_mass c =
-    rw (handed c.from_residual-in_err-check_mass.ensures.1)
+    rw (passed_on c.from_residual-in_err-check_mass.ensures.1)
     (rw c.if-with_mass.true
     (answer_is _ _ (answered_on _ c.in_ok-validate_csr.was c.validate_csr.ensures (answered_up _ _ (c.in_err-check_mass.was) (c.check_mass.ensures _ _)))))
 

@@ -3,14 +3,14 @@ use native.Mathlib.Omega.{arith}
 use mathlib.Core.Path.{sym, ap, ◌∙◌}
 use Prim.Native.Nat.{ℕ}
 use Rattle.checks.specs.First.{first}
-use Rattle.checks.proofs.First.{handed, refused_up, sound_on}
+use Rattle.checks.proofs.First.{passed_on, refused_up, sound_on}
 use Rattle.krylov_job.specs.KrylovCall.{dimension, option_checks}
 use Rattle.krylov_job.proofs.Calls.{alone_told, vectors_alone}
 use Rattle.krylov_job.proofs.check_job.Goals as goal
 
 pub returns-in_err-validate_combination : goal.returns-in_err-validate_combination
 returns-in_err-validate_combination c os e =
-    rw (handed c.from_residual.ensures.1)
+    rw (passed_on c.from_residual.ensures.1)
     (refused_up _ _ c.in_err-validate_combination.was (c.validate_combination.ensures _ os c.check_time-time.ensures e))
 
 pub overflow_sub-count : goal.overflow_sub-count

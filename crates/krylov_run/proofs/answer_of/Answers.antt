@@ -2,7 +2,6 @@
 use mathlib.Core.Path.{refl}
 use Rattle.krylov_job.specs.Inner.{answer_of}
 use Rattle.krylov_run.proofs.answer_of.Goals as goal
-use Rattle.checks.specs.Reasons.{Refused}
 
 pub returns-in-Finished : goal.returns-in-Finished
 unfolding answer_of

@@ -4,7 +4,6 @@ use borrow.Author.Tests.{lt-ltb, le-ltb}
 use Rattle.paused_run.specs.Paused.{verdict}
 use Rattle.paused_run.specs.Inner.{turned}
 use Rattle.paused_run.proofs.verdict.Goals as goal
-use Rattle.checks.specs.Reasons.{Refused}
 
 pub returns-then-r-run : goal.returns-then-r-run
 unfolding verdict turned

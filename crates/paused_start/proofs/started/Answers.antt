@@ -4,13 +4,13 @@ use mathlib.Core.Path.{ap}
 use mathlib.Core.List.{[]}
 use Rattle.krylov_job.specs.declared.RunJob.{RunJob}
 use Rattle.krylov_job.proofs.Calls.{known}
-use Rattle.checks.proofs.First.{handed, ends_sound}
+use Rattle.checks.proofs.First.{passed_on, ends_sound}
 use Rattle.paused_start.proofs.Starts.{refused_job, refused_field, begins, out_long, started_is}
 use Rattle.paused_start.proofs.started.Goals as goal
 
 pub returns-in_err-j.checked : goal.returns-in_err-j.checked
 returns-in_err-j.checked c gs starts cols vals mass sound ok =
-    rw (handed c.from_residual.ensures.1)
+    rw (passed_on c.from_residual.ensures.1)
     (let a = c.args in
     let refusal = c.in_err-j.checked.was in
     refused_job mass ok gs sound a.tau a.count a.w.now a.o a.out.now a.work.now a.field.now (c.admit_job-j.ensures [] ends_sound) refusal)

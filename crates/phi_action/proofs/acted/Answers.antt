@@ -2,13 +2,13 @@
 use mathlib.Core.Path.{refl, ap, ◌∙◌}
 use lib.ListN.{length}
 use Rattle.lists.proofs.Window.{length_splice}
-use Rattle.checks.proofs.First.{handed}
+use Rattle.checks.proofs.First.{passed_on}
 use Rattle.phi_combination.proofs.Calls.{known_action, allowed_action, runs_action, field_fits, refused_action, acted_is}
 use Rattle.phi_action.proofs.acted.Goals as goal
 
 pub returns-in_err-j.checked : goal.returns-in_err-j.checked
 returns-in_err-j.checked c gs sound =
-    rw (handed c.from_residual.ensures.1)
+    rw (passed_on c.from_residual.ensures.1)
     (let refusal = c.in_err-j.checked.was in
     search (refused_action c.args.mass.now c.requires gs sound))
 

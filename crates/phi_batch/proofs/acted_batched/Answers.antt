@@ -4,14 +4,14 @@ use native.Mathlib.Numerals.{add-one}
 use Prim.Native.Nat.{◌+◌}
 use mathlib.Core.Path.{refl}
 use Rattle.lists.proofs.Bounds.{product_within}
-use Rattle.checks.proofs.First.{handed}
+use Rattle.checks.proofs.First.{passed_on}
 use Rattle.taylor_schedule.proofs.Admitted.{index_known}
 use Rattle.phi_combination.proofs.Calls.{known_action, runs_batch, refused_index, refused_batch, batch_is}
 use Rattle.phi_batch.proofs.acted_batched.Goals as goal
 
 pub returns-in_err-check_index : goal.returns-in_err-check_index
 returns-in_err-check_index c gs sound =
-    rw (handed c.from_residual.ensures.1)
+    rw (passed_on c.from_residual.ensures.1)
     (let refusal = c.in_err-check_index.was in
     search (refused_index c.args.mass.now c.requires gs sound))
 
@@ -25,7 +25,7 @@ overflow_mul-count c =
 
 pub returns-in_err-j.checked : goal.returns-in_err-j.checked
 returns-in_err-j.checked c gs sound =
-    rw (handed c.from_residual-in_err-j.checked.ensures.1)
+    rw (passed_on c.from_residual-in_err-j.checked.ensures.1)
     (let a = c.args in
     let refusal = c.in_err-j.checked.was in
     refused_batch a.mass.now c.requires gs sound a.tau a.cap a.p a.v.now a.out.now a.work.now _ (add-one a.p) c.admit_action-j.ensures refusal)

@@ -5,7 +5,7 @@ use mathlib.Core.List.{[]}
 use Prim.Native.Nat.{◌-◌}
 use lib.ListN.{length}
 use Rattle.lists.proofs.Window.{length_splice}
-use Rattle.checks.proofs.First.{handed, ends_sound}
+use Rattle.checks.proofs.First.{passed_on, ends_sound}
 use Rattle.taylor_schedule.proofs.Admitted.{vectors_known, of_one_slice, further_within, first_within}
 use Rattle.combination.proofs.Further.{part_further, length_further}
 use Rattle.phi_combination.proofs.Calls.{allowed_combination, runs_combination, field_fits, refused_vectors, refused_sweeps, ran, combined_is}
@@ -13,7 +13,7 @@ use Rattle.phi_combination.proofs.combined.Goals as goal
 
 pub returns-in_err-validate_combination : goal.returns-in_err-validate_combination
 returns-in_err-validate_combination c gs sound =
-    rw (handed c.from_residual.ensures.1)
+    rw (passed_on c.from_residual.ensures.1)
     (let told = of_one_slice c.args.g.n _ c.args.count c.args.w.now _ (c.validate_combination.ensures _ [] c.check_plan-time.ensures ends_sound) in
     let refusal = c.in_err-validate_combination.was in
     refused_vectors c.args.mass.now c.requires gs sound c.args.tau c.args.cap c.args.count c.args.w.now c.args.out.now c.args.work.now told refusal)
@@ -39,7 +39,7 @@ admit_combination-j-requires c =
 
 pub returns-in_err-j.checked : goal.returns-in_err-j.checked
 returns-in_err-j.checked c gs sound =
-    rw (handed c.from_residual-in_err-j.checked.ensures.1)
+    rw (passed_on c.from_residual-in_err-j.checked.ensures.1)
     (let a = c.args in
     let told = of_one_slice c.args.g.n _ c.args.count c.args.w.now _ (c.validate_combination.ensures _ [] c.check_plan-time.ensures ends_sound) in
     let admitted = rw part_further at c.admit_combination-j.ensures in

@@ -3,14 +3,14 @@ use mathlib.Core.Path.{ap, ◌∙◌}
 use mathlib.Core.List.{[]}
 use lib.ListN.{length}
 use Rattle.lists.proofs.Window.{length_splice}
-use Rattle.checks.proofs.First.{handed, ends_sound}
+use Rattle.checks.proofs.First.{passed_on, ends_sound}
 use Rattle.combination.proofs.Further.{part_further}
 use Rattle.krylov_job.proofs.Calls.{refused_run, start_fits, runs_job, combined_is}
 use Rattle.phi_krylov.proofs.combined.Goals as goal
 
 pub returns-in_err-j.checked : goal.returns-in_err-j.checked
 returns-in_err-j.checked c gs sound =
-    rw (handed c.from_residual.ensures.1)
+    rw (passed_on c.from_residual.ensures.1)
     (let a = c.args in
     let refusal = c.in_err-j.checked.was in
     refused_run a.mass.now c.requires gs sound a.tau a.count a.w.now a.o a.out.now a.work.now (c.admit_job-j.ensures [] ends_sound) refusal)

@@ -6,7 +6,7 @@ use Prim.Native.Nat.{ℕ, ◌-◌}
 use lib.ListN.{length}
 use Rattle.lists.proofs.Window.{length_splice}
 use Rattle.checks.specs.First.{first}
-use Rattle.checks.proofs.First.{handed}
+use Rattle.checks.proofs.First.{passed_on}
 use Rattle.combination.specs.Checks.{finite_checks}
 use Rattle.krylov_job.specs.KrylovCall.{dimension, option_checks}
 use Rattle.schedule_checks.specs.Inner.{field_of}
@@ -16,7 +16,7 @@ use Rattle.stage_calls.proofs.krylov_stage.Goals as goal
 pub returns-in_err-and_then : goal.returns-in_err-and_then
 unfolding dimension
 returns-in_err-and_then c gs sound =
-    rw (handed c.from_residual.ensures.1)
+    rw (passed_on c.from_residual.ensures.1)
     (let told : let a = c.args in c.and_then.result ≡ first (finite_checks ((field_of a.initial a.start.now a.out.now) ++ a.vectors.now) ++ option_checks a.o (dimension a.g.n (a.count - 1) a.o.m)) = let a = c.args in
     c.and_then.ensures _ _ c.check_field-finite.ensures (c.check_options.ensures ∙ ap (λ (m : ℕ). first (option_checks a.o m)) c.clamp_m-m.ensures) in
     let a = c.args in
@@ -36,7 +36,7 @@ admit_run-j-requires c =
 pub returns-in_err-j.checked : goal.returns-in_err-j.checked
 unfolding dimension
 returns-in_err-j.checked c gs sound =
-    rw (handed c.from_residual-in_err-j.checked.ensures.1)
+    rw (passed_on c.from_residual-in_err-j.checked.ensures.1)
     (let told : let a = c.args in c.and_then.result ≡ first (finite_checks ((field_of a.initial a.start.now a.out.now) ++ a.vectors.now) ++ option_checks a.o (dimension a.g.n (a.count - 1) a.o.m)) = let a = c.args in
     c.and_then.ensures _ _ c.check_field-finite.ensures (c.check_options.ensures ∙ ap (λ (m : ℕ). first (option_checks a.o m)) c.clamp_m-m.ensures) in
     let a = c.args in

@@ -4,7 +4,7 @@ use mathlib.Core.Path.{◌≡◌, refl, ap, ◌∙◌}
 use Prim.Native.Nat.{ℕ}
 use lib.ListN.{length}
 use Rattle.checks.specs.First.{first}
-use Rattle.checks.proofs.First.{handed}
+use Rattle.checks.proofs.First.{passed_on}
 use Rattle.general_operator.specs.Csr.{csr}
 use Rattle.generator_action.specs.Mass.{given}
 use Rattle.taylor_schedule.proofs.Stored.{quotients_rows}
@@ -16,7 +16,7 @@ use Rattle.stage_calls.proofs.run_stage.Goals as goal
 
 pub returns-in_err-check_stage : goal.returns-in_err-check_stage
 returns-in_err-check_stage c gs sound =
-    rw (handed c.from_residual.ensures.1)
+    rw (passed_on c.from_residual.ensures.1)
     (let told : let a = c.args in c.check_stage.result ≡ first (stage_checks a.g.n a.s a.last (length a.out.now) (length (field_of a.initial a.start.now a.out.now)) a.used (length a.further.now)) = let a = c.args in
     c.check_stage.ensures ∙ ap (λ (l : ℕ). first (stage_checks a.g.n a.s a.last (length a.out.now) l a.used (length a.further.now))) (c.field_length-field.ensures a.start.now a.out.now refl refl) in
     let a = c.args in

@@ -2,21 +2,21 @@
 use mathlib.Core.Path.{ap, ◌∙◌}
 use lib.ListN.{length}
 use Rattle.lists.proofs.Window.{length_splice}
-use Rattle.checks.proofs.First.{handed}
+use Rattle.checks.proofs.First.{passed_on}
 use Rattle.schedule_checks.specs.Inner.{field_of}
 use Rattle.stage_calls.proofs.OneStage.{taylor_fits, taylor_runs, taylor_refused, taylor_not_admitted, taylor_is}
 use Rattle.stage_calls.proofs.taylor_stage.Goals as goal
 
 pub returns-in_err-check_field : goal.returns-in_err-check_field
 returns-in_err-check_field c gs sound =
-    rw (handed c.from_residual.ensures.1)
+    rw (passed_on c.from_residual.ensures.1)
     (let a = c.args in
     let refusal = c.in_err-check_field.was in
     taylor_refused a.mass.now c.requires.passed a.tau a.count (field_of a.initial a.start.now a.out.now) a.vectors.now a.out.now a.work.now c.requires.whole.0 a.cap gs sound c.requires.whole.1 c.check_field.ensures refusal)
 
 pub returns-in_err-j.checked : goal.returns-in_err-j.checked
 returns-in_err-j.checked c gs sound =
-    rw (handed c.from_residual-in_err-j.checked.ensures.1)
+    rw (passed_on c.from_residual-in_err-j.checked.ensures.1)
     (let a = c.args in
     let refusal = c.in_err-j.checked.was in
     taylor_not_admitted a.mass.now c.requires.passed a.tau a.count (field_of a.initial a.start.now a.out.now) a.vectors.now a.out.now a.work.now c.requires.whole.0 a.cap gs sound c.requires.whole.1 c.check_field.ensures c.in_ok-check_field.was c.admit_combination-j.ensures refusal)

@@ -2,13 +2,13 @@
 use mathlib.Core.Path.{ap, ◌∙◌}
 use lib.ListN.{length}
 use Rattle.lists.proofs.Window.{length_splice}
-use Rattle.checks.proofs.First.{handed}
+use Rattle.checks.proofs.First.{passed_on}
 use Rattle.taylor_plan.proofs.Plans.{admitted_known, refused_is, planned_is}
 use Rattle.taylor_plan.proofs.planned.Goals as goal
 
 pub returns-in_err-row.checked : goal.returns-in_err-row.checked
 returns-in_err-row.checked c gs sound =
-    rw (handed c.from_residual.ensures.1)
+    rw (passed_on c.from_residual.ensures.1)
     (let refusal = c.in_err-row.checked.was in
     refused_is c.args.mass.now c.requires c.args.work.now gs sound c.args.tau c.args.cap c.admit_plan-row.ensures refusal)
 

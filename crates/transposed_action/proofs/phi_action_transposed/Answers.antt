@@ -9,6 +9,7 @@ use Rattle.generator_action.specs.Mass.{Mass, given}
 use Rattle.generator_action.specs.Generator.{Generator}
 use Rattle.transpose.specs.Transpose.{Buffers, buffers, lengths, transposed}
 use Rattle.transposed.specs.Transposed.{phi_action_transposed}
+use Rattle.checks.proofs.First.{passed_on}
 use Rattle.transposed.proofs.Fronts.{over_refusal, Handed, handed, rows_few, starts_fit, columns_fit, values_fit, front_passed, over_fronts}
 use Rattle.transposed_action.proofs.phi_action_transposed.Goals as goal
 
@@ -17,7 +18,7 @@ overflow_add-q_rows c =
     let a : Csr = csr c.args.n c.args.starts.now c.args.cols.now c.args.vals.now in
     let m : Mass = given c.args.with_mass c.args.mass.now in
     let b : Buffers = buffers c.args.t_starts.now c.args.t_cols.now c.args.t_vals.now in
-    let known : Handed a m b c.transposed_shape-shape.new.t_starts c.transposed_shape-shape.new.t_cols c.transposed_shape-shape.new.t_vals c.in-Passed.g = handed a m b (c.transposed_shape-shape.ensures.value, c.transposed_shape-shape.ensures.t_vals_after) c.in-Passed.is in
+    let known : Handed a m b c.transposed_shape.new.t_starts c.transposed_shape.new.t_cols c.transposed_shape.new.t_vals c.in_ok-g.field-0 = handed a m b (c.transposed_shape.ensures.value, c.transposed_shape.ensures.t_vals_after) c.in_ok-g.was in
     omega (arith, rows_few known)
 
 pub slice_bounds-q_rows-end : goal.slice_bounds-q_rows-end
@@ -25,15 +26,15 @@ slice_bounds-q_rows-end c =
     let a : Csr = csr c.args.n c.args.starts.now c.args.cols.now c.args.vals.now in
     let m : Mass = given c.args.with_mass c.args.mass.now in
     let b : Buffers = buffers c.args.t_starts.now c.args.t_cols.now c.args.t_vals.now in
-    let known : Handed a m b c.transposed_shape-shape.new.t_starts c.transposed_shape-shape.new.t_cols c.transposed_shape-shape.new.t_vals c.in-Passed.g = handed a m b (c.transposed_shape-shape.ensures.value, c.transposed_shape-shape.ensures.t_vals_after) c.in-Passed.is in
+    let known : Handed a m b c.transposed_shape.new.t_starts c.transposed_shape.new.t_cols c.transposed_shape.new.t_vals c.in_ok-g.field-0 = handed a m b (c.transposed_shape.ensures.value, c.transposed_shape.ensures.t_vals_after) c.in_ok-g.was in
     starts_fit known
 
-pub slice_bounds-q_rows-end-in-Passed : goal.slice_bounds-q_rows-end-in-Passed
-slice_bounds-q_rows-end-in-Passed c =
+pub slice_bounds-q_rows-end-2 : goal.slice_bounds-q_rows-end-2
+slice_bounds-q_rows-end-2 c =
     let a : Csr = csr c.args.n c.args.starts.now c.args.cols.now c.args.vals.now in
     let m : Mass = given c.args.with_mass c.args.mass.now in
     let b : Buffers = buffers c.args.t_starts.now c.args.t_cols.now c.args.t_vals.now in
-    let known : Handed a m b c.transposed_shape-shape.new.t_starts c.transposed_shape-shape.new.t_cols c.transposed_shape-shape.new.t_vals c.in-Passed.g = handed a m b (c.transposed_shape-shape.ensures.value, c.transposed_shape-shape.ensures.t_vals_after) c.in-Passed.is in
+    let known : Handed a m b c.transposed_shape.new.t_starts c.transposed_shape.new.t_cols c.transposed_shape.new.t_vals c.in_ok-g.field-0 = handed a m b (c.transposed_shape.ensures.value, c.transposed_shape.ensures.t_vals_after) c.in_ok-g.was in
     sym (length-take-le _ _ (starts_fit known))
 
 pub slice_bounds-q_cols-end : goal.slice_bounds-q_cols-end
@@ -41,15 +42,15 @@ slice_bounds-q_cols-end c =
     let a : Csr = csr c.args.n c.args.starts.now c.args.cols.now c.args.vals.now in
     let m : Mass = given c.args.with_mass c.args.mass.now in
     let b : Buffers = buffers c.args.t_starts.now c.args.t_cols.now c.args.t_vals.now in
-    let known : Handed a m b c.transposed_shape-shape.new.t_starts c.transposed_shape-shape.new.t_cols c.transposed_shape-shape.new.t_vals c.in-Passed.g = handed a m b (c.transposed_shape-shape.ensures.value, c.transposed_shape-shape.ensures.t_vals_after) c.in-Passed.is in
+    let known : Handed a m b c.transposed_shape.new.t_starts c.transposed_shape.new.t_cols c.transposed_shape.new.t_vals c.in_ok-g.field-0 = handed a m b (c.transposed_shape.ensures.value, c.transposed_shape.ensures.t_vals_after) c.in_ok-g.was in
     columns_fit known
 
-pub slice_bounds-q_cols-end-in-Passed : goal.slice_bounds-q_cols-end-in-Passed
-slice_bounds-q_cols-end-in-Passed c =
+pub slice_bounds-q_cols-end-2 : goal.slice_bounds-q_cols-end-2
+slice_bounds-q_cols-end-2 c =
     let a : Csr = csr c.args.n c.args.starts.now c.args.cols.now c.args.vals.now in
     let m : Mass = given c.args.with_mass c.args.mass.now in
     let b : Buffers = buffers c.args.t_starts.now c.args.t_cols.now c.args.t_vals.now in
-    let known : Handed a m b c.transposed_shape-shape.new.t_starts c.transposed_shape-shape.new.t_cols c.transposed_shape-shape.new.t_vals c.in-Passed.g = handed a m b (c.transposed_shape-shape.ensures.value, c.transposed_shape-shape.ensures.t_vals_after) c.in-Passed.is in
+    let known : Handed a m b c.transposed_shape.new.t_starts c.transposed_shape.new.t_cols c.transposed_shape.new.t_vals c.in_ok-g.field-0 = handed a m b (c.transposed_shape.ensures.value, c.transposed_shape.ensures.t_vals_after) c.in_ok-g.was in
     sym (length-take-le _ _ (columns_fit known))
 
 pub slice_bounds-q_vals-end : goal.slice_bounds-q_vals-end
@@ -57,15 +58,15 @@ slice_bounds-q_vals-end c =
     let a : Csr = csr c.args.n c.args.starts.now c.args.cols.now c.args.vals.now in
     let m : Mass = given c.args.with_mass c.args.mass.now in
     let b : Buffers = buffers c.args.t_starts.now c.args.t_cols.now c.args.t_vals.now in
-    let known : Handed a m b c.transposed_shape-shape.new.t_starts c.transposed_shape-shape.new.t_cols c.transposed_shape-shape.new.t_vals c.in-Passed.g = handed a m b (c.transposed_shape-shape.ensures.value, c.transposed_shape-shape.ensures.t_vals_after) c.in-Passed.is in
+    let known : Handed a m b c.transposed_shape.new.t_starts c.transposed_shape.new.t_cols c.transposed_shape.new.t_vals c.in_ok-g.field-0 = handed a m b (c.transposed_shape.ensures.value, c.transposed_shape.ensures.t_vals_after) c.in_ok-g.was in
     values_fit known
 
-pub slice_bounds-q_vals-end-in-Passed : goal.slice_bounds-q_vals-end-in-Passed
-slice_bounds-q_vals-end-in-Passed c =
+pub slice_bounds-q_vals-end-2 : goal.slice_bounds-q_vals-end-2
+slice_bounds-q_vals-end-2 c =
     let a : Csr = csr c.args.n c.args.starts.now c.args.cols.now c.args.vals.now in
     let m : Mass = given c.args.with_mass c.args.mass.now in
     let b : Buffers = buffers c.args.t_starts.now c.args.t_cols.now c.args.t_vals.now in
-    let known : Handed a m b c.transposed_shape-shape.new.t_starts c.transposed_shape-shape.new.t_cols c.transposed_shape-shape.new.t_vals c.in-Passed.g = handed a m b (c.transposed_shape-shape.ensures.value, c.transposed_shape-shape.ensures.t_vals_after) c.in-Passed.is in
+    let known : Handed a m b c.transposed_shape.new.t_starts c.transposed_shape.new.t_cols c.transposed_shape.new.t_vals c.in_ok-g.field-0 = handed a m b (c.transposed_shape.ensures.value, c.transposed_shape.ensures.t_vals_after) c.in_ok-g.was in
     sym (length-take-le _ _ (values_fit known))
 
 pub acted-requires : goal.acted-requires
@@ -73,25 +74,26 @@ acted-requires c =
     let a : Csr = csr c.args.n c.args.starts.now c.args.cols.now c.args.vals.now in
     let m : Mass = given c.args.with_mass c.args.mass.now in
     let b : Buffers = buffers c.args.t_starts.now c.args.t_cols.now c.args.t_vals.now in
-    let known : Handed a m b c.transposed_shape-shape.new.t_starts c.transposed_shape-shape.new.t_cols c.transposed_shape-shape.new.t_vals c.in-Passed.g = handed a m b (c.transposed_shape-shape.ensures.value, c.transposed_shape-shape.ensures.t_vals_after) c.in-Passed.is in
+    let known : Handed a m b c.transposed_shape.new.t_starts c.transposed_shape.new.t_cols c.transposed_shape.new.t_vals c.in_ok-g.field-0 = handed a m b (c.transposed_shape.ensures.value, c.transposed_shape.ensures.t_vals_after) c.in_ok-g.was in
     front_passed known _
 
-pub returns-in-Refusal : goal.returns-in-Refusal
+pub returns-in_err-g : goal.returns-in_err-g
 unfolding phi_action_transposed
-returns-in-Refusal c =
+returns-in_err-g c =
     let a : Csr = csr c.args.n c.args.starts.now c.args.cols.now c.args.vals.now in
     let m : Mass = given c.args.with_mass c.args.mass.now in
     let b : Buffers = buffers c.args.t_starts.now c.args.t_cols.now c.args.t_vals.now in
     let g = transposed a m (lengths b) in
     let x = c.args in
-    over_refusal a m b (c.transposed_shape-shape.ensures.value, c.transposed_shape-shape.ensures.t_vals_after) c.in-Refusal.is (λ e. action_refused g x.tau x.cap x.out.now x.work.now e x.k x.v.now)
+    rw (passed_on c.from_residual.ensures.1)
+    (over_refusal a m b (c.transposed_shape.ensures.value, c.transposed_shape.ensures.t_vals_after) c.in_err-g.was (λ e. action_refused g x.tau x.cap x.out.now x.work.now e x.k x.v.now))
 
-pub returns-in-Passed : goal.returns-in-Passed
+pub returns : goal.returns
 unfolding phi_action_transposed
-returns-in-Passed c =
+returns c =
     let a : Csr = csr c.args.n c.args.starts.now c.args.cols.now c.args.vals.now in
     let m : Mass = given c.args.with_mass c.args.mass.now in
     let b : Buffers = buffers c.args.t_starts.now c.args.t_cols.now c.args.t_vals.now in
-    let known : Handed a m b c.transposed_shape-shape.new.t_starts c.transposed_shape-shape.new.t_cols c.transposed_shape-shape.new.t_vals c.in-Passed.g = handed a m b (c.transposed_shape-shape.ensures.value, c.transposed_shape-shape.ensures.t_vals_after) c.in-Passed.is in
+    let known : Handed a m b c.transposed_shape.new.t_starts c.transposed_shape.new.t_cols c.transposed_shape.new.t_vals c.in_ok-g.field-0 = handed a m b (c.transposed_shape.ensures.value, c.transposed_shape.ensures.t_vals_after) c.in_ok-g.was in
     let x = c.args in
     over_fronts known (λ (g : Generator). phi_action g x.tau x.cap x.k x.v.now x.out.now x.work.now) _ (c.acted.ensures _ known.sound)

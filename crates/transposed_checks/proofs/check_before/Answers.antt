@@ -2,7 +2,7 @@
 use borrow.Author.Rules.{rules}
 use mathlib.Core.Path.{refl}
 use Rattle.transpose.proofs.Ways.{forward_refused, forward_passed}
-use Rattle.checks.proofs.First.{handed}
+use Rattle.checks.proofs.First.{passed_on}
 use Rattle.transposed_checks.proofs.check_before.Goals as goal
 
 pub check_forward-requires : goal.check_forward-requires
@@ -10,7 +10,7 @@ check_forward-requires c = tt
 
 pub returns-in_err-check_forward : goal.returns-in_err-check_forward
 returns-in_err-check_forward c =
-    rw (handed c.from_residual.ensures.1)
+    rw (passed_on c.from_residual.ensures.1)
     (forward_refused _ _ _ c.check_forward.ensures (c.in_err-check_forward.was))
 
 pub returns : goal.returns

@@ -3,7 +3,7 @@ use borrow.Author.Rules.{rules}
 use native.Mathlib.Omega.{arith}
 use mathlib.Core.Path.{sym}
 use lib.Seq.{length-take-le}
-use Rattle.checks.proofs.First.{handed}
+use Rattle.checks.proofs.First.{passed_on}
 use Rattle.general_operator.specs.Csr.{Csr, csr}
 use Rattle.generator_action.specs.Mass.{Mass, given}
 use Rattle.transpose.specs.Transpose.{Buffers, buffers, lengths}
@@ -13,7 +13,7 @@ use Rattle.transposed_checks.proofs.check_transposed.Goals as goal
 
 pub returns-in_err-check_before : goal.returns-in_err-check_before
 returns-in_err-check_before c =
-    rw (handed c.from_residual.ensures.1)
+    rw (passed_on c.from_residual.ensures.1)
     (let a : Csr = csr c.args.n c.args.starts.now c.args.cols.now c.args.vals.now in
     let m : Mass = given c.args.with_mass c.args.mass.now in
     let b : Buffers = buffers c.args.t_starts.now c.args.t_cols.now c.args.t_vals.now in
