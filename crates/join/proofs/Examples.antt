@@ -3,6 +3,7 @@ use mathlib.Core.Path.{◌≡◌, refl}
 use mathlib.Core.List.{[], ◌∷◌}
 use lib.ListN.{replicate}
 use lib.Ieee.{nan}
+use Rattle.std.specs.Prelude.{Ok}
 use Rattle.doubles.specs.F64.{bits, +0, 1f, 2f, +∞}
 use Rattle.general_operator.specs.Csr.{Csr, csr}
 use Rattle.join_rows.specs.Join.{join, join_call, open_join}

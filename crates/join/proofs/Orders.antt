@@ -2,6 +2,7 @@
 use mathlib.Core.Path.{◌≡◌, refl}
 use mathlib.Core.List.{[], ◌∷◌, map}
 use lib.Ieee.{nan}
+use Rattle.std.specs.Prelude.{Ok}
 use Rattle.checks.specs.First.{Check}
 use Rattle.checks.specs.Reasons.{number}
 use Rattle.doubles.specs.F64.{bits, +0, 1f, 2f}

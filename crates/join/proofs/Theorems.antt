@@ -22,13 +22,14 @@ use Rattle.lists.proofs.Places.{places_found, spot}
 use Rattle.lists.proofs.Window.{window_splice_same}
 use Rattle.doubles.specs.F64.{◌⊕◌, at, is_finite}
 use Rattle.checks.specs.First.{first}
-use Rattle.checks.proofs.First.{passes, sound_cons, sound_append}
+use Rattle.checks.proofs.First.{ok_is, passes, sound_cons, sound_append}
 use Rattle.checks.specs.First.{Checked}
 use Rattle.general_operator.specs.Csr.{Csr, csr, start, Valid}
 use Rattle.general_operator.specs.Checks.{matrix_checks}
 use Rattle.general_operator.proofs.Sound.{or_false}
 use Rattle.general_operator.proofs.Rows.{start_le}
 use Rattle.generator_action.specs.Known.{Finite}
+use Rattle.join_rows.specs.Join.{JoinAnswer}
 use Rattle.join_rows.specs.declared.Lengths.{Lengths}
 use Rattle.join_rows.specs.Join.{place, holds, value, joined_columns, joined_value, join, unordered, not_rising, input_checks, value_checks, pair_checks, result_checks, join_checks, written, join_call, Call, ends}
 use Rattle.join_rows.specs.Inner.{Ordered, Fitting}
@@ -237,8 +238,8 @@ module _ (a b : Csr) (s cs : List ℕ) (vs : List Float) where
       let n : length (join a b).entries ≡ k = joined_same (sym (ap (λ (r : Call). r.answer) t) ∙ d) in
       rw t (whole k n (result_n a b lengths e) f v)
     where
-      joined_same : {m k : ℕ} → Ok m ≡ Ok k → m ≡ k
-      joined_same e = cc
+      joined_same : {m k : ℕ} → ◌≡◌ {A = JoinAnswer} (Ok m) (Ok k) → m ≡ k
+      joined_same e = ok_is e
 
       whole : (k : ℕ) → length (join a b).entries ≡ k → (join a b).n ≡ a.n → Fitting (join a b) lengths → Valid (join a b)
           → csr a.n (window 0 (a.n + 1) (splice 0 (join a b).starts s)) (window 0 k (splice 0 (join a b).columns cs)) (window 0 k (splice 0 (join a b).entries vs)) ≡ join a b

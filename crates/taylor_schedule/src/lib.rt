@@ -16,10 +16,16 @@ fn check_argument(arg: f64, no_row: bool) -> Checked
     ensures { result ≡ first (argument_checks arg no_row) }
 {
     if !float::is_finite(arg) {
-        return Err(Refusal { reason: Reason::ArgumentNotFinite, value: arg });
+        return Err(Refusal {
+            reason: Reason::ArgumentNotFinite,
+            value: arg,
+        });
     }
     if no_row {
-        return Err(Refusal { reason: Reason::NoAdmissibleRow, value: arg });
+        return Err(Refusal {
+            reason: Reason::NoAdmissibleRow,
+            value: arg,
+        });
     }
     Ok(())
 }

@@ -89,10 +89,16 @@ fn check_magnitude(sum: f64, gains: [f64; 3], d: usize, eta: f64) -> Checked
     ensures { result ≡ first (power_checks sum gains d eta) }
 {
     if !float::is_finite(sum) {
-        return Err(Refusal { reason: Reason::MagnitudeNotFinite, value: sum });
+        return Err(Refusal {
+            reason: Reason::MagnitudeNotFinite,
+            value: sum,
+        });
     }
     if first_bad_gain(gains, d, eta) < d {
-        return Err(Refusal { reason: Reason::GainNotFinite, value: float::not_a_number() });
+        return Err(Refusal {
+            reason: Reason::GainNotFinite,
+            value: float::not_a_number(),
+        });
     }
     Ok(())
 }
