@@ -59,7 +59,10 @@ fn spent(o: Progress) -> RunAnswer
 {
     match o {
         Progress::On(c, r) => RunAnswer::Refused(
-            Refusal { reason: Reason::SubstepLimit, value: r.est_error },
+            Refusal {
+                reason: Reason::SubstepLimit,
+                value: r.est_error,
+            },
             c,
             r,
         ),

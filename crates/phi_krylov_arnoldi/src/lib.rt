@@ -73,12 +73,18 @@ pub fn substep(
     let outcome = trial.outcome;
     match outcome {
         Outcome::Next(_, _) => Progress::Refused(
-            Refusal { reason: Reason::LengthsRejected, value: k.tol },
+            Refusal {
+                reason: Reason::LengthsRejected,
+                value: k.tol,
+            },
             c,
             r,
         ),
         Outcome::NoPlan(arg) => Progress::Refused(
-            Refusal { reason: Reason::NoInnerPlan, value: arg },
+            Refusal {
+                reason: Reason::NoInnerPlan,
+                value: arg,
+            },
             c,
             r,
         ),
