@@ -110,7 +110,12 @@ pub fn swept_out(
 }
 
 // The report; what was needed is cleared.
-pub fn finish(work: &mut [f64], need: usize, p: SweepPlan, applied: u64) -> Result<TaylorReport, Refusal>
+pub fn finish(
+    work: &mut [f64],
+    need: usize,
+    p: SweepPlan,
+    applied: u64,
+) -> Result<TaylorReport, Refusal>
     requires { need ≤ length work.old }
     ensures value { result ≡ report p applied }
     ensures work_after { work.new ≡ cleared need work.old }

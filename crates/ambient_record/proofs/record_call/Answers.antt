@@ -25,13 +25,13 @@ returns-in_err-check_record c gs sound =
     let refusal = c.in_err-check_record.was in
     record_refused a.mass.now c.requires.passed a.duration a.level v a.load.now a.out.now a.work.now long c.requires.field_len.1 c.requires.field_len.2 gs sound c.check_record.ensures refusal)
 
-pub returns-in_err-j.checked : goal.returns-in_err-j.checked
-returns-in_err-j.checked c gs sound =
-    rw (passed_on c.from_residual-in_err-j.checked.ensures.1)
+pub returns-in_err-j : goal.returns-in_err-j
+returns-in_err-j c gs sound =
+    rw (passed_on c.from_residual-in_err-j.ensures.1)
     (let v : List Float = field_of c.args.initial c.args.field.now c.args.out.now in
     let long : length v ≡ c.args.g.n = either c.args.initial c.args.g.n c.args.field.now c.args.out.now c.requires.field_len.0 c.requires.field_len.2 in
     let a = c.args in
-    let refusal = c.in_err-j.checked.was in
+    let refusal = c.in_err-j.was in
     record_not_admitted a.mass.now c.requires.passed a.duration a.level v a.load.now a.out.now a.work.now long c.requires.field_len.1 c.requires.field_len.2 gs sound c.check_record.ensures c.in_ok-check_record.was c.admit_record-j.ensures refusal)
 
 pub start_record-requires : goal.start_record-requires
@@ -39,7 +39,7 @@ start_record-requires c =
     let v : List Float = field_of c.args.initial c.args.field.now c.args.out.now in
     let long : length v ≡ c.args.g.n = either c.args.initial c.args.g.n c.args.field.now c.args.out.now c.requires.field_len.0 c.requires.field_len.2 in
     let a = c.args in
-    (long, record_fits a.mass.now c.requires.passed a.duration a.level v a.load.now a.out.now a.work.now long c.requires.field_len.1 c.requires.field_len.2 c.admit_record-j.ensures c.in_ok-j.checked.was)
+    (long, record_fits a.mass.now c.requires.passed a.duration a.level v a.load.now a.out.now a.work.now long c.requires.field_len.1 c.requires.field_len.2 c.admit_record-j.ensures c.in_ok-j.was)
 
 pub scale_into-requires : goal.scale_into-requires
 scale_into-requires c = c.requires.field_len.1 ∙ sym c.requires.field_len.2
@@ -49,7 +49,7 @@ run_record-requires c =
     let v : List Float = field_of c.args.initial c.args.field.now c.args.out.now in
     let long : length v ≡ c.args.g.n = either c.args.initial c.args.g.n c.args.field.now c.args.out.now c.requires.field_len.0 c.requires.field_len.2 in
     let a = c.args in
-    let r = record_runs a.mass.now c.requires.passed a.duration a.level v a.load.now a.out.now a.work.now long c.requires.field_len.1 c.requires.field_len.2 c.admit_record-j.ensures c.in_ok-j.checked.was (spliced_long _ _ _ c.start_record.ensures)
+    let r = record_runs a.mass.now c.requires.passed a.duration a.level v a.load.now a.out.now a.work.now long c.requires.field_len.1 c.requires.field_len.2 c.admit_record-j.ensures c.in_ok-j.was (spliced_long _ _ _ c.start_record.ensures)
     (ap length c.scale_into.ensures ∙ length_scale a.level a.load.now ∙ c.requires.field_len.1) in record { allowed = r.0; coupled = r.1 }
 
 pub returns : goal.returns
@@ -57,4 +57,4 @@ returns c gs sound =
     let v : List Float = field_of c.args.initial c.args.field.now c.args.out.now in
     let long : length v ≡ c.args.g.n = either c.args.initial c.args.g.n c.args.field.now c.args.out.now c.requires.field_len.0 c.requires.field_len.2 in
     let a = c.args in
-    record_is a.mass.now c.requires.passed a.duration a.level v a.load.now a.out.now a.work.now long c.requires.field_len.1 c.requires.field_len.2 gs sound c.check_record.ensures c.in_ok-check_record.was c.admit_record-j.ensures c.in_ok-j.checked.was c.start_record.ensures c.scale_into.ensures c.run_record.ensures
+    record_is a.mass.now c.requires.passed a.duration a.level v a.load.now a.out.now a.work.now long c.requires.field_len.1 c.requires.field_len.2 gs sound c.check_record.ensures c.in_ok-check_record.was c.admit_record-j.ensures c.in_ok-j.was c.start_record.ensures c.scale_into.ensures c.run_record.ensures

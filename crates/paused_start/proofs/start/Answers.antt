@@ -2,7 +2,7 @@
 use mathlib.Core.Path.{refl}
 use Rattle.general_operator.specs.Csr.{csr}
 use Rattle.generator_action.specs.Mass.{given}
-use Rattle.generator_action.proofs.Answered.{passed_up, refusal_told, norm_told, passed}
+use Rattle.generator_action.proofs.Answered.{refusal_told, norm_told, passed}
 use Rattle.paused_start.proofs.Starts.{refused_generator}
 use Rattle.checks.proofs.First.{passed_on}
 use Rattle.paused_start.proofs.start.Goals as goal

@@ -23,21 +23,21 @@ overflow_mul-count c =
     let k = index_known c.args.p c.in_ok-check_index.was c.check_index.ensures in
     omega (arith, product_within {a = c.args.p + 1} 4 1000000 (omega (arith, k)) c.requires.valid.few)
 
-pub returns-in_err-j.checked : goal.returns-in_err-j.checked
-returns-in_err-j.checked c gs sound =
-    rw (passed_on c.from_residual-in_err-j.checked.ensures.1)
+pub returns-in_err-j : goal.returns-in_err-j
+returns-in_err-j c gs sound =
+    rw (passed_on c.from_residual-in_err-j.ensures.1)
     (let a = c.args in
-    let refusal = c.in_err-j.checked.was in
+    let refusal = c.in_err-j.was in
     refused_batch a.mass.now c.requires gs sound a.tau a.cap a.p a.v.now a.out.now a.work.now _ (add-one a.p) c.admit_action-j.ensures refusal)
 
 pub run_batch-requires : goal.run_batch-requires
 run_batch-requires c =
     let a = c.args in
     let k = index_known a.p c.in_ok-check_index.was c.check_index.ensures in
-    let h = known_action a.g a.tau a.cap a.p a.v.now _ _ _ c.admit_action-j.ensures c.in_ok-j.checked.was in
+    let h = known_action a.g a.tau a.cap a.p a.v.now _ _ _ c.admit_action-j.ensures c.in_ok-j.was in
     let r = runs_batch a.mass.now c.requires a.v.now h c.admit_action-j.ensures refl (omega (arith, k)) in record { allowed = r.0; coupled = r.1.0; d_value = r.1.1 }
 
 pub returns : goal.returns
 returns c gs sound =
     let a = c.args in
-    batch_is a.mass.now c.requires gs sound a.tau a.cap a.p a.v.now a.out.now a.work.now _ (add-one a.p) c.admit_action-j.ensures c.in_ok-j.checked.was c.run_batch.ensures
+    batch_is a.mass.now c.requires gs sound a.tau a.cap a.p a.v.now a.out.now a.work.now _ (add-one a.p) c.admit_action-j.ensures c.in_ok-j.was c.run_batch.ensures

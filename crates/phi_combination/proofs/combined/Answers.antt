@@ -37,27 +37,27 @@ admit_combination-j-requires c =
     let k = vectors_known _ _ _ a.w.now _ c.in_ok-validate_combination.was (of_one_slice c.args.g.n _ c.args.count c.args.w.now _ (c.validate_combination.ensures _ [] c.check_plan-time.ensures ends_sound)) in
     (rw part_further (rw length_further (further_within k)), c.requires.valid.few, omega (arith, k.most), c.requires.light)
 
-pub returns-in_err-j.checked : goal.returns-in_err-j.checked
-returns-in_err-j.checked c gs sound =
-    rw (passed_on c.from_residual-in_err-j.checked.ensures.1)
+pub returns-in_err-j : goal.returns-in_err-j
+returns-in_err-j c gs sound =
+    rw (passed_on c.from_residual-in_err-j.ensures.1)
     (let a = c.args in
     let told = of_one_slice c.args.g.n _ c.args.count c.args.w.now _ (c.validate_combination.ensures _ [] c.check_plan-time.ensures ends_sound) in
     let admitted = rw part_further at c.admit_combination-j.ensures in
-    let refusal = c.in_err-j.checked.was in
+    let refusal = c.in_err-j.was in
     refused_sweeps a.mass.now c.requires gs sound a.tau a.cap a.count a.w.now a.out.now a.work.now told c.in_ok-validate_combination.was admitted refusal)
 
 pub combination_start-requires : goal.combination_start-requires
 combination_start-requires c =
     let a = c.args in
     let k = vectors_known _ _ _ a.w.now _ c.in_ok-validate_combination.was (of_one_slice c.args.g.n _ c.args.count c.args.w.now _ (c.validate_combination.ensures _ [] c.check_plan-time.ensures ends_sound)) in
-    let h = allowed_combination a.mass.now c.requires {work = a.work.now} _ (omega (arith, k.most)) c.admit_combination-j.ensures c.in_ok-j.checked.was refl in
+    let h = allowed_combination a.mass.now c.requires {work = a.work.now} _ (omega (arith, k.most)) c.admit_combination-j.ensures c.in_ok-j.was refl in
     (first_within k, rw c.admit_combination-j.ensures at (field_fits h))
 
 pub run_job-requires : goal.run_job-requires
 run_job-requires c =
     let a = c.args in
     let k = vectors_known _ _ _ a.w.now _ c.in_ok-validate_combination.was (of_one_slice c.args.g.n _ c.args.count c.args.w.now _ (c.validate_combination.ensures _ [] c.check_plan-time.ensures ends_sound)) in
-    let r = runs_combination a.mass.now c.requires _ (omega (arith, k.most)) (rw part_further (rw length_further (further_within k))) k.out c.admit_combination-j.ensures c.in_ok-j.checked.was (ap length c.combination_start.ensures ∙ length_splice 0 _ a.work.now) in record { allowed = r.0; coupled = r.1 }
+    let r = runs_combination a.mass.now c.requires _ (omega (arith, k.most)) (rw part_further (rw length_further (further_within k))) k.out c.admit_combination-j.ensures c.in_ok-j.was (ap length c.combination_start.ensures ∙ length_splice 0 _ a.work.now) in record { allowed = r.0; coupled = r.1 }
 
 pub returns : goal.returns
 returns c gs sound =
@@ -65,6 +65,6 @@ returns c gs sound =
     let told = of_one_slice c.args.g.n _ c.args.count c.args.w.now _ (c.validate_combination.ensures _ [] c.check_plan-time.ensures ends_sound) in
     let k = vectors_known _ _ _ a.w.now _ c.in_ok-validate_combination.was told in
     let admitted = rw part_further at c.admit_combination-j.ensures in
-    let passed = c.in_ok-j.checked.was in
+    let passed = c.in_ok-j.was in
     combined_is a.mass.now c.requires gs sound a.tau a.cap a.count a.w.now a.out.now a.work.now told c.in_ok-validate_combination.was admitted passed
     (ran a.mass.now c.requires gs sound a.tau a.cap (a.count - 1) a.w.now _ a.out.now a.work.now (omega (arith, k.most)) (first_within k) admitted passed c.combination_start.ensures (rw part_further at c.run_job.ensures))

@@ -2,7 +2,7 @@
 use mathlib.Core.Path.{refl}
 use Rattle.general_operator.specs.Csr.{csr}
 use Rattle.generator_action.specs.Mass.{given}
-use Rattle.generator_action.proofs.Answered.{passed_up, refusal_told, norm_told, passed}
+use Rattle.generator_action.proofs.Answered.{refusal_told, norm_told, passed}
 use Rattle.krylov_job.proofs.Calls.{refused_generator}
 use Rattle.checks.proofs.First.{passed_on}
 use Rattle.phi_krylov.proofs.phi_combination_krylov.Goals as goal

@@ -2,7 +2,7 @@
 use mathlib.Core.Path.{refl, sym, ◌∙◌}
 use Rattle.general_operator.specs.Csr.{csr}
 use Rattle.generator_action.specs.Mass.{given}
-use Rattle.generator_action.proofs.Answered.{passed_up, refusal_told, norm_told, passed}
+use Rattle.generator_action.proofs.Answered.{refusal_told, norm_told, passed}
 use Rattle.rotation_joins.proofs.Full.{else_full, full_generator}
 use Rattle.checks.proofs.First.{passed_on}
 use Rattle.rotation_joins.proofs.refused_full.Goals as goal

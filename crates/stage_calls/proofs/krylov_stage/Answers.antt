@@ -33,14 +33,14 @@ admit_run-j-requires c =
     let h = c.requires.whole.0 in
     (omega (arith, h.rest), c.requires.passed.valid.few, omega (arith, h.most), rw c.clamp_m-m.ensures small, c.requires.passed.light)
 
-pub returns-in_err-j.checked : goal.returns-in_err-j.checked
+pub returns-in_err-j : goal.returns-in_err-j
 unfolding dimension
-returns-in_err-j.checked c gs sound =
-    rw (passed_on c.from_residual-in_err-j.checked.ensures.1)
+returns-in_err-j c gs sound =
+    rw (passed_on c.from_residual-in_err-j.ensures.1)
     (let told : let a = c.args in c.and_then.result ≡ first (finite_checks ((field_of a.initial a.start.now a.out.now) ++ a.vectors.now) ++ option_checks a.o (dimension a.g.n (a.count - 1) a.o.m)) = let a = c.args in
     c.and_then.ensures _ _ c.check_field-finite.ensures (c.check_options.ensures ∙ ap (λ (m : ℕ). first (option_checks a.o m)) c.clamp_m-m.ensures) in
     let a = c.args in
-    let refusal = c.in_err-j.checked.was in
+    let refusal = c.in_err-j.was in
     krylov_not_admitted a.mass.now c.requires.passed a.tau a.count (field_of a.initial a.start.now a.out.now) a.vectors.now a.out.now a.work.now c.requires.whole.0 a.o c.requires.whole.1 told c.in_ok-and_then.was c.clamp_m-m.ensures c.admit_run-j.ensures gs sound refusal)
 
 pub start_field-requires : goal.start_field-requires
@@ -49,7 +49,7 @@ start_field-requires c =
     let told : let a = c.args in c.and_then.result ≡ first (finite_checks ((field_of a.initial a.start.now a.out.now) ++ a.vectors.now) ++ option_checks a.o (dimension a.g.n (a.count - 1) a.o.m)) = let a = c.args in
     c.and_then.ensures _ _ c.check_field-finite.ensures (c.check_options.ensures ∙ ap (λ (m : ℕ). first (option_checks a.o m)) c.clamp_m-m.ensures) in
     let a = c.args in
-    (c.requires.whole.0.fielded, krylov_fits a.mass.now c.requires.passed a.tau a.count (field_of a.initial a.start.now a.out.now) a.vectors.now a.out.now a.work.now c.requires.whole.0 a.o c.requires.whole.1 told c.in_ok-and_then.was c.clamp_m-m.ensures c.admit_run-j.ensures c.in_ok-j.checked.was)
+    (c.requires.whole.0.fielded, krylov_fits a.mass.now c.requires.passed a.tau a.count (field_of a.initial a.start.now a.out.now) a.vectors.now a.out.now a.work.now c.requires.whole.0 a.o c.requires.whole.1 told c.in_ok-and_then.was c.clamp_m-m.ensures c.admit_run-j.ensures c.in_ok-j.was)
 
 pub run_job-requires : goal.run_job-requires
 unfolding dimension
@@ -57,7 +57,7 @@ run_job-requires c =
     let told : let a = c.args in c.and_then.result ≡ first (finite_checks ((field_of a.initial a.start.now a.out.now) ++ a.vectors.now) ++ option_checks a.o (dimension a.g.n (a.count - 1) a.o.m)) = let a = c.args in
     c.and_then.ensures _ _ c.check_field-finite.ensures (c.check_options.ensures ∙ ap (λ (m : ℕ). first (option_checks a.o m)) c.clamp_m-m.ensures) in
     let a = c.args in
-    let r = krylov_runs a.mass.now c.requires.passed a.tau a.count (field_of a.initial a.start.now a.out.now) a.vectors.now a.out.now a.work.now c.requires.whole.0 a.o c.requires.whole.1 told c.in_ok-and_then.was c.clamp_m-m.ensures c.admit_run-j.ensures c.in_ok-j.checked.was (ap length c.start_field.ensures ∙ length_splice _ _ a.work.now) in record { allowed = r.0; out_len = r.1 }
+    let r = krylov_runs a.mass.now c.requires.passed a.tau a.count (field_of a.initial a.start.now a.out.now) a.vectors.now a.out.now a.work.now c.requires.whole.0 a.o c.requires.whole.1 told c.in_ok-and_then.was c.clamp_m-m.ensures c.admit_run-j.ensures c.in_ok-j.was (ap length c.start_field.ensures ∙ length_splice _ _ a.work.now) in record { allowed = r.0; out_len = r.1 }
 
 pub returns : goal.returns
 unfolding dimension
@@ -65,4 +65,4 @@ returns c gs sound =
     let told : let a = c.args in c.and_then.result ≡ first (finite_checks ((field_of a.initial a.start.now a.out.now) ++ a.vectors.now) ++ option_checks a.o (dimension a.g.n (a.count - 1) a.o.m)) = let a = c.args in
     c.and_then.ensures _ _ c.check_field-finite.ensures (c.check_options.ensures ∙ ap (λ (m : ℕ). first (option_checks a.o m)) c.clamp_m-m.ensures) in
     let a = c.args in
-    krylov_is a.mass.now c.requires.passed a.tau a.count (field_of a.initial a.start.now a.out.now) a.vectors.now a.out.now a.work.now c.requires.whole.0 a.o c.requires.whole.1 told c.in_ok-and_then.was c.clamp_m-m.ensures c.admit_run-j.ensures gs sound c.in_ok-j.checked.was c.start_field.ensures c.run_job.ensures
+    krylov_is a.mass.now c.requires.passed a.tau a.count (field_of a.initial a.start.now a.out.now) a.vectors.now a.out.now a.work.now c.requires.whole.0 a.o c.requires.whole.1 told c.in_ok-and_then.was c.clamp_m-m.ensures c.admit_run-j.ensures gs sound c.in_ok-j.was c.start_field.ensures c.run_job.ensures

@@ -14,24 +14,24 @@ returns-in_err-check_field c gs sound =
     let refusal = c.in_err-check_field.was in
     taylor_refused a.mass.now c.requires.passed a.tau a.count (field_of a.initial a.start.now a.out.now) a.vectors.now a.out.now a.work.now c.requires.whole.0 a.cap gs sound c.requires.whole.1 c.check_field.ensures refusal)
 
-pub returns-in_err-j.checked : goal.returns-in_err-j.checked
-returns-in_err-j.checked c gs sound =
-    rw (passed_on c.from_residual-in_err-j.checked.ensures.1)
+pub returns-in_err-j : goal.returns-in_err-j
+returns-in_err-j c gs sound =
+    rw (passed_on c.from_residual-in_err-j.ensures.1)
     (let a = c.args in
-    let refusal = c.in_err-j.checked.was in
+    let refusal = c.in_err-j.was in
     taylor_not_admitted a.mass.now c.requires.passed a.tau a.count (field_of a.initial a.start.now a.out.now) a.vectors.now a.out.now a.work.now c.requires.whole.0 a.cap gs sound c.requires.whole.1 c.check_field.ensures c.in_ok-check_field.was c.admit_combination-j.ensures refusal)
 
 pub start_field-requires : goal.start_field-requires
 start_field-requires c =
     let a = c.args in
-    (c.requires.whole.0.fielded, taylor_fits a.mass.now c.requires.passed a.tau a.count (field_of a.initial a.start.now a.out.now) a.vectors.now a.out.now a.work.now c.requires.whole.0 a.cap c.admit_combination-j.ensures c.in_ok-j.checked.was)
+    (c.requires.whole.0.fielded, taylor_fits a.mass.now c.requires.passed a.tau a.count (field_of a.initial a.start.now a.out.now) a.vectors.now a.out.now a.work.now c.requires.whole.0 a.cap c.admit_combination-j.ensures c.in_ok-j.was)
 
 pub run_job-requires : goal.run_job-requires
 run_job-requires c =
     let a = c.args in
-    let r = taylor_runs a.mass.now c.requires.passed a.tau a.count (field_of a.initial a.start.now a.out.now) a.vectors.now a.out.now a.work.now c.requires.whole.0 a.cap c.admit_combination-j.ensures c.in_ok-j.checked.was (ap length c.start_field.ensures ∙ length_splice 0 _ a.work.now) in record { allowed = r.0; coupled = r.1 }
+    let r = taylor_runs a.mass.now c.requires.passed a.tau a.count (field_of a.initial a.start.now a.out.now) a.vectors.now a.out.now a.work.now c.requires.whole.0 a.cap c.admit_combination-j.ensures c.in_ok-j.was (ap length c.start_field.ensures ∙ length_splice 0 _ a.work.now) in record { allowed = r.0; coupled = r.1 }
 
 pub returns : goal.returns
 returns c gs sound =
     let a = c.args in
-    taylor_is a.mass.now c.requires.passed a.tau a.count (field_of a.initial a.start.now a.out.now) a.vectors.now a.out.now a.work.now c.requires.whole.0 a.cap gs sound c.requires.whole.1 c.check_field.ensures c.in_ok-check_field.was c.admit_combination-j.ensures c.in_ok-j.checked.was c.start_field.ensures c.run_job.ensures
+    taylor_is a.mass.now c.requires.passed a.tau a.count (field_of a.initial a.start.now a.out.now) a.vectors.now a.out.now a.work.now c.requires.whole.0 a.cap gs sound c.requires.whole.1 c.check_field.ensures c.in_ok-check_field.was c.admit_combination-j.ensures c.in_ok-j.was c.start_field.ensures c.run_job.ensures

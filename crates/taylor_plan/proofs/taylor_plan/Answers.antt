@@ -3,7 +3,7 @@ use mathlib.Core.Path.{refl}
 use Rattle.general_operator.specs.Csr.{csr}
 use Rattle.generator_action.specs.Mass.{given, generator_checks}
 use Rattle.generator_action.specs.Generator.{forward}
-use Rattle.generator_action.proofs.Answered.{passed_up, refusal_told, norm_told, passed}
+use Rattle.generator_action.proofs.Answered.{refusal_told, norm_told, passed}
 use Rattle.taylor_plan.proofs.Plans.{generator_refused}
 use Rattle.checks.proofs.First.{passed_on}
 use Rattle.taylor_plan.proofs.taylor_plan.Goals as goal
