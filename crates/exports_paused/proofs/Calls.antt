@@ -26,7 +26,7 @@ use Rattle.paused_run.specs.Paused.{Job, Input, PausedCall, leaves, rows, degree
 use Rattle.paused_run.specs.declared.PausedRun.{PausedRun}
 use Rattle.paused_run.specs.declared.Tolerance.{Tolerance}
 use Rattle.paused_run.specs.Paused.{StartAnswer}
-use Rattle.paused_run.specs.declared.StepAnswer.{StepAnswer}
+use Rattle.paused_run.specs.Paused.{StepAnswer}
 use Rattle.exports_paused.specs.Told.{fits, run_of, State, told, start_state, step_state, state_checks, start_told, step_told}
 use Rattle.checks.specs.Reasons.{Sound, Refused}
 use Rattle.std.specs.Prelude.{Ok, Err}

@@ -10,9 +10,7 @@ use Rattle.paused_run.specs.declared.PausedRun.{PausedRun}
 use Rattle.paused_run.specs.declared.Tolerance.{Tolerance}
 use Rattle.paused_run.specs.declared.Tolerance.TheVariants.{Same, New}
 use Rattle.paused_run.specs.Paused.{StartAnswer}
-use Rattle.paused_run.specs.declared.StepAnswer.{StepAnswer}
-use Rattle.paused_run.specs.declared.StepAnswer.TheVariants as stepped
-use Rattle.checks.specs.Reasons.{Refused}
+use Rattle.paused_run.specs.Paused.{StepAnswer}
 use Rattle.std.specs.Prelude.{Ok, Err}
 use Rattle.checks.specs.declared.Reason.TheVariants.{WorkLength}
 
@@ -113,8 +111,8 @@ abbrev pub ran : ℕ → Bool
 ran k = ltb 26 k && ltb k 30
 
 unfoldable pub step_state : StepAnswer → List Float → List ℕ → State
-step_state (Refused k x s) numbers counts = if ran k then written k x s numbers counts else state k x numbers counts
-step_state (stepped.Stepped s) numbers counts = written 0 s.report.est_error s numbers counts
+step_state (Err r) numbers counts = if ran r.refusal.reason then written r.refusal.reason r.refusal.value r.run numbers counts else state r.refusal.reason r.refusal.value numbers counts
+step_state (Ok s) numbers counts = written 0 s.report.est_error s numbers counts
 
 -- with what the three lent slices of doubles hold
 pub record Told : Type 0 where

@@ -22,7 +22,7 @@ use Rattle.paused_run.specs.Paused.{Job, Input, PausedCall, leaves, rows, start_
 use Rattle.paused_run.specs.declared.PausedRun.{PausedRun}
 use Rattle.paused_run.specs.declared.Tolerance.{Tolerance}
 use Rattle.paused_run.specs.Paused.{StartAnswer}
-use Rattle.paused_run.specs.declared.StepAnswer.{StepAnswer}
+use Rattle.paused_run.specs.Paused.{StepAnswer}
 use Rattle.rotation.specs.Unit.{empty, waiting, next_place, UnitCall, unit_call, lowest_free, room, admitted_by, admitted, join, turn_of, turn}
 use Rattle.rotation.specs.declared.Rotation.{Rotation}
 use Rattle.rotation_joins.specs.declared.Joined.{Joined}

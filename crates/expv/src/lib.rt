@@ -53,14 +53,21 @@ fn run_substeps(
     o
 }
 
-// 27 for a run that has not ended.
+// Refused for its limit: a run that has not ended.
 fn spent(o: Progress) -> RunAnswer
     ensures { (l : Layout) (k : Krylov) (w : List Float) → end_at l k result w ≡ spent (progress_at l k o w) }
 {
     match o {
-        Progress::On(c, r) => Err(Refusal { reason: Reason::SubstepLimit, value: r.est_error, c, r }),
+        Progress::On(c, r) => RunAnswer::Refused(
+            Refusal {
+                reason: Reason::SubstepLimit,
+                value: r.est_error,
+            },
+            c,
+            r,
+        ),
         Progress::Finished(c, r) => RunAnswer::Finished(c, r),
-        Progress::Refused(number, x, c, r) => RunAnswer::Refused(number, x, c, r),
+        Progress::Refused(e, c, r) => RunAnswer::Refused(e, c, r),
     }
 }
 
@@ -109,9 +116,8 @@ fn relative(o: RunAnswer, beta: f64) -> RunAnswer
             c,
             phi_krylov_arnoldi::relative_report(r, beta),
         ),
-        RunAnswer::Refused(number, x, c, r) => RunAnswer::Refused(
-            number,
-            x,
+        RunAnswer::Refused(e, c, r) => RunAnswer::Refused(
+            e,
             c,
             phi_krylov_arnoldi::relative_report(r, beta),
         ),

@@ -24,8 +24,8 @@ use Rattle.krylov_job.specs.KrylovCall.{KrylovAnswer}
 use Rattle.krylov_job.specs.declared.RunJob.{RunJob}
 use Rattle.krylov_job.specs.declared.Eta.{Eta}
 use Rattle.krylov_job.specs.declared.Eta.TheVariants.{Own, Began}
-use Rattle.checks.specs.Reasons.{Sound, Refused}
-use Rattle.std.specs.Prelude.{Ok}
+use Rattle.checks.specs.Reasons.{Sound}
+use Rattle.std.specs.Prelude.{Ok, Err}
 
 -- 21, 22 by eta, 24 and 26 of a combination of dimension M over a generator with the numbers g: the answer, and what was found
 abbrev pub run_job_by : Shape → Float → ℕ → List Float → Scaling → KrylovPhiOptions → ℕ → ℕ → RunJob
@@ -81,4 +81,4 @@ run_of j q vectors y =
 -- the answer that its end is told by
 unfoldable pub answer_of : RunAnswer → KrylovAnswer
 answer_of (Finished c r) = Ok r
-answer_of (Refused k x c r) = Refused k x
+answer_of (Refused e c r) = Err e

@@ -62,13 +62,22 @@ pub fn check_options(o: KrylovPhiOptions, m: usize) -> Checked
     ensures { result ≡ first (option_checks o m) }
 {
     if !in_unit(o.tol) {
-        return Err(Refusal { reason: Reason::TolRange, value: o.tol });
+        return Err(Refusal {
+            reason: Reason::TolRange,
+            value: o.tol,
+        });
     }
     if o.max_substeps == 0 {
-        return Err(Refusal { reason: Reason::NoSubsteps, value: 0.0 });
+        return Err(Refusal {
+            reason: Reason::NoSubsteps,
+            value: 0.0,
+        });
     }
     if too_many(m, o.max_substeps) {
-        return Err(Refusal { reason: Reason::OptionTooLarge, value: float::not_a_number() });
+        return Err(Refusal {
+            reason: Reason::OptionTooLarge,
+            value: float::not_a_number(),
+        });
     }
     Ok(())
 }
@@ -104,7 +113,10 @@ fn check_bound(anorm: f64) -> Checked
     ensures { result ≡ first (bound_checks anorm) }
 {
     if !float::is_finite(anorm) {
-        return Err(Refusal { reason: Reason::ArgumentNotFinite, value: anorm });
+        return Err(Refusal {
+            reason: Reason::ArgumentNotFinite,
+            value: anorm,
+        });
     }
     Ok(())
 }

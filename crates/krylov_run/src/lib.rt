@@ -13,8 +13,8 @@ ghost use Rattle.krylov_job.specs.Memory.{layout};
 ghost use Rattle.krylov_job.specs.Inner.{answer_of, Allowed, run_of};
 
 use checks::Refusal;
-use krylov_advance::RunAnswer;
-use krylov_job::{KrylovAnswer, RunJob};
+use krylov_advance::{KrylovPhiReport, RunAnswer};
+use krylov_job::RunJob;
 
 // The first field from place `at` of the lent memory on; w_0 is the first n values of w.
 pub fn start_in(n: usize, w: &[f64], d: usize, inv: f64, work: &mut [f64], at: usize)
@@ -29,8 +29,8 @@ fn answer_of(end: RunAnswer) -> Result<KrylovPhiReport, Refusal>
     ensures { result ≡ answer_of end }
 {
     match end {
-        RunAnswer::Finished(_, report) => KrylovAnswer::Result(report),
-        RunAnswer::Refused(number, x, _, _) => Err(Refusal { reason: number, value: x }),
+        RunAnswer::Finished(_, report) => Ok(report),
+        RunAnswer::Refused(e, _, _) => Err(e),
     }
 }
 

@@ -51,8 +51,7 @@ use Rattle.paused_run.specs.Paused.{Job, Input, PausedCall, leaves, rows, field_
 use Rattle.paused_run.specs.Inner.{job_over, other_checks_by, setting_for, turned, after_of}
 use Rattle.paused_run.specs.declared.PausedRun.{PausedRun}
 use Rattle.paused_run.specs.declared.Tolerance.{Tolerance}
-use Rattle.paused_run.specs.declared.StepAnswer.{StepAnswer}
-use Rattle.paused_run.specs.declared.StepAnswer.TheVariants.{Refusal}
+use Rattle.paused_run.specs.Paused.{StepAnswer, StepRefused}
 use Rattle.checks.specs.Reasons.{Sound, Refused}
 use Rattle.checks.specs.declared.Reason.TheVariants.{WorkLength, RunEnded}
 use Rattle.checks.specs.declared.Reason.{Reason}
@@ -62,7 +61,7 @@ seen : (l : Layout) (k : Krylov) (o : Progress) (w : List Float) → progress_at
 unfolding progress_at turned
 seen l k (progress.On c r) w = refl
 seen l k (progress.Finished c r) w = refl
-seen l k (progress.Refused number x c r) w = refl
+seen l k (progress.Refused e c r) w = refl
 
 module _
     {starts cols : List ℕ}
@@ -130,7 +129,7 @@ field_seen : (o : Progress) (y : List Float) → field_after (turned o y) ≡ y
 unfolding turned
 field_seen (progress.On c r) y = refl
 field_seen (progress.Finished c r) y = refl
-field_seen (progress.Refused k x c r) y = refl
+field_seen (progress.Refused e c r) y = refl
 
 pub advanced : (s : PausedRun) (tol : Float) (j : RunJob) (output w₀ : List Float) (o : Progress) {t : Turn State End} {r : StepAnswer} {y out₁ : List Float} (w₁ : List Float) {w₂ : List Float} → turned o y ≡ t
     → r ≡ verdict s tol (turned o y)
@@ -165,7 +164,7 @@ counts s e few =
 
 -- ---- by the checks
 module _ (s : PausedRun) (y : List Float) (i : Input) where
-  step_refused : {k : Reason} {x : Float} → Refused k x ≡ first (step_checks s (length y) i) → leaves (Refused k x s) i.output i.memory y ≡ step s y i
+  step_refused : {k : Reason} {x : Float} → Refused k x ≡ first (step_checks s (length y) i) → leaves (StepRefused k x s) i.output i.memory y ≡ step s y i
   unfolding step step_unless
   step_refused e = rw (← e) refl
 
@@ -173,11 +172,11 @@ module _ (s : PausedRun) (y : List Float) (i : Input) where
   unfolding step step_unless
   step_runs e h = h ∙ rw (← e) refl
 
-  pub refused_over : {x : Float} → over s ≡ true → x ≡ nan → leaves (Refused RunEnded x s) i.output i.memory y ≡ step s y i
+  pub refused_over : {x : Float} → over s ≡ true → x ≡ nan → leaves (StepRefused RunEnded x s) i.output i.memory y ≡ step s y i
   unfolding step_checks
   refused_over e ex = step_refused (stops _ e ex)
 
-  pub refused_generator : {k : Reason} {x : Float} → over s ≡ false → Refused k x ≡ first i.job.g.checks → leaves (Refused k x s) i.output i.memory y ≡ step s y i
+  pub refused_generator : {k : Reason} {x : Float} → over s ≡ false → Refused k x ≡ first i.job.g.checks → leaves (StepRefused k x s) i.output i.memory y ≡ step s y i
   unfolding step_checks krylov_checks_by
   refused_generator eo e = step_refused (passes RunEnded nan _ eo (refused_up _ _ refl (refused_up _ _ refl e)))
 
@@ -210,7 +209,7 @@ module _
   unfolding other_checks scaling_by quotients
   told = rw rows_are (all_checks mass ok gs sound tau count w (options_in s (tol_in tolerance s)) s.eta _ (length w₀) ad.told)
 
-  pub refused_job : {k : Reason} {x : Float} → j.checked ≡ Refused k x → leaves (Refused k x s) out w₀ field ≡ step s field input
+  pub refused_job : {k : Reason} {x : Float} → j.checked ≡ Refused k x → leaves (StepRefused k x s) out w₀ field ≡ step s field input
   unfolding step_checks
   refused_job e = step_refused s field input (sym e ∙ passes RunEnded nan _ going (refused_up _ _ e told))
 
@@ -227,7 +226,7 @@ module _
     pub within : (j.d ≤ 3) × (g.n ≤ length w)
     within = (omega (arith, d_is, k.vectors.most), first_within k.vectors)
 
-    pub refused_field : {x : Float} → (length field ≡ g.n + j.d → ⊥) → x ≡ nan → leaves (Refused WorkLength x s) out w₀ field ≡ step s field input
+    pub refused_field : {x : Float} → (length field ≡ g.n + j.d → ⊥) → x ≡ nan → leaves (StepRefused WorkLength x s) out w₀ field ≡ step s field input
     unfolding step_checks field_checks
     refused_field ne ex =
         step_refused s field input (passes RunEnded nan _ going (sound_on _ _ e told (stops [] (not_ne (λ h. ne (h ∙ rw (rows_are, d_is) refl))) ex)))

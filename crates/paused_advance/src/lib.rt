@@ -12,7 +12,7 @@ ghost use Rattle.paused_run.specs.Inner.{setting_for, turned, after_of};
 use gram_schmidt::Krylov;
 use krylov_advance::{Control, Progress};
 use krylov_job::RunJob;
-use paused_run::{PausedRun, StepAnswer};
+use paused_run::{PausedRun, StepRefusal};
 
 // One substep from the lent field, which it replaces.
 fn substep_on(
@@ -67,7 +67,7 @@ pub fn advance(
     work: &mut [f64],
     field: &mut [f64],
     j: RunJob,
-) -> StepAnswer
+) -> Result<PausedRun, StepRefusal>
     requires allowed { Allowed starts.now cols.now vals.now mass.now j (length vectors.now) (length work.old) }
     requires field_len { (length field.old ≡ j.g.n + j.d) × (run.report.substeps ≤ 1000000) × (run.report.matvecs ≤ 1000000000) × (run.report.rejected ≤ 1000000000) }
     requires out_len { length out.old ≡ j.g.n }

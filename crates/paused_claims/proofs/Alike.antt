@@ -13,13 +13,13 @@ use Rattle.krylov_advance.specs.Run.{State, End, finished, refused}
 use Rattle.paused_run.specs.Paused.{Input, moved, over, other_checks, step_checks, resumed, verdict, substep_of, after_substep, step_unless, step}
 use Rattle.paused_run.specs.declared.PausedRun.{PausedRun}
 use Rattle.paused_run.specs.declared.Tolerance.TheVariants.{Same, New}
-use Rattle.paused_run.specs.declared.StepAnswer.{StepAnswer}
-use Rattle.paused_run.specs.declared.StepAnswer.TheVariants.{Refusal, Stepped}
+use Rattle.paused_run.specs.Paused.{StepAnswer}
 use Rattle.paused_claims.specs.History.{run_in}
 use Rattle.paused_claims.specs.Alike.{SameStep, Blind, number_in, double_in, run_with_tol, bringing, SameButTol, NewTol}
-use Rattle.checks.specs.Reasons.{Sound, Refused}
+use Rattle.checks.specs.Reasons.{Sound}
 use Rattle.std.specs.Prelude.{Ok, Err}
 use Rattle.checks.specs.declared.Reason.TheVariants.{SubstepLimit}
+use Rattle.paused_run.specs.Paused.{StepRefused}
 
 -- ---- what was lent does not matter
 pub blind : (s : PausedRun) (y : List Float) → Blind s y
@@ -44,7 +44,7 @@ module _ (s : PausedRun) (y : List Float) (i : Input) (tol : Float) where
   verdict_same (on t) = go (ltb t.report.substeps s.limit)
     where
       pick : PausedRun → Bool → StepAnswer
-      pick r b = if b then Stepped (moved r tol t t.report false) else Refused SubstepLimit t.report.est_error (moved r tol t t.report true)
+      pick r b = if b then Ok (moved r tol t t.report false) else StepRefused SubstepLimit t.report.est_error (moved r tol t t.report true)
 
       go : (b : Bool) → (number_in (pick s b) ≡ number_in (pick s₁ b)) × (double_in (pick s b) ≡ double_in (pick s₁ b)) × (run_with_tol tol (run_in (pick s b)) ≡ run_in (pick s₁ b))
       go true = (refl, refl, refl)

@@ -36,7 +36,6 @@ use Rattle.krylov_job.specs.KrylovCall.{bound, dimension, option_checks, bound_c
 use Rattle.krylov_job.specs.declared.KrylovPhiOptions.{KrylovPhiOptions}
 use Rattle.paused_run.specs.Paused.{Job, rows, degree, leaves, field_checks, Input, tol_in, options_in, over, other_checks, step_checks, step_unless, step}
 use Rattle.paused_run.specs.declared.PausedRun.{PausedRun}
-use Rattle.paused_run.specs.declared.StepAnswer.TheVariants.{Refusal}
 use Rattle.demand_3.specs.Trace.{scaled, run_by, run_of, status_of}
 use Rattle.demand_3.proofs.Counts.{reached}
 use Rattle.demand_3.proofs.Moments.{run_counted, run_long}
@@ -51,6 +50,7 @@ use Rattle.checks.specs.Reasons.{Sound, Refused}
 use Rattle.std.specs.Prelude.{Ok, Err}
 use Rattle.checks.specs.declared.Reason.TheVariants.{VectorLength, VectorNotFinite, MagnitudeNotFinite, GainNotFinite, SubstepLimit, LengthsRejected, NoInnerPlan, RunEnded}
 use Rattle.checks.specs.declared.Reason.{Reason}
+use Rattle.paused_run.specs.Paused.{StepRefused}
 
 -- ---- of a run as it was left 31 asks whether it has ended, and its field is n + d long
 module _ (o : KrylovPhiOptions) (j : Job) (output memory : ℕ) (sound : Sound ≡ first (krylov_checks j.g j.tau j.count j.w o output memory)) where
@@ -323,7 +323,7 @@ module _ {o : KrylovPhiOptions} {j : Job} {p : Past} (l : Left o j p) (i : Input
       by_start e fit
       ∙ ap (λ (eta : Float). first (krylov_checks_by q.g q.tau q.count q.w eta (length_checks (length i.output) (rows q) (length q.w) (q.count * rows q)) (with_tol o (in_force i.tolerance p.tol)) (length i.memory))) (sym h)
 
-  pub unchanged : (k : Reason) (x : Float) → checked p i ≡ Refused k x → call_on p i ≡ leaves (Refused k x p.run) i.output i.memory p.field
+  pub unchanged : (k : Reason) (x : Float) → checked p i ≡ Refused k x → call_on p i ≡ leaves (StepRefused k x p.run) i.output i.memory p.field
   unfolding step step_unless
   unchanged k x e = ap (λ (c : Checked). step_unless c p.run p.field i) e
 

@@ -23,8 +23,7 @@ use Rattle.krylov_job.specs.KrylovCall.{krylov_checks}
 use Rattle.krylov_job.specs.declared.KrylovPhiOptions.{KrylovPhiOptions}
 use Rattle.paused_run.specs.Paused.{Job, rows, degree, PausedCall, leaves, start, Input, step_unless, step}
 use Rattle.paused_run.specs.declared.PausedRun.{PausedRun}
-use Rattle.paused_run.specs.declared.StepAnswer.{StepAnswer}
-use Rattle.paused_run.specs.declared.StepAnswer.TheVariants.{Refusal, Stepped}
+use Rattle.paused_run.specs.Paused.{StepAnswer}
 use Rattle.demand_3.specs.Trace.{Accepted, field_after, Run, status_of, accepted_by, time_of, field_of}
 use Rattle.demand_3.specs.Krylov.{euclidean, Each}
 use Rattle.demand_3.proofs.Counts.{run_recorded}
@@ -46,6 +45,7 @@ use Rattle.paused_claims.proofs.Steps.{step_done}
 use Rattle.checks.specs.Reasons.{Sound, Refused}
 use Rattle.std.specs.Prelude.{Ok, Err}
 use Rattle.checks.specs.declared.Reason.{Reason}
+use Rattle.paused_run.specs.Paused.{StepRefused}
 
 -- ---- lists
 some_front : {A : Type 0} (P : A → Type 0) (l l' : List A) → Some P l → Some P (l ++ l')
@@ -68,7 +68,7 @@ each_split P [] a h = (tt, h.0)
 each_split P (b ∷ l) a h = let k = each_split P l a h.1 in ((h.0, k.0), k.1)
 
 -- ---- one step
-early_same : (p : Past) (i : Input) (k : Reason) (x : Float) → checked p i ≡ Refused k x → call_on p i ≡ leaves (Refused k x p.run) i.output i.memory p.field
+early_same : (p : Past) (i : Input) (k : Reason) (x : Float) → checked p i ≡ Refused k x → call_on p i ≡ leaves (StepRefused k x p.run) i.output i.memory p.field
 unfolding step step_unless
 early_same p i k x e = ap (λ (c : Checked). step_unless c p.run p.field i) e
 
@@ -81,19 +81,19 @@ module _ {o : KrylovPhiOptions} {j : Job} {p : Past} (l : Left o j p) (i : Input
       d = step_done l i e
 
       go : (a : StepAnswer) → (call_on p i).answer ≡ a → Outcome o.max_substeps (made_with o j (in_force i.tolerance p.tol) i.job) (run_so_far o j p) (run_so_far o j (next o j p i)) p.run a → Causes j (next o j p i)
-      go (Stepped s) q (inl g) = absurd (true≢false (sym h ∙ ap (λ (x : StepAnswer). (run_in x).ended) q ∙ g.ended))
-      go (Stepped s) q (inr g) = elim g.finished.reached [
+      go (Ok s) q (inl g) = absurd (true≢false (sym h ∙ ap (λ (x : StepAnswer). (run_in x).ended) q ∙ g.ended))
+      go (Ok s) q (inr g) = elim g.finished.reached [
         | inl z ↦ inr (inl (ap (λ (y : List Float). eq (euclidean y) +0) d.field ∙ z))
         | inr z ↦ inl (d.time ∙ z)
       ]
-      go (Refused k x s) q (inl g) = inr (inr (inr (some_last Met p.answers (call_on p i).answer (subst Met (sym q) (inl g.number)))))
-      go (Refused k x s) q (inr g) = inr (inr (inr (some_last Met p.answers (call_on p i).answer (subst Met (sym q) (inr g.failed.number)))))
+      go (Err r) q (inl g) = inr (inr (inr (some_last Met p.answers (call_on p i).answer (subst Met (sym q) (inl g.number)))))
+      go (Err r) q (inr g) = inr (inr (inr (some_last Met p.answers (call_on p i).answer (subst Met (sym q) (inr g.failed.number)))))
 
   -- an early refusal leaves the causes
   kept : (k : Reason) (x : Float) → checked p i ≡ Refused k x → Causes j p → Causes j (next o j p i)
   kept k x e = let c = early_same p i k x e in go c
     where
-      go : call_on p i ≡ leaves (Refused k x p.run) i.output i.memory p.field → Causes j p → Causes j (next o j p i)
+      go : call_on p i ≡ leaves (StepRefused k x p.run) i.output i.memory p.field → Causes j p → Causes j (next o j p i)
       go c (inl h) = inl (ap (λ (z : PausedCall StepAnswer). (run_in z.answer).time) c ∙ h)
       go c (inr (inl h)) = inr (inl (ap (λ (z : PausedCall StepAnswer). eq (euclidean z.field) +0) c ∙ h))
       go c (inr (inr (inl h))) = inr (inr (inl h))
@@ -104,9 +104,9 @@ module _ {o : KrylovPhiOptions} {j : Job} {p : Past} (l : Left o j p) (i : Input
   met_ends plain h = go (checked p i) refl
     where
       answered : (a : StepAnswer) → (call_on p i).answer ≡ a → Met a → Outcome o.max_substeps (made_with o j (in_force i.tolerance p.tol) i.job) (run_so_far o j p) (run_so_far o j (next o j p i)) p.run a → (run_in (call_on p i).answer).ended ≡ true
-      answered (Stepped s) q h g = absurd h
-      answered (Refused k x s) q h (inl g) = ap (λ (z : StepAnswer). (run_in z).ended) q ∙ g.ended
-      answered (Refused k x s) q h (inr g) = ap (λ (z : StepAnswer). (run_in z).ended) q ∙ g.marked.ended
+      answered (Ok s) q h g = absurd h
+      answered (Err r) q h (inl g) = ap (λ (z : StepAnswer). (run_in z).ended) q ∙ g.ended
+      answered (Err r) q h (inr g) = ap (λ (z : StepAnswer). (run_in z).ended) q ∙ g.marked.ended
 
       go : (c : Checked) → checked p i ≡ c → (run_in (call_on p i).answer).ended ≡ true
       go (Ok _) e = answered (call_on p i).answer refl h (step_done l i (sym e)).outcome

@@ -17,17 +17,17 @@ use Rattle.paused_run.specs.declared.PausedRun.{PausedRun}
 use Rattle.paused_run.specs.declared.Tolerance.{Tolerance}
 use Rattle.paused_run.specs.declared.Tolerance.TheVariants.{Same, New}
 use Rattle.paused_run.specs.Paused.{StartAnswer}
-use Rattle.paused_run.specs.declared.StepAnswer.{StepAnswer}
-use Rattle.paused_run.specs.declared.StepAnswer.TheVariants.{Refusal, Stepped}
+use Rattle.paused_run.specs.Paused.{StepAnswer}
 use Rattle.paused_claims.specs.History.{run_in}
 use Rattle.paused_claims.specs.Alike.{number_in, double_in}
 use Rattle.checks.specs.Reasons.{Sound, Refused}
 use Rattle.std.specs.Prelude.{Ok}
 use Rattle.checks.specs.declared.Reason.TheVariants.{NoInnerPlan, RunEnded}
+use Rattle.paused_run.specs.Paused.{StepRefused}
 
 -- the first step on what a start handed back; a refused start answers for it
 abbrev first_step : PausedCall StartAnswer → Input → PausedCall StepAnswer
-first_step c i = elim c.answer [ Refused k x ↦ leaves (Refused k x nothing) c.output c.memory c.field | Ok s ↦ step s c.field i ]
+first_step c i = elim c.answer [ Refused k x ↦ leaves (StepRefused k x nothing) c.output c.memory c.field | Ok s ↦ step s c.field i ]
   where
     nothing : PausedRun
     nothing =
@@ -69,7 +69,7 @@ empty = csr 1 (0 ∷ 0 ∷ []) [] []
 -- ---- the start's eta stays in the gains: with its own the step would hand out 1
 own_gain : first_step (start (options tenth 30 100000) (job empty 1f 2 (+0 ∷ 1f ∷ [])) (nat 7 ∷ []) (replicate 27 (nat 9)) (replicate 2 (nat 9))) (input Same (job empty 1f 2 (+0 ∷ nat 4 ∷ [])) (nat 7 ∷ []) (replicate 28 (nat 9)))
     ≡ leaves
-    (Stepped (record {
+    (Ok (record {
       time = 1f;
       next = +0;
       report = record { matvecs = 2; substeps = 1; rejected = 0; est_error = bits 0x3cc0_0000_0000_0000; shortest = 1f; last = 1f };
@@ -151,7 +151,7 @@ signs_kept : start (options tenth 30 9) zeros (nat 7 ∷ nat 7 ∷ []) (replicat
 unfolding open_paused
 signs_kept = refl
 
-idle_31 : step idle (-0 ∷ +0 ∷ []) (input Same zeros (nat 7 ∷ []) []) ≡ leaves (Refused RunEnded nan idle) (nat 7 ∷ []) [] (-0 ∷ +0 ∷ [])
+idle_31 : step idle (-0 ∷ +0 ∷ []) (input Same zeros (nat 7 ∷ []) []) ≡ leaves (StepRefused RunEnded nan idle) (nat 7 ∷ []) [] (-0 ∷ +0 ∷ [])
 unfolding open_paused
 idle_31 = refl
 
@@ -191,7 +191,7 @@ ring_run time next report tol ended =
 tightened : then_step (first_step ring_begun (on_ring Same)) (on_ring (New thousandth))
     ≡ (let y = bits 0x3fee_f740_b4a3_7480 ∷ bits 0x3fdd_9212_b86d_25ba ∷ bits 0x3fd4_3767_1ac2_648d ∷ [] in
     leaves
-    (Stepped
+    (Ok
     (ring_run (bits 0x3fb1_26e9_78d4_fdf4) (bits 0x3faa_1cac_0831_26ea)
     (record {
       matvecs = 6;
@@ -219,7 +219,7 @@ abbrev short_first : PausedCall StepAnswer
 short_first = first_step (start (options hundredth 2 9) short (replicate 3 (nat 7)) (replicate 34 (nat 9)) (replicate 3 (nat 9))) short_step
 
 above_one : short_first.answer
-    ≡ Stepped
+    ≡ Ok
     (ring_run (bits 0x3f9f_be76_c8b4_3958) (bits 0x3ff4_cccc_cccc_cccd)
     (record { matvecs = 3; substeps = 1; rejected = 0; est_error = bits 0x3e86_7ae1_cf5f_8dfe; shortest = bits 0x3f9f_be76_c8b4_3958; last = bits 0x3f9f_be76_c8b4_3958 })
     hundredth false)
@@ -227,7 +227,7 @@ unfolding open_paused
 above_one = refl
 
 finished : (then_step short_first short_step).answer
-    ≡ Stepped
+    ≡ Ok
     (ring_run 1f (bits 0x3ff4_cccc_cccc_cccd)
     (record { matvecs = 6; substeps = 2; rejected = 0; est_error = bits 0x3f72_6e97_9028_9a8c; shortest = bits 0x3f9f_be76_c8b4_3958; last = bits 0x3fef_020c_49ba_5e35 })
     hundredth true)

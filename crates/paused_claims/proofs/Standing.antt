@@ -37,8 +37,7 @@ use Rattle.paused_run.specs.declared.PausedRun.{PausedRun}
 use Rattle.paused_run.specs.declared.Tolerance.{Tolerance}
 use Rattle.paused_run.specs.declared.Tolerance.TheVariants.{Same, New}
 use Rattle.paused_run.specs.Paused.{StartAnswer}
-use Rattle.paused_run.specs.declared.StepAnswer.{StepAnswer}
-use Rattle.paused_run.specs.declared.StepAnswer.TheVariants.{Refusal, Stepped}
+use Rattle.paused_run.specs.Paused.{StepAnswer}
 use Rattle.demand_3.specs.Trace.{Run, runs, scaled, allowed, run_by, run_of, status_of}
 use Rattle.demand_3.specs.Krylov.{Each, euclidean}
 use Rattle.demand_3.specs.Demand3.{operator_of}
@@ -50,9 +49,10 @@ use Rattle.paused_claims.specs.History as history
 use Rattle.paused_claims.specs.Start.{values_of, job_checks}
 use Rattle.paused_claims.proofs.Known.{some_limit, long}
 use Rattle.paused_claims.proofs.Start.{started_is, the_start}
-use Rattle.checks.specs.Reasons.{Sound, Refused}
+use Rattle.checks.specs.Reasons.{Sound}
 use Rattle.std.specs.Prelude.{Ok, Err}
 use Rattle.checks.specs.declared.Reason.TheVariants.{SubstepLimit}
+use Rattle.paused_run.specs.Paused.{StepRefused}
 
 -- ---- by where a run stands
 abbrev pub report_by : Float → Turn State End → KrylovPhiReport
@@ -194,7 +194,7 @@ module _ (o : KrylovPhiOptions) (j : Job) (f : Scale) where
   verdict_is tol now t (on u) h = go (ltb u.report.substeps o.max_substeps)
     where
       pick : Bool → StepAnswer
-      pick b = if b then Stepped (moved (standing_as tol (on t)) now u u.report false) else Refused SubstepLimit u.report.est_error (moved (standing_as tol (on t)) now u u.report true)
+      pick b = if b then Ok (moved (standing_as tol (on t)) now u u.report false) else StepRefused SubstepLimit u.report.est_error (moved (standing_as tol (on t)) now u u.report true)
 
       go : (b : Bool) → run_in (pick b) ≡ standing_with (tol_kept Sound (pick b) tol now) (on u) (not b)
       go true = refl

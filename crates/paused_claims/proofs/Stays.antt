@@ -16,15 +16,15 @@ use Rattle.krylov_advance.specs.Run.{State, End, finished, refused}
 use Rattle.krylov_job.specs.declared.KrylovPhiOptions.{KrylovPhiOptions}
 use Rattle.paused_run.specs.Paused.{Job, Input, tol_in, setting_of, resumed, moved, step_checks, verdict, substep_of, after_substep, step_unless, step}
 use Rattle.paused_run.specs.declared.PausedRun.{PausedRun}
-use Rattle.paused_run.specs.declared.StepAnswer.{StepAnswer}
-use Rattle.paused_run.specs.declared.StepAnswer.TheVariants.{Refusal, Stepped}
+use Rattle.paused_run.specs.Paused.{StepAnswer}
 use Rattle.paused_claims.specs.History.{Past, run_in, in_force, tol_kept, Left}
 use Rattle.paused_claims.specs.History as history
 use Rattle.paused_claims.specs.Stays.{Stays, StepStays, LeftStays}
 use Rattle.paused_claims.proofs.Standing.{Refuses, substep_refuses, tol_is, Resting, Moving, left_stands}
-use Rattle.checks.specs.Reasons.{Sound, Refused}
+use Rattle.checks.specs.Reasons.{Sound}
 use Rattle.std.specs.Prelude.{Ok, Err}
 use Rattle.checks.specs.declared.Reason.TheVariants.{SubstepLimit}
+use Rattle.paused_run.specs.Paused.{StepRefused}
 
 module _ (s : PausedRun) where
   pub stays_here : Stays s s
@@ -34,7 +34,7 @@ module _ (s : PausedRun) where
   unfolding verdict
   verdict_stays tol (on t) = go (ltb t.report.substeps s.limit)
     where
-      go : (b : Bool) → Stays s (run_in (if b then Stepped (moved s tol t t.report false) else Refused SubstepLimit t.report.est_error (moved s tol t t.report true)))
+      go : (b : Bool) → Stays s (run_in (if b then Ok (moved s tol t t.report false) else StepRefused SubstepLimit t.report.est_error (moved s tol t t.report true)))
       go true = record { eta = refl; factors = refl; norm = refl; m = refl; limit = refl; n = refl; count = refl }
       go false = record { eta = refl; factors = refl; norm = refl; m = refl; limit = refl; n = refl; count = refl }
   verdict_stays tol (out (finished t)) = record { eta = refl; factors = refl; norm = refl; m = refl; limit = refl; n = refl; count = refl }
@@ -45,7 +45,7 @@ module _ (s : PausedRun) where
   verdict_tol tol u (on t) h = go (ltb t.report.substeps s.limit)
     where
       pick : Bool → StepAnswer
-      pick b = if b then Stepped (moved s tol t t.report false) else Refused SubstepLimit t.report.est_error (moved s tol t t.report true)
+      pick b = if b then Ok (moved s tol t t.report false) else StepRefused SubstepLimit t.report.est_error (moved s tol t t.report true)
 
       go : (b : Bool) → (run_in (pick b)).tol ≡ tol_kept Sound (pick b) s.tol tol
       go true = refl

@@ -25,8 +25,7 @@ use Rattle.krylov_job.specs.KrylovCall.{dimension, krylov_need}
 use Rattle.krylov_job.specs.declared.KrylovPhiOptions.{KrylovPhiOptions}
 use Rattle.paused_run.specs.Paused.{Job, rows, degree, PausedCall, Input, moved, stopped, over, verdict, after_substep, step_unless, step}
 use Rattle.paused_run.specs.declared.PausedRun.{PausedRun}
-use Rattle.paused_run.specs.declared.StepAnswer.{StepAnswer}
-use Rattle.paused_run.specs.declared.StepAnswer.TheVariants.{Refusal, Stepped}
+use Rattle.paused_run.specs.Paused.{StepAnswer}
 use Rattle.demand_3.specs.Trace.{Accepted, accepted_in, made, runs, trace, total, Run, status_of, accepted_by, tried_by, time_of, field_of, estimate_of}
 use Rattle.demand_3.specs.Krylov.{euclidean, Counted, Failed}
 use Rattle.demand_3.proofs.Runs.{trace_append}
@@ -40,8 +39,10 @@ use Rattle.paused_claims.proofs.Proposed.{run_proposed}
 use Rattle.paused_claims.proofs.Standing.{report_by, passed, standing_as, first_norm, reached_field, each_one, answer_is, verdict_is, run_with, Stood, Made, substep_refuses, left_stands}
 use Rattle.paused_claims.proofs.Standing as standing
 use Rattle.paused_claims.proofs.Stays.{left_stays}
-use Rattle.checks.specs.Reasons.{Sound, Refused}
+use Rattle.checks.specs.Reasons.{Sound}
 use Rattle.checks.specs.declared.Reason.TheVariants.{SubstepLimit}
+use Rattle.paused_run.specs.Paused.{StepRefused}
+use Rattle.std.specs.Prelude.{Ok}
 
 -- ---- one substep: accepted where it does not refuse; 28 tells its tol, 29 the argument of its last trial
 abbrev Told : Setting → Turn Trying Tried → Turn State End → List Accepted → Type 0
@@ -169,7 +170,7 @@ module _
   outcome (on z) e (a, k) g = go (ltb z.report.substeps limit) refl
     where
       go : (b : Bool) → ltb z.report.substeps limit ≡ b
-          → Outcome limit q before u s (if b then Stepped (moved s₁ now z z.report false) else Refused SubstepLimit z.report.est_error (moved s₁ now z z.report true))
+          → Outcome limit q before u s (if b then Ok (moved s₁ now z z.report false) else StepRefused SubstepLimit z.report.est_error (moved s₁ now z z.report true))
       go true r =
           let l = ltb-true z.report.substeps limit r in
           inl (record { one = one_more_of a k; goes_on = g; below = let c = substeps_at (on z) e in omega (arith, l, c); estimate = estimate_at (on z) e; ended = refl })

@@ -30,8 +30,7 @@ use Rattle.krylov_job.specs.declared.KrylovPhiOptions.{KrylovPhiOptions}
 use Rattle.krylov_job.specs.KrylovCall.{KrylovAnswer}
 use Rattle.paused_run.specs.Paused.{Job, rows, PausedCall, need_of, Input, moved, over, verdict, field_after, after_substep}
 use Rattle.paused_run.specs.declared.PausedRun.{PausedRun}
-use Rattle.paused_run.specs.declared.StepAnswer.{StepAnswer}
-use Rattle.paused_run.specs.declared.StepAnswer.TheVariants.{Refusal, Stepped}
+use Rattle.paused_run.specs.Paused.{StepAnswer}
 use Rattle.demand_3.specs.Trace.{Run, runs, status_of}
 use Rattle.demand_3.specs.Krylov.{Each, euclidean}
 use Rattle.demand_3.specs.Demand3.{operator_of}
@@ -57,6 +56,7 @@ use Rattle.checks.specs.Reasons.{Sound, Refused}
 use Rattle.std.specs.Prelude.{Ok, Err}
 use Rattle.checks.specs.declared.Reason.TheVariants.{SubstepLimit}
 use Rattle.checks.specs.declared.Reason.{Reason}
+use Rattle.paused_run.specs.Paused.{StepRefused}
 
 pub left_same : {o : KrylovPhiOptions} {j : Job} {p : Past} → LeftSame o j p → Left o j p
 left_same (same.started output memory field e) = history.started output memory field e
@@ -75,8 +75,8 @@ replicate_one a x = sym (replicate_more a 1 x) ∙ ap (λ (n : ℕ). replicate n
 
 tol_same : (c : Checked) (a : StepAnswer) (x : Float) → tol_kept c a x x ≡ x
 tol_same (Err r) a x = refl
-tol_same (Ok _) (Stepped s) x = refl
-tol_same (Ok _) (Refused k y s) x = go (eqb k 27)
+tol_same (Ok _) (Ok s) x = refl
+tol_same (Ok _) (Err r) x = go (eqb r.refusal.reason 27)
   where
     go : (b : Bool) → (if b then x else x) ≡ x
     go true = refl
@@ -202,7 +202,7 @@ module _ (o : KrylovPhiOptions) (j : Job) (f : Scale) (by : pow2_scale (values_o
     unfolding verdict
     as_by now (on z) e c = go (ltb z.report.substeps limit) refl
       where
-        go : (b : Bool) → ltb z.report.substeps limit ≡ b → AsWhole o j k i.output i.memory (left_in (on z)) (if b then Stepped (moved s₁ now z z.report false) else Refused SubstepLimit z.report.est_error (moved s₁ now z z.report true))
+        go : (b : Bool) → ltb z.report.substeps limit ≡ b → AsWhole o j k i.output i.memory (left_in (on z)) (if b then Ok (moved s₁ now z z.report false) else StepRefused SubstepLimit z.report.est_error (moved s₁ now z z.report true))
         go true q = ((λ _. goes_whole k z some most e), (λ h. absurd (true≢false (sym h))))
         go false q =
             let n : k ≡ limit = let l = ltb-false z.report.substeps limit q in omega (arith, l, c, most) in

@@ -11,12 +11,12 @@ use Rattle.generator_action.specs.Generator.{Generator}
 use Rattle.combination.specs.Combination.{further, vector}
 use Rattle.krylov_job.specs.declared.KrylovPhiOptions.{KrylovPhiOptions}
 use Rattle.paused_run.specs.Paused.{Job, leaves, Input}
-use Rattle.paused_run.specs.declared.StepAnswer.TheVariants.{Refusal}
 use Rattle.paused_claims.specs.History.{own_eta, Past, call_on, checked, in_force}
 use Rattle.paused_claims.specs.Start.{job_checks}
 use Rattle.checks.specs.Reasons.{Sound, Refused}
 use Rattle.checks.specs.declared.Reason.TheVariants.{VectorLength, VectorNotFinite, GainNotFinite, SubstepLimit, LengthsRejected, NoInnerPlan, RunEnded}
 use Rattle.checks.specs.declared.Reason.{Reason}
+use Rattle.paused_run.specs.Paused.{StepRefused}
 
 -- a generator whose own checks have none of the numbers that are told apart here: of jobs (17, 22), of runs (27 to 29) and of ended runs (31)
 pub record Plain (g : Generator) : Type 0 where
@@ -69,4 +69,4 @@ pub record EarlyClaim (o : KrylovPhiOptions) (j : Job) (p : Past) (i : Input) : 
   -- which, where its own eta is the start's, is the whole call's list itself
   pub own : p.run.ended ≡ false → Fits j i.job → own_eta i.job ≡ own_eta j → checked p i ≡ first (step_job_checks o p i)
   -- nothing is changed
-  pub unchanged : (k : Reason) (x : Float) → checked p i ≡ Refused k x → call_on p i ≡ leaves (Refused k x p.run) i.output i.memory p.field
+  pub unchanged : (k : Reason) (x : Float) → checked p i ≡ Refused k x → call_on p i ≡ leaves (StepRefused k x p.run) i.output i.memory p.field

@@ -14,12 +14,11 @@ use Rattle.paused_run.specs.Paused.{Job, PausedCall, start, Input, step_checks, 
 use Rattle.paused_run.specs.declared.PausedRun.{PausedRun}
 use Rattle.paused_run.specs.declared.Tolerance.{Tolerance}
 use Rattle.paused_run.specs.declared.Tolerance.TheVariants.{Same, New}
-use Rattle.paused_run.specs.declared.StepAnswer.{StepAnswer}
-use Rattle.paused_run.specs.declared.StepAnswer.TheVariants.{Refusal, Stepped}
+use Rattle.paused_run.specs.Paused.{StepAnswer}
 use Rattle.demand_3.specs.Trace.{Run}
 use Rattle.demand_3.specs.Krylov.{euclidean}
 use Rattle.demand_3.specs.Demand3.{krylov_run, clamped}
-use Rattle.checks.specs.Reasons.{Sound, Refused}
+use Rattle.checks.specs.Reasons.{Sound}
 use Rattle.std.specs.Prelude.{Ok, Err}
 
 -- ---- what the start alone gives
@@ -70,8 +69,8 @@ Steps p i = Sound ≡ checked p i
 
 -- the run that an answer hands back
 abbrev pub run_in : StepAnswer → PausedRun
-run_in (Refused k x s) = s
-run_in (Stepped s) = s
+run_in (Err r) = r.run
+run_in (Ok s) = s
 
 -- the tol in force at a step: 'a new tol for itself and the later ones'
 abbrev pub in_force : Tolerance → Float → Float
@@ -81,8 +80,8 @@ in_force (New x) tol = x
 -- the tol after it: an early refusal, 28 and 29 leave the one before
 abbrev pub tol_kept : Checked → StepAnswer → Float → Float → Float
 tol_kept (Err r) a before now = before
-tol_kept (Ok _) (Stepped s) before now = now
-tol_kept (Ok _) (Refused k x s) before now = if eqb k 27 then now else before
+tol_kept (Ok _) (Ok s) before now = now
+tol_kept (Ok _) (Err r) before now = if eqb r.refusal.reason 27 then now else before
 
 -- one more setting, unless it was refused early
 abbrev pub one_more : Checked → Setting → List Setting

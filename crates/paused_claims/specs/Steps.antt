@@ -14,13 +14,14 @@ use Rattle.krylov_advance.specs.Run.{first_length}
 use Rattle.krylov_job.specs.declared.KrylovPhiOptions.{KrylovPhiOptions}
 use Rattle.paused_run.specs.Paused.{Job, PausedCall, Input}
 use Rattle.paused_run.specs.declared.PausedRun.{PausedRun}
-use Rattle.paused_run.specs.declared.StepAnswer.{StepAnswer}
-use Rattle.paused_run.specs.declared.StepAnswer.TheVariants.{Refusal, Stepped}
+use Rattle.paused_run.specs.Paused.{StepAnswer}
 use Rattle.demand_3.specs.Trace.{Accepted, Run, accepted_by, tried_by, time_of, field_of, estimate_of}
 use Rattle.demand_3.specs.Krylov.{euclidean, Counted, GoesOn, Finished, Failed}
 use Rattle.paused_claims.specs.History.{dimension_in, made_with, Past, call_on, Steps, run_in, in_force, next, run_so_far}
 use Rattle.paused_claims.specs.Start.{need_in}
 use Rattle.checks.specs.declared.Reason.TheVariants.{SubstepLimit}
+use Rattle.paused_run.specs.Paused.{StepRefused}
+use Rattle.std.specs.Prelude.{Ok, Err}
 
 -- ---- 'proposed step': after an accepted substep by its error, or the time that is left
 unfoldable pub proposed : Float → Accepted → Float
@@ -82,8 +83,8 @@ pub record Fails (q : Setting) (before u : Run) (r : PausedRun) (k : ℕ) (x : F
   pub marked : Marked r s
 
 abbrev pub Outcome : ℕ → Setting → Run → Run → PausedRun → StepAnswer → Type 0
-Outcome limit q before u r (Stepped s) = StillGoes limit before u s ⊎ Finishes before u s
-Outcome limit q before u r (Refusal k x s) = Spends limit before u k x s ⊎ Fails q before u r k x s
+Outcome limit q before u r (Ok s) = StillGoes limit before u s ⊎ Finishes before u s
+Outcome limit q before u r (Err e) = Spends limit before u e.refusal.reason e.refusal.value e.run ⊎ Fails q before u r e.refusal.reason e.refusal.value e.run
 
 -- ---- the call c of the step i on the run p
 pub record Done (o : KrylovPhiOptions) (j : Job) (p : Past) (i : Input) (u : Run) (c : PausedCall StepAnswer) : Type 0 where
@@ -108,5 +109,5 @@ pub record AtLimit (limit : ℕ) (u : Run) (x : Float) : Type 0 where
   pub told : x ≡ estimate_of u
 
 pub record Exactly27 (o : KrylovPhiOptions) (j : Job) (p : Past) (i : Input) : Type 0 where
-  pub only : Steps p i → {x : Float} {s : PausedRun} → (call_on p i).answer ≡ Refusal SubstepLimit x s → AtLimit o.max_substeps (run_so_far o j (next o j p i)) x
-  pub when : Steps p i → {x : Float} → AtLimit o.max_substeps (run_so_far o j (next o j p i)) x → (s : PausedRun) × ((call_on p i).answer ≡ Refusal SubstepLimit x s)
+  pub only : Steps p i → {x : Float} {s : PausedRun} → (call_on p i).answer ≡ StepRefused SubstepLimit x s → AtLimit o.max_substeps (run_so_far o j (next o j p i)) x
+  pub when : Steps p i → {x : Float} → AtLimit o.max_substeps (run_so_far o j (next o j p i)) x → (s : PausedRun) × ((call_on p i).answer ≡ StepRefused SubstepLimit x s)

@@ -7,13 +7,12 @@ use Rattle.krylov_job.specs.declared.KrylovPhiOptions.{KrylovPhiOptions}
 use Rattle.krylov_job.specs.KrylovCall.{KrylovAnswer}
 use Rattle.paused_run.specs.Paused.{Job, PausedCall, start, Input}
 use Rattle.paused_run.specs.declared.PausedRun.{PausedRun}
-use Rattle.paused_run.specs.declared.StepAnswer.{StepAnswer}
-use Rattle.paused_run.specs.declared.StepAnswer.TheVariants.{Refusal, Stepped}
+use Rattle.paused_run.specs.Paused.{StepAnswer}
 use Rattle.demand_3.specs.Krylov.{Each, Zeros}
 use Rattle.paused_claims.specs.History.{Past, call_on, Steps, in_force, at_start, next}
 use Rattle.paused_claims.specs.Start.{values_of, need_in}
 use Rattle.checks.specs.Reasons.{Refused}
-use Rattle.std.specs.Prelude.{Ok}
+use Rattle.std.specs.Prelude.{Ok, Err}
 use Rattle.checks.specs.declared.Reason.TheVariants.{SubstepLimit}
 
 -- the start's job again, and no new tol or the start's
@@ -33,10 +32,10 @@ undivided o j limit output memory = phi_combination_krylov j.g j.tau j.count j.w
 -- after its k-th step that was not refused early: where the run goes on, output and working memory are those of the whole call with the limit k, which 27 refuses with the
 -- estimate; where it ends, they and the report or the refusal are the whole call's
 abbrev pub AsWhole : KrylovPhiOptions → Job → ℕ → List Float → List Float → PausedCall StepAnswer → StepAnswer → Type 0
-AsWhole o j k output memory c (Stepped s) =
+AsWhole o j k output memory c (Ok s) =
     (s.ended ≡ false → undivided o j k output memory ≡ ends (Refused SubstepLimit s.report.est_error) c.output c.memory)
     × (s.ended ≡ true → undivided o j o.max_substeps output memory ≡ ends (Ok s.report) c.output c.memory)
-AsWhole o j k output memory c (Refused r x s) = undivided o j o.max_substeps output memory ≡ ends (Refused r x) c.output c.memory
+AsWhole o j k output memory c (Err e) = undivided o j o.max_substeps output memory ≡ ends (Refused e.refusal.reason e.refusal.value) c.output c.memory
 
 -- with the whole output, and enough working memory
 pub record Served (o : KrylovPhiOptions) (j : Job) (i : Input) : Type 0 where

@@ -23,10 +23,8 @@ use Rattle.krylov_advance.specs.declared.Progress.TheVariants.{On, Finished, Ref
 use Rattle.krylov_job.specs.declared.KrylovPhiOptions.{KrylovPhiOptions}
 use Rattle.krylov_job.specs.declared.RunJob.{RunJob}
 use Rattle.paused_run.specs.declared.PausedRun.{PausedRun}
-use Rattle.paused_run.specs.Paused.{StartAnswer}
-use Rattle.paused_run.specs.declared.StepAnswer.{StepAnswer}
+use Rattle.paused_run.specs.Paused.{StartAnswer, StepAnswer}
 use Rattle.paused_run.specs.Paused.{Job, PausedCall, leaves, verdict, field_after}
-use Rattle.checks.specs.Reasons.{Refused}
 use Rattle.std.specs.Prelude.{Ok}
 use Rattle.checks.specs.declared.Reason.TheVariants.{VectorLength}
 
@@ -79,7 +77,7 @@ state c r y = record { control = c; report = r; y = y }
 unfoldable pub turned : Progress → List Float → Turn State End
 turned (On c r) y = on (state c r y)
 turned (Finished c r) y = out (finished (state c r y))
-turned (Refused k x c r) y = out (refused k x (state c r y))
+turned (Refused e c r) y = out (refused e.reason e.value (state c r y))
 
 unfoldable pub after_of : PausedRun → Float → RunJob → List Float → Turn State End → PausedCall StepAnswer
 after_of s tol j memory o = leaves (verdict s tol o) (window 0 j.g.n (scale s.factors.up (field_after o))) (cleared j.need memory) (field_after o)

@@ -25,17 +25,23 @@ use Rattle.krylov_job.specs.declared.KrylovPhiOptions.{KrylovPhiOptions}
 use Rattle.paused_run.specs.declared.PausedRun.{PausedRun}
 use Rattle.paused_run.specs.declared.Tolerance.{Tolerance}
 use Rattle.paused_run.specs.declared.Tolerance.TheVariants.{Same, New}
-use Rattle.paused_run.specs.declared.StepAnswer.{StepAnswer}
-use Rattle.paused_run.specs.declared.StepAnswer.TheVariants.{Refusal, Stepped}
-use Rattle.checks.specs.Reasons.{Refused}
-use Rattle.std.specs.Prelude.{Ok, Err}
+use Rattle.paused_run.specs.declared.StepRefusal.{StepRefusal}
+use Rattle.checks.specs.Reasons.{refusal}
+use Rattle.checks.specs.declared.Reason.{Reason}
 use Rattle.checks.specs.declared.Reason.TheVariants.{VectorLength, WorkLength, SubstepLimit, RunEnded}
-use Rattle.std.specs.Prelude.{Result}
+use Rattle.std.specs.Prelude.{Result, Ok, Err}
 use Rattle.checks.specs.declared.Refusal.{Refusal}
 
 -- a refusal, or the run that was started
 abbrev pub StartAnswer : Type 0
 StartAnswer = Result PausedRun Refusal
+
+-- a refusal with the run that it leaves, or the run after a step
+abbrev pub StepAnswer : Type 0
+StepAnswer = Result PausedRun StepRefusal
+
+abbrev pub StepRefused : Reason → Float → PausedRun → StepAnswer
+StepRefused k x s = Err (record { refusal = refusal k x; run = s })
 
 -- matrix, tau and vectors: what comes at the start, and again at each step
 pub record Job : Type 0 where
@@ -123,7 +129,7 @@ begun o j y memory (By f) =
 
 -- a refused start changes nothing
 unfoldable pub start_unless : Checked → KrylovPhiOptions → Job → List Float → List Float → List Float → PausedCall StartAnswer
-start_unless (Err r) o j output memory field = leaves (start_answer.Err r) output memory field
+start_unless (Err r) o j output memory field = leaves (Err r) output memory field
 start_unless (Ok _) o j output memory field = begun o j (first_field j) (cleared (need_of j o.m) memory) (pow2_scale (first_field j))
 
 unfoldable pub start : KrylovPhiOptions → Job → List Float → List Float → List Float → PausedCall StartAnswer
@@ -206,10 +212,10 @@ stopped s =
 -- the answer to a substep: 27 with the limit's last one, unless it ends the run with a result, which divides the estimate by the first norm; 28 and 29
 unfoldable pub verdict : PausedRun → Float → Turn State End → StepAnswer
 verdict s tol (on t) =
-    if ltb t.report.substeps s.limit then Stepped (moved s tol t t.report false)
-    else Refused SubstepLimit t.report.est_error (moved s tol t t.report true)
-verdict s tol (out (finished t)) = Stepped (moved s tol t (relative_report t.report s.norm) true)
-verdict s tol (out (refused k x t)) = Refused k x (stopped s)
+    if ltb t.report.substeps s.limit then Ok (moved s tol t t.report false)
+    else StepRefused SubstepLimit t.report.est_error (moved s tol t t.report true)
+verdict s tol (out (finished t)) = Ok (moved s tol t (relative_report t.report s.norm) true)
+verdict s tol (out (refused k x t)) = StepRefused k x (stopped s)
 
 -- the field after a substep: the last accepted one
 abbrev pub field_after : Turn State End → List Float
@@ -228,7 +234,7 @@ after_substep s i o =
 
 -- an early refusal leaves the run unchanged
 unfoldable pub step_unless : Checked → PausedRun → List Float → Input → PausedCall StepAnswer
-step_unless (Err r) s y i = leaves (Err r s) i.output i.memory y
+step_unless (Err r) s y i = leaves (StepRefused r.reason r.value s) i.output i.memory y
 step_unless (Ok _) s y i = after_substep s i (substep_of s y i)
 
 unfoldable pub step : PausedRun → List Float → Input → PausedCall StepAnswer

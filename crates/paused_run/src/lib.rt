@@ -38,18 +38,11 @@ pub enum Tolerance {
     New(f64),
 }
 
-// A refusal's number and double, or the run that was started.
+// Why a step is refused, and the run that it leaves.
 #[derive(Clone, Copy)]
-pub enum StartAnswer {
-    Refusal(u32, f64),
-    Started(PausedRun),
-}
-
-// The run after a step, and the refusal's number and double where there is one.
-#[derive(Clone, Copy)]
-pub enum StepAnswer {
-    Refusal(u32, f64, PausedRun),
-    Stepped(PausedRun),
+pub struct StepRefusal {
+    pub refusal: Refusal,
+    pub run: PausedRun,
 }
 
 // The first values of the field, scaled back.
@@ -145,7 +138,10 @@ pub fn check_other(run: PausedRun, n: usize, count: usize, long: usize) -> Check
     ensures { result ≡ first (other_checks_by run n count long) }
 {
     if is_other(run, n, count) {
-        return Err(Refusal { reason: Reason::VectorLength, value: float::count(long) });
+        return Err(Refusal {
+            reason: Reason::VectorLength,
+            value: float::count(long),
+        });
     }
     Ok(())
 }
@@ -193,21 +189,30 @@ fn stopped(run: PausedRun) -> PausedRun
     }
 }
 
-// The answer to a substep: 27 with the limit's last one, unless it ends the run with a result.
-pub fn verdict(run: PausedRun, tol: f64, o: Progress) -> StepAnswer
+// The answer to a substep: refused with the limit's last one, unless it ends the run with a result.
+pub fn verdict(run: PausedRun, tol: f64, o: Progress) -> Result<PausedRun, StepRefusal>
     ensures { (y : List Float) → result ≡ verdict run tol (turned o y) }
 {
     match o {
         Progress::On(c, r) => {
             if r.substeps < run.limit {
-                return StepAnswer::Stepped(moved(run, tol, c, r, false));
+                return Ok(moved(run, tol, c, r, false));
             }
-            Err(Refusal { reason: Reason::SubstepLimit, value: r.est_error, moved(run, tol, c, r, true) })
+            Err(StepRefusal {
+                refusal: Refusal {
+                    reason: Reason::SubstepLimit,
+                    value: r.est_error,
+                },
+                run: moved(run, tol, c, r, true),
+            })
         }
         Progress::Finished(c, r) => {
             let report = phi_krylov_arnoldi::relative_report(r, run.norm);
-            StepAnswer::Stepped(moved(run, tol, c, report, true))
+            Ok(moved(run, tol, c, report, true))
         }
-        Progress::Refused(number, x, _, _) => StepAnswer::Refusal(number, x, stopped(run)),
+        Progress::Refused(refusal, _, _) => Err(StepRefusal {
+            refusal,
+            run: stopped(run),
+        }),
     }
 }

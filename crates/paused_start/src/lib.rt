@@ -17,9 +17,9 @@ ghost use Rattle.paused_run.specs.Paused.{leaves, start, over};
 ghost use Rattle.paused_run.specs.Inner.{job_over, first_of, begun_of};
 
 use checks::{Reason, Refusal};
-use generator_action::{MatrixAnswer, Shape};
+use generator_action::Shape;
 use krylov_job::{Eta, KrylovPhiOptions, RunJob};
-use paused_run::{PausedRun, StartAnswer};
+use paused_run::PausedRun;
 use pow2::{Prescale, Scale};
 
 // A run from a field that is not all zeros, which is scaled by a power of two.
@@ -63,9 +63,9 @@ fn begin(
         Prescale::None => {
             vectors::copy_from(out, 0, field, 0, n);
             let one = Scale { down: 1.0, up: 1.0 };
-            StartAnswer::Started(paused_run::fresh(o, j, one, 0.0, 0.0, true))
+            Ok(paused_run::fresh(o, j, one, 0.0, 0.0, true))
         }
-        Prescale::By(f) => StartAnswer::Started(first_run(o, j, f, out, field)),
+        Prescale::By(f) => Ok(first_run(o, j, f, out, field)),
     }
 }
 
@@ -111,6 +111,6 @@ pub fn start(
     ensures { leaves result out.new work.new field.new ≡ start o (record { g = forward (csr n starts.now cols.now vals.now) (given with_mass mass.now); tau = tau; count = count; w = w.now }) out.old work.old field.old }
 {
     let matrix = generator_checks::check_generator(n, starts, cols, vals, with_mass, mass)?;
-    let g = generator_action::generator_shape(n, with_mass, vals.len(), norm);
+    let g = generator_action::generator_shape(n, with_mass, vals.len(), matrix.norm);
     started(g, tau, count, w, o, out, work, field)
 }

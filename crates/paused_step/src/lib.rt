@@ -13,10 +13,10 @@ ghost use Rattle.paused_run.specs.Paused.{leaves, over, step};
 ghost use Rattle.paused_run.specs.Inner.{job_over};
 
 use checks::{Reason, Refusal};
-use generator_action::{MatrixAnswer, Shape};
+use generator_action::Shape;
 use gram_schmidt::Krylov;
 use krylov_job::Eta;
-use paused_run::{PausedRun, StepAnswer, Tolerance};
+use paused_run::{PausedRun, StepRefusal, Tolerance};
 
 // A step over a generator that passed its checks, of a run that 31 does not refuse.
 pub fn stepped(
@@ -33,7 +33,7 @@ pub fn stepped(
     out: &mut [f64],
     work: &mut [f64],
     field: &mut [f64],
-) -> StepAnswer
+) -> Result<PausedRun, StepRefusal>
     requires passed { Passed (csr g.n starts.now cols.now vals.now) (given g.with_mass mass.now) g }
     requires run_value { over run ≡ false }
     ensures { (gs : List Check) → Sound ≡ first gs → leaves result out.new work.new field.new ≡ step run field.old (record { tolerance = tolerance; job = job_over gs g starts.now cols.now vals.now mass.now tau count w.now; output = out.old; memory = work.old }) }
@@ -44,12 +44,12 @@ pub fn stepped(
     let others = paused_run::check_other(run, n, count, w.len());
     let began = Eta::Began(run.eta);
     let j = krylov_job::admit_job(g, tau, count, w, began, o, out.len(), others, work.len());
-    let job = j.checked;
-    let Ok(()) = job else {
-        return StepAnswer::Refusal(checks::number(job), checks::reported(job), run);
-    };
+    j.checked.map_err(|refusal| StepRefusal { refusal, run })?;
     if field.len() != n + j.d {
-        return Err(Refusal { reason: Reason::WorkLength, value: float::not_a_number(), run });
+        return Err(StepRefusal {
+            refusal: Refusal { reason: Reason::WorkLength, value: float::not_a_number() },
+            run,
+        });
     }
     paused_advance::advance(
         run,
@@ -82,21 +82,18 @@ pub fn step(
     out: &mut [f64],
     work: &mut [f64],
     field: &mut [f64],
-) -> StepAnswer
+) -> Result<PausedRun, StepRefusal>
     ensures { leaves result out.new work.new field.new ≡ step run field.old (record { tolerance = tolerance; job = record { g = forward (csr n starts.now cols.now vals.now) (given with_mass mass.now); tau = tau; count = count; w = w.now }; output = out.old; memory = work.old }) }
 {
     if paused_run::over(run) {
-        return Err(Refusal { reason: Reason::RunEnded, value: float::not_a_number(), run });
-    }
-    let matrix = generator_checks::check_generator(n, starts, cols, vals, with_mass, mass);
-    let MatrixAnswer::Norm(norm, _) = matrix else {
-        return StepAnswer::Refusal(
-            generator_action::number(matrix),
-            generator_action::value(matrix),
+        return Err(StepRefusal {
+            refusal: Refusal { reason: Reason::RunEnded, value: float::not_a_number() },
             run,
-        );
-    };
-    let g = generator_action::generator_shape(n, with_mass, vals.len(), norm);
+        });
+    }
+    let matrix = generator_checks::check_generator(n, starts, cols, vals, with_mass, mass)
+        .map_err(|refusal| StepRefusal { refusal, run })?;
+    let g = generator_action::generator_shape(n, with_mass, vals.len(), matrix.norm);
     stepped(
         run, tolerance, starts, cols, vals, mass, g, tau, count, w, out, work, field,
     )

@@ -47,7 +47,7 @@ fn products(basis: BasisAnswer) -> usize
     }
 }
 
-// One substep: the basis once, then lengths tried on it; 28 after eleven rejections, 29 without an inner plan.
+// One substep: the basis once, then lengths tried on it; refused after eleven rejections, or without an inner plan.
 pub fn substep(
     starts: &[u32],
     cols: &[u32],
@@ -72,8 +72,22 @@ pub fn substep(
     let trial = trial_steps::trial_steps(&work[from..to], k, c.beta, c.next, remaining, basis);
     let outcome = trial.outcome;
     match outcome {
-        Outcome::Next(_, _) => Err(Refusal { reason: Reason::LengthsRejected, value: k.tol, c, r }),
-        Outcome::NoPlan(arg) => Err(Refusal { reason: Reason::NoInnerPlan, value: arg, c, r }),
+        Outcome::Next(_, _) => Progress::Refused(
+            Refusal {
+                reason: Reason::LengthsRejected,
+                value: k.tol,
+            },
+            c,
+            r,
+        ),
+        Outcome::NoPlan(arg) => Progress::Refused(
+            Refusal {
+                reason: Reason::NoInnerPlan,
+                value: arg,
+            },
+            c,
+            r,
+        ),
         Outcome::Accepted(s) => krylov_advance::advance(
             work,
             l,

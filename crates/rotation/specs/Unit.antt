@@ -9,12 +9,12 @@ use Rattle.krylov_job.specs.declared.KrylovPhiOptions.{KrylovPhiOptions}
 use Rattle.paused_run.specs.Paused.{Job, Input, PausedCall, leaves, start, step}
 use Rattle.paused_run.specs.declared.PausedRun.{PausedRun}
 use Rattle.paused_run.specs.Paused.{StartAnswer}
-use Rattle.paused_run.specs.declared.StepAnswer.{StepAnswer}
-use Rattle.paused_run.specs.declared.StepAnswer.TheVariants.{Refusal, Stepped}
+use Rattle.paused_run.specs.Paused.{StepAnswer}
 use Rattle.rotation.specs.declared.Rotation.{Rotation}
 use Rattle.checks.specs.Reasons.{Refused}
 use Rattle.std.specs.Prelude.{Ok, Err}
 use Rattle.checks.specs.declared.Reason.TheVariants.{RunEnded, UnitFull}
+use Rattle.paused_run.specs.Paused.{StepRefused}
 
 -- ---- the unit: the runs by place, and a queue of places that ends at the first number above 15
 -- a place that was never taken: a run that has ended
@@ -118,8 +118,8 @@ join u o j output memory field =
 -- ---- a turn
 -- the run that a step hands back: after an early refusal the run as it was
 abbrev pub run_left : StepAnswer → PausedRun
-run_left (Refused k x s) = s
-run_left (Stepped s) = s
+run_left (Err r) = r.run
+run_left (Ok s) = s
 
 -- 'an ended run leaves'; any other goes to the end: 'A turn refused early counts and passes on'
 abbrev pub back : ℕ → Bool → List ℕ
@@ -131,7 +131,7 @@ passed_on u p l s = record { places = set u.places p s; queue = queue_of (l ++ b
 
 -- the run whose turn it is makes one step on the field y; 'if no run waits; a turn is then refused with 31', and nothing is changed
 unfoldable pub turn_of : List ℕ → Rotation → List Float → Input → UnitCall StepAnswer
-turn_of [] u y i = unit_call u 16 (leaves (Refused RunEnded nan vacant) i.output i.memory y)
+turn_of [] u y i = unit_call u 16 (leaves (StepRefused RunEnded nan vacant) i.output i.memory y)
 turn_of (p ∷ l) u y i =
     let c = step (run_at u p) y i in
     unit_call (passed_on u p l (run_left c.answer)) p c

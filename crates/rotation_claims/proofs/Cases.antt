@@ -13,8 +13,7 @@ use Rattle.krylov_job.specs.declared.KrylovPhiOptions.{KrylovPhiOptions}
 use Rattle.paused_run.specs.Paused.{Job, Input, PausedCall, leaves, start, step}
 use Rattle.paused_run.specs.declared.PausedRun.{PausedRun}
 use Rattle.paused_run.specs.Paused.{StartAnswer}
-use Rattle.paused_run.specs.declared.StepAnswer.{StepAnswer}
-use Rattle.paused_run.specs.declared.StepAnswer.TheVariants as step_answer
+use Rattle.paused_run.specs.Paused.{StepAnswer}
 use Rattle.rotation.specs.Unit.{vacant, unread, run_at, waiting, UnitCall, unit_call, lowest_free, room, seated, admitted_by, admitted, join, run_left, back, passed_on, turn_of, turn}
 use Rattle.rotation.specs.declared.Rotation.{Rotation}
 use Rattle.rotation.proofs.Queue.{length_waiting, has_room}
@@ -24,6 +23,7 @@ use Rattle.rotation_claims.proofs.Queue.{Places, places_append, waiting_places, 
 use Rattle.checks.specs.Reasons.{Refused}
 use Rattle.std.specs.Prelude.{Ok, Err}
 use Rattle.checks.specs.declared.Reason.TheVariants.{RunEnded, UnitFull}
+use Rattle.paused_run.specs.Paused.{StepRefused}
 
 -- ---- a join: the run takes the lowest free place, or the unit is as it was
 pub record Seated (u : Rotation) (c : PausedCall StartAnswer) (r : UnitCall StartAnswer) : Type 0 where
@@ -80,7 +80,7 @@ pub record Served (u : Rotation) (y : List Float) (i : Input) (r : UnitCall Step
 
 pub record Unserved (u : Rotation) (y : List Float) (i : Input) (r : UnitCall StepAnswer) : Type 0 where
   pub waits : waiting u ≡ []
-  pub is : r ≡ unit_call u 16 (leaves (Refused RunEnded nan vacant) i.output i.memory y)
+  pub is : r ≡ unit_call u 16 (leaves (StepRefused RunEnded nan vacant) i.output i.memory y)
 
 pub turn_cases : (u : Rotation) (y : List Float) (i : Input) → Served u y i (turn u y i) ⊎ Unserved u y i (turn u y i)
 unfolding turn turn_of
@@ -91,8 +91,8 @@ turn_cases u y i = go (waiting u) refl
     go (p ∷ l) e = inl (record { p = p; others = l; waits = e; is = ap (λ (l : List ℕ). turn_of l u y i) e })
 
 pub same_run : (a : StepAnswer) → run_left a ≡ run_in a
-same_run (Refused k x s) = refl
-same_run (step_answer.Stepped s) = refl
+same_run (Err r) = refl
+same_run (Ok s) = refl
 
 back_few : (p : ℕ) (b : Bool) → length (back p b) ≤ 1
 back_few p true = omega arith

@@ -15,7 +15,7 @@ use Rattle.krylov_job.specs.declared.KrylovPhiOptions.{KrylovPhiOptions}
 use Rattle.paused_run.specs.Paused.{Job, PausedCall, need_of, begun, step_checks, step}
 use Rattle.paused_run.specs.declared.PausedRun.{PausedRun}
 use Rattle.paused_run.specs.Paused.{StartAnswer}
-use Rattle.paused_run.specs.declared.StepAnswer.{StepAnswer}
+use Rattle.paused_run.specs.Paused.{StepAnswer}
 use Rattle.paused_claims.specs.History.{run_in}
 use Rattle.paused_claims.specs.Start.{values_of}
 use Rattle.paused_claims.proofs.Start.{started_is}

@@ -10,8 +10,7 @@ use Rattle.checks.proofs.Numbers.{not_by}
 use Rattle.paused_run.specs.Paused.{Input, PausedCall, step_checks}
 use Rattle.paused_run.specs.declared.PausedRun.{PausedRun}
 use Rattle.paused_run.specs.Paused.{StartAnswer}
-use Rattle.paused_run.specs.declared.StepAnswer.{StepAnswer}
-use Rattle.paused_run.specs.declared.StepAnswer.TheVariants as step_answer
+use Rattle.paused_run.specs.Paused.{StepAnswer}
 use Rattle.rotation.specs.Unit.{run_at, UnitCall, turn}
 use Rattle.rotation.specs.declared.Rotation.{Rotation}
 use Rattle.paused_claims.specs.Alike.{number_in}
@@ -22,6 +21,7 @@ use Rattle.rotation_claims.proofs.Cases.{turn_cases}
 use Rattle.rotation_claims.proofs.Numbers.{none_23, step_none_23, step_number}
 use Rattle.rotation_claims.proofs.Admission.{same_refused, any_unit}
 use Rattle.checks.specs.Reasons.{Refused}
+use Rattle.paused_run.specs.Paused.{StepRefused}
 
 module _ (u : Rotation) where
   starts : (c : Coming) → before 23 c.j.g.checks ≡ c.j.g.checks → (x : Float) → (start_of c).answer ≡ Refused 23 x → ⊥
@@ -36,7 +36,7 @@ module _ (u : Rotation) where
     | inr k ↦ (let z = (same_refused (sym (ap (λ (r : UnitCall StartAnswer). r.call.answer) k) ∙ e)).0 in absurd (omega (arith, z)))
   ]
 
-  turns : (i : Input) (y : List Float) → before 23 i.job.g.checks ≡ i.job.g.checks → (x : Float) (s : PausedRun) → (turn u y i).call.answer ≡ Refused 23 x s → ⊥
+  turns : (i : Input) (y : List Float) → before 23 i.job.g.checks ≡ i.job.g.checks → (x : Float) (s : PausedRun) → (turn u y i).call.answer ≡ StepRefused 23 x s → ⊥
   turns i y g x s e = elim (turn_cases u y i) [
     | inl k ↦
         step_number (run_at u k.p) y i 23 (λ x r. not_by 23 (step_checks (run_at u k.p) (length y) i) (step_none_23 (run_at u k.p) (length y) i g) r) (λ z. absurd (omega (arith, z))) (λ z. absurd (omega (arith, z))) (λ z. absurd (omega (arith, z))) (λ z. absurd (omega (arith, z))) (ap number_in (sym (ap (λ (r : UnitCall StepAnswer). r.call.answer) k.is) ∙ e))

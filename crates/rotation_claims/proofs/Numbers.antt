@@ -19,13 +19,13 @@ use Rattle.krylov_job.specs.KrylovCall.{option_checks, bound_checks, run_checks,
 use Rattle.krylov_job.specs.declared.KrylovPhiOptions.{KrylovPhiOptions}
 use Rattle.paused_run.specs.Paused.{Job, rows, degree, field_checks, Input, tol_in, options_in, over, other_checks, step_checks, moved, verdict, substep_of, after_substep, step_unless, step}
 use Rattle.paused_run.specs.declared.PausedRun.{PausedRun}
-use Rattle.paused_run.specs.declared.StepAnswer.TheVariants as step_answer
 use Rattle.paused_claims.specs.Alike.{number_in}
 use Rattle.paused_claims.proofs.Standing.{Refuses, substep_refuses}
 use Rattle.checks.specs.Reasons.{Refused}
 use Rattle.std.specs.Prelude.{Ok, Err}
 use Rattle.checks.specs.declared.Reason.TheVariants.{SubstepLimit, RunEnded, UnitFull}
 use Rattle.checks.specs.declared.Reason.{Reason}
+use Rattle.paused_run.specs.Paused.{StepRefused}
 
 -- k is none of the numbers of a start's own checks
 module _ (o : KrylovPhiOptions) (j : Job) (output memory : ℕ) where
@@ -70,7 +70,7 @@ pub verdict_number : (s : PausedRun) (tol : Float) (t : State) (o : Turn State E
 unfolding verdict
 verdict_number s tol t (on n) h k n0 n27 n28 n29 e = go (ltb n.report.substeps s.limit) e
   where
-    go : (b : Bool) → number_in (if b then step_answer.Stepped (moved s tol n n.report false) else Refused SubstepLimit n.report.est_error (moved s tol n n.report true)) ≡ k → ⊥
+    go : (b : Bool) → number_in (if b then Ok (moved s tol n n.report false) else StepRefused SubstepLimit n.report.est_error (moved s tol n n.report true)) ≡ k → ⊥
     go true e = n0 (sym e)
     go false e = n27 (sym e)
 verdict_number s tol t (out (finished n)) h k n0 n27 n28 n29 e = n0 (sym e)

@@ -6,8 +6,7 @@ use Rattle.krylov_job.specs.declared.KrylovPhiOptions.{KrylovPhiOptions}
 use Rattle.paused_run.specs.Paused.{Job, Input, PausedCall, leaves, start, step}
 use Rattle.paused_run.specs.Paused.{StartAnswer}
 use Rattle.paused_run.specs.declared.PausedRun.{PausedRun}
-use Rattle.paused_run.specs.declared.StepAnswer.{StepAnswer}
-use Rattle.paused_run.specs.declared.StepAnswer.TheVariants as step_answer
+use Rattle.paused_run.specs.Paused.{StepAnswer}
 use Rattle.demand_3.specs.Krylov.{Zeros}
 use Rattle.paused_claims.specs.History.{values_in, run_in}
 use Rattle.paused_claims.specs.Start.{values_of, job_checks, Refuses}
@@ -18,6 +17,7 @@ use Rattle.checks.specs.Reasons.{Sound, Refused}
 use Rattle.std.specs.Prelude.{Ok}
 use Rattle.checks.specs.declared.Reason.TheVariants.{RunEnded, UnitFull}
 use Rattle.checks.specs.declared.Reason.{Reason}
+use Rattle.paused_run.specs.Paused.{StepRefused}
 
 -- a job as it comes to the unit: options, matrix, tau and vectors, and what is lent
 pub record Coming : Type 0 where
@@ -68,7 +68,7 @@ pub record AnyUnit (u : Rotation) (c : Coming) : Type 0 where
 pub record AnyTurn (u : Rotation) (i : Input) (y : List Float) : Type 0 where
   pub named : (turn u y i).place ≡ next_place u
   pub one_step : next_place u < 16 → (turn u y i).call ≡ step (run_at u (next_place u)) y i
-  pub none : next_place u ≡ 16 → turn u y i ≡ unit_call u 16 (leaves (Refused RunEnded nan vacant) i.output i.memory y)
+  pub none : next_place u ≡ 16 → turn u y i ≡ unit_call u 16 (leaves (StepRefused RunEnded nan vacant) i.output i.memory y)
 
 -- ---- on every unit that was left
 pub record AdmissionClaim (h : List Act) (c : Coming) : Type 0 where

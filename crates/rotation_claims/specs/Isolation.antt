@@ -8,7 +8,7 @@ use Rattle.paused_run.specs.Paused.{Job, Input, PausedCall, start, step_checks, 
 use Rattle.paused_run.specs.declared.PausedRun.{PausedRun}
 use Rattle.paused_run.specs.declared.Tolerance.{Tolerance}
 use Rattle.paused_run.specs.Paused.{StartAnswer}
-use Rattle.paused_run.specs.declared.StepAnswer.{StepAnswer}
+use Rattle.paused_run.specs.Paused.{StepAnswer}
 use Rattle.demand_3.specs.Krylov.{Each}
 use Rattle.paused_claims.specs.History.{run_in, Past, Left}
 use Rattle.paused_claims.specs.Early.{Plain}

@@ -20,8 +20,7 @@ use Rattle.krylov_job.specs.declared.KrylovPhiOptions.{KrylovPhiOptions}
 use Rattle.paused_run.specs.Paused.{Job, Input, PausedCall, leaves, begun, start_unless, start, step}
 use Rattle.paused_run.specs.declared.PausedRun.{PausedRun}
 use Rattle.paused_run.specs.Paused.{StartAnswer}
-use Rattle.paused_run.specs.declared.StepAnswer.{StepAnswer}
-use Rattle.paused_run.specs.declared.StepAnswer.TheVariants as step_answer
+use Rattle.paused_run.specs.Paused.{StepAnswer}
 use Rattle.rotation.specs.Unit.{vacant, run_at, waiting, first_of, next_place, UnitCall, unit_call, lowest_free, room, seated, admitted_by, admitted, join, run_left, passed_on, turn_of, turn}
 use Rattle.rotation.specs.Inner.{count_of, run_in_place, seat_of, passed_of}
 use Rattle.rotation.specs.declared.Rotation.{Rotation}
@@ -33,6 +32,7 @@ use Rattle.checks.specs.Reasons.{Sound, Refused}
 use Rattle.std.specs.Prelude.{Ok, Err}
 use Rattle.checks.specs.declared.Reason.TheVariants.{RunEnded, UnitFull}
 use Rattle.checks.specs.declared.Reason.{Reason}
+use Rattle.paused_run.specs.Paused.{StepRefused}
 
 -- ---- a join
 number_of : Checked → ℕ
@@ -145,10 +145,10 @@ none_or_some u = go (count_of u.queue) refl
 
 module _ (u : Rotation) (y : List Float) (i : Input) where
   pub turn_none : {p : ℕ} {x : Float} {s : PausedRun} → p ≡ next_place u → p ≡ 16 → x ≡ nan → s ≡ vacant
-      → unit_call u 16 (leaves (Refused RunEnded x s) i.output i.memory y) ≡ turn u y i
+      → unit_call u 16 (leaves (StepRefused RunEnded x s) i.output i.memory y) ≡ turn u y i
   unfolding turn turn_of
   turn_none ep e ex es = elim (none_or_some u) [
-    | inl n ↦ (λ k. unit_call u 16 (leaves (Refused RunEnded (ex k) (es k)) i.output i.memory y)) ∙ sym (ap (λ (l : List ℕ). turn_of l u y i) n)
+    | inl n ↦ (λ k. unit_call u 16 (leaves (StepRefused RunEnded (ex k) (es k)) i.output i.memory y)) ∙ sym (ap (λ (l : List ℕ). turn_of l u y i) n)
     | inr w ↦ absurd (omega (arith, ep, e, w.below))
   ]
 

@@ -19,16 +19,14 @@ use Rattle.krylov_advance.specs.declared.Control.{Control}
 use Rattle.krylov_advance.specs.declared.KrylovPhiReport.{KrylovPhiReport}
 use Rattle.krylov_advance.proofs.Turns.{seen_on, moderate_turn}
 use Rattle.expv.proofs.run_substeps.Goals as goal
-use Rattle.checks.specs.Reasons.{Refused}
-use Rattle.checks.specs.declared.Reason.{Reason}
 
 -- a run that has ended
 over : (l : Layout) (k : Krylov) (o : Progress) (w : List Float) → ((c : Control) (r : KrylovPhiReport) → o ≡ On c r → ⊥)
-    → {step : ℕ → State → Turn State End} {n : Reason} {i : ℕ} {o₀ : Turn State End} → Left step n i o₀ (progress_at l k o w) → progress_at l k o w ≡ walk step n 0 o₀
+    → {step : ℕ → State → Turn State End} {n i : ℕ} {o₀ : Turn State End} → Left step n i o₀ (progress_at l k o w) → progress_at l k o w ≡ walk step n 0 o₀
 unfolding progress_at
 over l k (On c r) w t h = absurd (t c r refl)
 over l k (Finished c r) w t h = left_out h _ refl
-over l k (Refused n x c r) w t h = left_out h _ refl
+over l k (Refused n c r) w t h = left_out h _ refl
 
 pub loop-i-init : goal.loop-i-init
 unfolding progress_at

@@ -18,33 +18,33 @@ returns-in_default c os e =
 pub overflow_sub-d : goal.overflow_sub-d
 overflow_sub-d c =
     let a = c.args in
-    (early_known a.g a.tau a.count a.w.now a.o a.output _ (c.check_job-early.ensures _ (alone_told a.others)) c.in-Sound.is).0.some
+    (early_known a.g a.tau a.count a.w.now a.o a.output _ (c.check_job-early.ensures _ (alone_told a.others)) c.in-Ok.is).0.some
 
 pub overflow_add-n : goal.overflow_add-n
 overflow_add-n c =
     let a = c.args in
-    let k = early_known a.g a.tau a.count a.w.now a.o a.output _ (c.check_job-early.ensures _ (alone_told a.others)) c.in-Sound.is in
+    let k = early_known a.g a.tau a.count a.w.now a.o a.output _ (c.check_job-early.ensures _ (alone_told a.others)) c.in-Ok.is in
     omega (arith, k.0.most, c.requires.0)
 
 pub slice_bounds-admit_run-count : goal.slice_bounds-admit_run-count
 slice_bounds-admit_run-count c =
     let a = c.args in
-    first_within (early_known a.g a.tau a.count a.w.now a.o a.output _ (c.check_job-early.ensures _ (alone_told a.others)) c.in-Sound.is).0
+    first_within (early_known a.g a.tau a.count a.w.now a.o a.output _ (c.check_job-early.ensures _ (alone_told a.others)) c.in-Ok.is).0
 
 pub slice_bounds-admit_run-start : goal.slice_bounds-admit_run-start
 slice_bounds-admit_run-start c =
     let a = c.args in
-    first_within (early_known a.g a.tau a.count a.w.now a.o a.output _ (c.check_job-early.ensures _ (alone_told a.others)) c.in-Sound.is).0
+    first_within (early_known a.g a.tau a.count a.w.now a.o a.output _ (c.check_job-early.ensures _ (alone_told a.others)) c.in-Ok.is).0
 
 pub admit_run-requires : goal.admit_run-requires
 unfolding dimension
 admit_run-requires c =
     let a = c.args in
-    let k = early_known a.g a.tau a.count a.w.now a.o a.output _ (c.check_job-early.ensures _ (alone_told a.others)) c.in-Sound.is in
+    let k = early_known a.g a.tau a.count a.w.now a.o a.output _ (c.check_job-early.ensures _ (alone_told a.others)) c.in-Ok.is in
     (rw part_further (rw length_further (further_within k.0)), c.requires.0, omega (arith, k.0.most), rw c.clamp_m-m.ensures k.1, c.requires.1)
 
 pub returns : goal.returns
 unfolding dimension
 returns c os e =
     let a = c.args in
-    admitted a.g a.tau a.count a.w.now a.o a.output os (c.check_job-early.ensures os e) _ _ c.in-Sound.is ((rw part_further at c.admit_run.ensures) ∙ ap (λ (m : ℕ). run_job_by a.g a.tau (a.count - 1) (further a.g.n a.w.now) (scaling_of a.g a.tau a.count a.w.now a.eta) a.o m a.memory) c.clamp_m-m.ensures)
+    admitted a.g a.tau a.count a.w.now a.o a.output os (c.check_job-early.ensures os e) _ _ c.in-Ok.is ((rw part_further at c.admit_run.ensures) ∙ ap (λ (m : ℕ). run_job_by a.g a.tau (a.count - 1) (further a.g.n a.w.now) (scaling_of a.g a.tau a.count a.w.now a.eta) a.o m a.memory) c.clamp_m-m.ensures)

@@ -1,6 +1,6 @@
 -- `krylov_job::check_job` meets its contract. Assumes nothing.
 use native.Mathlib.Omega.{arith}
-use mathlib.Core.Path.{sym, ap, ◌∙◌}
+use mathlib.Core.Path.{refl, sym, ap, ◌∙◌}
 use Prim.Native.Nat.{ℕ}
 use Rattle.checks.specs.First.{first}
 use Rattle.checks.proofs.First.{passed_on, refused_up, sound_on}
@@ -11,7 +11,7 @@ use Rattle.krylov_job.proofs.check_job.Goals as goal
 pub returns-in_err-validate_combination : goal.returns-in_err-validate_combination
 returns-in_err-validate_combination c os e =
     rw (passed_on c.from_residual.ensures.1)
-    (refused_up _ _ c.in_err-validate_combination.was (c.validate_combination.ensures _ os c.check_time-time.ensures e))
+    (refused_up _ _ refl (sym c.in_err-validate_combination.was ∙ c.validate_combination.ensures _ os c.check_time-time.ensures e))
 
 pub overflow_sub-count : goal.overflow_sub-count
 overflow_sub-count c =
