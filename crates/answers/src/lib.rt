@@ -131,24 +131,26 @@ pub fn phi_numbers(
             *last = 0.0;
             r.reason.number()
         }
-        Ok(PhiReport::Taylor(report)) => {
-            *value = report.mu;
-            *first = report.s as u64;
-            *second = report.m as u64;
-            *third = report.applications;
-            *shortest = 0.0;
-            *last = 0.0;
-            0
-        }
-        Ok(PhiReport::Krylov(report)) => {
-            *value = report.est_error;
-            *first = report.substeps as u64;
-            *second = report.matvecs as u64;
-            *third = report.rejected as u64;
-            *shortest = report.shortest;
-            *last = report.last;
-            0
-        }
+        Ok(report) => match report {
+            PhiReport::Taylor(report) => {
+                *value = report.mu;
+                *first = report.s as u64;
+                *second = report.m as u64;
+                *third = report.applications;
+                *shortest = 0.0;
+                *last = 0.0;
+                0
+            }
+            PhiReport::Krylov(report) => {
+                *value = report.est_error;
+                *first = report.substeps as u64;
+                *second = report.matvecs as u64;
+                *third = report.rejected as u64;
+                *shortest = report.shortest;
+                *last = report.last;
+                0
+            }
+        },
     }
 }
 

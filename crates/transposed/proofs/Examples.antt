@@ -12,7 +12,7 @@ use Rattle.combination.specs.Call.{ends}
 use Rattle.transposed.specs.Transposed.{lends, phi_combination_transposed, phi_action_transposed, phi_action_batched_transposed, phi_combination_krylov_transposed, open_transposed}
 use Rattle.checks.specs.Reasons.{Refused}
 use Rattle.std.specs.Prelude.{Ok}
-use Rattle.checks.specs.declared.Reason.TheVariants.{WorkLength, TransposedLength}
+use Rattle.checks.specs.declared.Reason.TheVariants.{TolRange, WorkLength, TransposedLength}
 
 -- row 0 holds 1 in column 1, with mass 2: the transposed quotients hold 1/2 in row 1, column 0
 abbrev a : Csr
@@ -48,7 +48,7 @@ batch = refl
 
 -- a start of zeros: M = 2, so 2 + 5 * 2 + 16 + 1 = 29 doubles
 zeros : phi_combination_krylov_transposed a mass lent 1f 1 (+0 ∷ +0 ∷ []) (record { tol = 1/2f; m = 2; max_substeps = 9 }) (nat 7 ∷ nat 7 ∷ []) (replicate 30 (nat 9))
-    ≡ lends (ends (KrylovSoaked (record { matvecs = 0; substeps = 0; rejected = 0; est_error = +0; shortest = +0; last = +0 })) (+0 ∷ +0 ∷ []) (replicate 29 +0 ++ (nat 9 ∷ []))) written
+    ≡ lends (ends (Ok (record { matvecs = 0; substeps = 0; rejected = 0; est_error = +0; shortest = +0; last = +0 })) (+0 ∷ +0 ∷ []) (replicate 29 +0 ++ (nat 9 ∷ []))) written
 unfolding open_transposed
 zeros = refl
 
@@ -67,6 +67,6 @@ short_memory = refl
 
 -- 18, behind 30
 no_tolerance : phi_combination_krylov_transposed a mass lent 1f 1 (+0 ∷ +0 ∷ []) (record { tol = nan; m = 2; max_substeps = 9 }) (nat 7 ∷ nat 7 ∷ []) (replicate 30 (nat 9))
-    ≡ lends (ends (KrylovRefusal 18 nan) (nat 7 ∷ nat 7 ∷ []) (replicate 30 (nat 9))) written
+    ≡ lends (ends (Refused TolRange nan) (nat 7 ∷ nat 7 ∷ []) (replicate 30 (nat 9))) written
 unfolding open_transposed
 no_tolerance = refl

@@ -36,7 +36,7 @@ pub record Handed (a : Csr) (mass : Mass) (b : Buffers) (ss cs : List ℕ) (vs :
   pub shape : g ≡ transposed_shape a mass
   pub after : buffers ss cs vs ≡ buffers_after a mass b
 
-pub handed : (a : Csr) (mass : Mass) (b : Buffers) {ss cs : List ℕ} {vs : List Float} {r : ShapeAnswer} {g : Shape} → (r ≡ shape_answer a mass (first (transposed_checks a mass (lengths b)))) × (buffers ss cs vs ≡ buffers_after a mass b) → r ≡ Shaped g
+pub handed : (a : Csr) (mass : Mass) (b : Buffers) {ss cs : List ℕ} {vs : List Float} {r : ShapeAnswer} {g : Shape} → (r ≡ shape_answer a mass (first (transposed_checks a mass (lengths b)))) × (buffers ss cs vs ≡ buffers_after a mass b) → r ≡ Ok g
     → Handed a mass b ss cs vs g
 handed a mass b e taken = let p = passed_told a mass _ (sym taken ∙ e.0) in record { sound = p.0; shape = p.1; after = e.1 }
 
@@ -65,8 +65,8 @@ module _ {a : Csr} {mass : Mass} {b : Buffers} {ss cs : List ℕ} {vs : List Flo
   abbrev front : Csr
   front = csr g.n (take (a.n + 1) ss) (take (length a.entries) cs) (take (length a.entries) vs)
 
-  pub front_passed : (m : List Float) → Ok front (given g.with_mass m) g
-  front_passed m = rw h.shape (subst (λ (q : Csr). Ok q none (transposed_shape a mass)) (sym (fronts passed written)) (transposed_passed a mass (lengths b) h.sound))
+  pub front_passed : (m : List Float) → Passed front (given g.with_mass m) g
+  front_passed m = rw h.shape (subst (λ (q : Csr). Passed q none (transposed_shape a mass)) (sym (fronts passed written)) (transposed_passed a mass (lengths b) h.sound))
 
   generator_is : (m : List Float) → after_checks (transposed_checks a mass (lengths b)) front (given g.with_mass m) g ≡ transposed a mass (lengths b)
   unfolding quotients

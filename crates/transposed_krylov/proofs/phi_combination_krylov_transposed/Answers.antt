@@ -18,7 +18,7 @@ overflow_add-q_rows c =
     let a : Csr = csr c.args.n c.args.starts.now c.args.cols.now c.args.vals.now in
     let m : Mass = given c.args.with_mass c.args.mass.now in
     let b : Buffers = buffers c.args.t_starts.now c.args.t_cols.now c.args.t_vals.now in
-    let known : Handed a m b c.transposed_shape.new.t_starts c.transposed_shape.new.t_cols c.transposed_shape.new.t_vals c.in_ok-g.field-0 = handed a m b (c.transposed_shape.ensures.value, c.transposed_shape.ensures.t_vals_after) c.in_ok-g.was in
+    let known : Handed a m b c.transposed_shape.new.t_starts c.transposed_shape.new.t_cols c.transposed_shape.new.t_vals c.in_ok-g.g = handed a m b (c.transposed_shape.ensures.value, c.transposed_shape.ensures.t_vals_after) c.in_ok-g.was in
     omega (arith, rows_few known)
 
 pub slice_bounds-q_rows-end : goal.slice_bounds-q_rows-end
@@ -26,7 +26,7 @@ slice_bounds-q_rows-end c =
     let a : Csr = csr c.args.n c.args.starts.now c.args.cols.now c.args.vals.now in
     let m : Mass = given c.args.with_mass c.args.mass.now in
     let b : Buffers = buffers c.args.t_starts.now c.args.t_cols.now c.args.t_vals.now in
-    let known : Handed a m b c.transposed_shape.new.t_starts c.transposed_shape.new.t_cols c.transposed_shape.new.t_vals c.in_ok-g.field-0 = handed a m b (c.transposed_shape.ensures.value, c.transposed_shape.ensures.t_vals_after) c.in_ok-g.was in
+    let known : Handed a m b c.transposed_shape.new.t_starts c.transposed_shape.new.t_cols c.transposed_shape.new.t_vals c.in_ok-g.g = handed a m b (c.transposed_shape.ensures.value, c.transposed_shape.ensures.t_vals_after) c.in_ok-g.was in
     starts_fit known
 
 pub slice_bounds-q_rows-end-2 : goal.slice_bounds-q_rows-end-2
@@ -34,7 +34,7 @@ slice_bounds-q_rows-end-2 c =
     let a : Csr = csr c.args.n c.args.starts.now c.args.cols.now c.args.vals.now in
     let m : Mass = given c.args.with_mass c.args.mass.now in
     let b : Buffers = buffers c.args.t_starts.now c.args.t_cols.now c.args.t_vals.now in
-    let known : Handed a m b c.transposed_shape.new.t_starts c.transposed_shape.new.t_cols c.transposed_shape.new.t_vals c.in_ok-g.field-0 = handed a m b (c.transposed_shape.ensures.value, c.transposed_shape.ensures.t_vals_after) c.in_ok-g.was in
+    let known : Handed a m b c.transposed_shape.new.t_starts c.transposed_shape.new.t_cols c.transposed_shape.new.t_vals c.in_ok-g.g = handed a m b (c.transposed_shape.ensures.value, c.transposed_shape.ensures.t_vals_after) c.in_ok-g.was in
     sym (length-take-le _ _ (starts_fit known))
 
 pub slice_bounds-q_cols-end : goal.slice_bounds-q_cols-end
@@ -42,7 +42,7 @@ slice_bounds-q_cols-end c =
     let a : Csr = csr c.args.n c.args.starts.now c.args.cols.now c.args.vals.now in
     let m : Mass = given c.args.with_mass c.args.mass.now in
     let b : Buffers = buffers c.args.t_starts.now c.args.t_cols.now c.args.t_vals.now in
-    let known : Handed a m b c.transposed_shape.new.t_starts c.transposed_shape.new.t_cols c.transposed_shape.new.t_vals c.in_ok-g.field-0 = handed a m b (c.transposed_shape.ensures.value, c.transposed_shape.ensures.t_vals_after) c.in_ok-g.was in
+    let known : Handed a m b c.transposed_shape.new.t_starts c.transposed_shape.new.t_cols c.transposed_shape.new.t_vals c.in_ok-g.g = handed a m b (c.transposed_shape.ensures.value, c.transposed_shape.ensures.t_vals_after) c.in_ok-g.was in
     columns_fit known
 
 pub slice_bounds-q_cols-end-2 : goal.slice_bounds-q_cols-end-2
@@ -50,7 +50,7 @@ slice_bounds-q_cols-end-2 c =
     let a : Csr = csr c.args.n c.args.starts.now c.args.cols.now c.args.vals.now in
     let m : Mass = given c.args.with_mass c.args.mass.now in
     let b : Buffers = buffers c.args.t_starts.now c.args.t_cols.now c.args.t_vals.now in
-    let known : Handed a m b c.transposed_shape.new.t_starts c.transposed_shape.new.t_cols c.transposed_shape.new.t_vals c.in_ok-g.field-0 = handed a m b (c.transposed_shape.ensures.value, c.transposed_shape.ensures.t_vals_after) c.in_ok-g.was in
+    let known : Handed a m b c.transposed_shape.new.t_starts c.transposed_shape.new.t_cols c.transposed_shape.new.t_vals c.in_ok-g.g = handed a m b (c.transposed_shape.ensures.value, c.transposed_shape.ensures.t_vals_after) c.in_ok-g.was in
     sym (length-take-le _ _ (columns_fit known))
 
 pub slice_bounds-q_vals-end : goal.slice_bounds-q_vals-end
@@ -58,7 +58,7 @@ slice_bounds-q_vals-end c =
     let a : Csr = csr c.args.n c.args.starts.now c.args.cols.now c.args.vals.now in
     let m : Mass = given c.args.with_mass c.args.mass.now in
     let b : Buffers = buffers c.args.t_starts.now c.args.t_cols.now c.args.t_vals.now in
-    let known : Handed a m b c.transposed_shape.new.t_starts c.transposed_shape.new.t_cols c.transposed_shape.new.t_vals c.in_ok-g.field-0 = handed a m b (c.transposed_shape.ensures.value, c.transposed_shape.ensures.t_vals_after) c.in_ok-g.was in
+    let known : Handed a m b c.transposed_shape.new.t_starts c.transposed_shape.new.t_cols c.transposed_shape.new.t_vals c.in_ok-g.g = handed a m b (c.transposed_shape.ensures.value, c.transposed_shape.ensures.t_vals_after) c.in_ok-g.was in
     values_fit known
 
 pub slice_bounds-q_vals-end-2 : goal.slice_bounds-q_vals-end-2
@@ -66,7 +66,7 @@ slice_bounds-q_vals-end-2 c =
     let a : Csr = csr c.args.n c.args.starts.now c.args.cols.now c.args.vals.now in
     let m : Mass = given c.args.with_mass c.args.mass.now in
     let b : Buffers = buffers c.args.t_starts.now c.args.t_cols.now c.args.t_vals.now in
-    let known : Handed a m b c.transposed_shape.new.t_starts c.transposed_shape.new.t_cols c.transposed_shape.new.t_vals c.in_ok-g.field-0 = handed a m b (c.transposed_shape.ensures.value, c.transposed_shape.ensures.t_vals_after) c.in_ok-g.was in
+    let known : Handed a m b c.transposed_shape.new.t_starts c.transposed_shape.new.t_cols c.transposed_shape.new.t_vals c.in_ok-g.g = handed a m b (c.transposed_shape.ensures.value, c.transposed_shape.ensures.t_vals_after) c.in_ok-g.was in
     sym (length-take-le _ _ (values_fit known))
 
 pub combined-requires : goal.combined-requires
@@ -74,7 +74,7 @@ combined-requires c =
     let a : Csr = csr c.args.n c.args.starts.now c.args.cols.now c.args.vals.now in
     let m : Mass = given c.args.with_mass c.args.mass.now in
     let b : Buffers = buffers c.args.t_starts.now c.args.t_cols.now c.args.t_vals.now in
-    let known : Handed a m b c.transposed_shape.new.t_starts c.transposed_shape.new.t_cols c.transposed_shape.new.t_vals c.in_ok-g.field-0 = handed a m b (c.transposed_shape.ensures.value, c.transposed_shape.ensures.t_vals_after) c.in_ok-g.was in
+    let known : Handed a m b c.transposed_shape.new.t_starts c.transposed_shape.new.t_cols c.transposed_shape.new.t_vals c.in_ok-g.g = handed a m b (c.transposed_shape.ensures.value, c.transposed_shape.ensures.t_vals_after) c.in_ok-g.was in
     front_passed known _
 
 pub returns-in_err-g : goal.returns-in_err-g
@@ -94,6 +94,6 @@ returns c =
     let a : Csr = csr c.args.n c.args.starts.now c.args.cols.now c.args.vals.now in
     let m : Mass = given c.args.with_mass c.args.mass.now in
     let b : Buffers = buffers c.args.t_starts.now c.args.t_cols.now c.args.t_vals.now in
-    let known : Handed a m b c.transposed_shape.new.t_starts c.transposed_shape.new.t_cols c.transposed_shape.new.t_vals c.in_ok-g.field-0 = handed a m b (c.transposed_shape.ensures.value, c.transposed_shape.ensures.t_vals_after) c.in_ok-g.was in
+    let known : Handed a m b c.transposed_shape.new.t_starts c.transposed_shape.new.t_cols c.transposed_shape.new.t_vals c.in_ok-g.g = handed a m b (c.transposed_shape.ensures.value, c.transposed_shape.ensures.t_vals_after) c.in_ok-g.was in
     let x = c.args in
     over_fronts known (λ (g : Generator). phi_combination_krylov g x.tau x.count x.w.now x.o x.out.now x.work.now) _ (c.combined.ensures _ known.sound)
