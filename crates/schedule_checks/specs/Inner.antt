@@ -4,13 +4,10 @@ use Rattle.lists.specs.Walk.{Turn, on, out}
 use Rattle.combination.specs.Call.{Call, ends}
 use Rattle.phi_solver.specs.Combine.{PhiAnswer}
 use Rattle.phi_solver.specs.declared.PhiReport.TheVariants as phi
-use Rattle.schedule_checks.specs.Schedule.{Schedule, stages_of, Progress}
-use Rattle.schedule_checks.specs.declared.StagedAnswer.{StagedAnswer}
-use Rattle.schedule_checks.specs.declared.StagedAnswer.TheVariants.{Refusal}
+use Rattle.schedule_checks.specs.Schedule.{StagedAnswer, Schedule, stages_of, Progress}
+use Rattle.schedule_checks.specs.declared.StageRefusal.{StageRefusal}
 use Rattle.schedule_checks.specs.declared.SoFar.{SoFar}
-use Rattle.schedule_checks.specs.declared.StageTurn.{StageTurn}
-use Rattle.schedule_checks.specs.declared.StageTurn.TheVariants.{On, Ended}
-use Rattle.std.specs.Prelude.{Err}
+use Rattle.std.specs.Prelude.{Result, Ok, Err}
 
 abbrev pub schedule_of : List Float → List ℕ → List ℕ → List ℕ → List Float → List ℕ → List ℕ → Schedule
 schedule_of taus counts solvers degrees tols ms limits =
@@ -33,10 +30,14 @@ field_of true start output = start
 field_of false start output = output
 
 -- ---- from stage to stage
+-- the soak goes on, or a stage ended it by a refusal
+abbrev pub StageTurn : Type 0
+StageTurn = Result SoFar StageRefusal
+
 -- after some stages, with w_0 of the next, what the output holds and the memory
 unfoldable pub turn_at : StageTurn → List Float → List Float → List Float → Turn Progress (Call StagedAnswer)
-turn_at (On p) field output memory = on (record { field = field; output = output; memory = memory; used = p.used; report = p.report })
-turn_at (Ended k x i) field output memory = out (ends (Refusal k x i) output memory)
+turn_at (Ok p) field output memory = on (record { field = field; output = output; memory = memory; used = p.used; report = p.report })
+turn_at (Err e) field output memory = out (ends (Err e) output memory)
 
 -- the vectors and the counts of a call that gave a result
 abbrev pub Few : ℕ → PhiAnswer → Type 0
@@ -49,8 +50,8 @@ abbrev pub Counted : ℕ → SoFar → Type 0
 Counted i p = (p.used ≤ 3000000 * i) × (p.report.applications ≤ 128849018850 * i) × (p.report.substeps ≤ 1000000 * i) × (p.report.rejected ≤ 10000000 * i)
 
 abbrev pub Moderate : ℕ → StageTurn → Type 0
-Moderate i (On p) = Counted i p
-Moderate i (Ended k x j) = Unit {0}
+Moderate i (Ok p) = Counted i p
+Moderate i (Err e) = Unit {0}
 
 -- one more call
 abbrev pub counted_by : SoFar → ℕ → ℕ → ℕ → ℕ → SoFar

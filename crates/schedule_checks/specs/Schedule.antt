@@ -12,10 +12,17 @@ use Rattle.phi_solver.specs.Combine.{PhiAnswer}
 use Rattle.phi_solver.specs.declared.PhiReport.TheVariants as phi
 use Rattle.schedule_checks.specs.declared.Stage.{Stage}
 use Rattle.schedule_checks.specs.declared.StagedReport.{StagedReport}
-use Rattle.schedule_checks.specs.declared.StagedAnswer.{StagedAnswer}
-use Rattle.schedule_checks.specs.declared.StagedAnswer.TheVariants.{Refusal}
-use Rattle.std.specs.Prelude.{Err}
+use Rattle.schedule_checks.specs.declared.StageRefusal.{StageRefusal}
+use Rattle.checks.specs.declared.Refusal.{Refusal}
+use Rattle.std.specs.Prelude.{Result, Ok, Err}
 use Rattle.checks.specs.declared.Reason.TheVariants.{VectorLength, StageCount}
+
+-- a refusal with the stage that met it, or the counts
+abbrev pub StagedAnswer : Type 0
+StagedAnswer = Result StagedReport StageRefusal
+
+abbrev pub refused_at : Refusal → ℕ → StagedAnswer
+refused_at r i = Err (record { refusal = r; stage = i })
 
 -- ---- the schedule
 -- the numbers of the stages, one list for each; Taylor is 0 and has a highest degree, any other number is Krylov with tol, m and max_substeps
@@ -93,6 +100,6 @@ counted r (Ok (phi.Krylov t)) = record { applications = r.applications + t.matve
 
 -- a refused call ends the soak with what it leaves, and the answer names the stage; any other leaves its field to the next stage
 unfoldable pub settle : ℕ → ℕ → StagedReport → Call PhiAnswer → PhiAnswer → Turn Progress (Call StagedAnswer)
-settle i used r c (Err e) = out (ends (Err e (i + 1)) c.output c.memory)
+settle i used r c (Err e) = out (ends (refused_at e (i + 1)) c.output c.memory)
 settle i used r c (Ok (phi.Taylor t)) = on (record { field = c.output; output = c.output; memory = c.memory; used = used; report = counted r (Ok (phi.Taylor t)) })
 settle i used r c (Ok (phi.Krylov t)) = on (record { field = c.output; output = c.output; memory = c.memory; used = used; report = counted r (Ok (phi.Krylov t)) })

@@ -17,11 +17,11 @@ pub struct StagedReport {
     pub rejected: u64,
 }
 
-// A refusal's number and double with the stage that met it, from 1 (0: before any stage), or the counts.
+// A refusal with the stage that met it, from 1 (0: before any stage).
 #[derive(Clone, Copy)]
-pub enum StagedAnswer {
-    Refusal(u32, f64, u32),
-    Staged(StagedReport),
+pub struct StageRefusal {
+    pub refusal: Refusal,
+    pub stage: u32,
 }
 
 // A stage: its tau, its number of vectors, w_0 among them, and its solver.
@@ -37,13 +37,6 @@ pub struct Stage {
 pub struct SoFar {
     pub used: usize,
     pub report: StagedReport,
-}
-
-// The soak goes on, or a stage ended it by a refusal.
-#[derive(Clone, Copy)]
-pub enum StageTurn {
-    On(SoFar),
-    Ended(u32, f64, u32),
 }
 
 // Lists that do not tell of one number k of stages.
@@ -112,7 +105,10 @@ pub fn check_schedule(
         limits.len(),
     );
     if wrong_number(k, odd) {
-        return Err(Refusal { reason: Reason::StageCount, value: float::not_a_number() });
+        return Err(Refusal {
+            reason: Reason::StageCount,
+            value: float::not_a_number(),
+        });
     }
     Ok(())
 }

@@ -89,7 +89,10 @@ pub fn check_stage(
     vector_checks::check_lengths(output, n, field, n)?;
     let need = (s.count - 1) * n;
     if wrong_slice(need, last, used, further) {
-        return Err(Refusal { reason: Reason::VectorLength, value: float::count(further) });
+        return Err(Refusal {
+            reason: Reason::VectorLength,
+            value: float::count(further),
+        });
     }
     Ok(())
 }
