@@ -62,7 +62,13 @@ fn counted(p: SoFar, need: usize, applications: u64, substeps: u64, rejected: u6
 }
 
 // A refusal ends the soak and names stage i + 1; Taylor has no substeps and rejects nothing.
-pub fn settle(i: usize, p: SoFar, n: usize, count: usize, answer: Result<PhiReport, Refusal>) -> Result<SoFar, StageRefusal>
+pub fn settle(
+    i: usize,
+    p: SoFar,
+    n: usize,
+    count: usize,
+    answer: Result<PhiReport, Refusal>,
+) -> Result<SoFar, StageRefusal>
     requires { (i ≤ 63) × Counted i p × (n ≤ 1000000) × Few count answer }
     ensures memory_value { (output memory : List Float) → turn_at result output output memory ≡ settle i (p.used + (count - 1) * n) p.report (ends answer output memory) answer }
     ensures moderate { Moderate (i + 1) result }
