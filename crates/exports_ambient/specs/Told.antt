@@ -2,6 +2,7 @@
 use Rattle.std.specs.Prelude.{List, ℕ, Float}
 use Rattle.std.specs.Float.{nan}
 use Rattle.doubles.specs.F64.{+0}
+use Rattle.checks.specs.Reasons.{number}
 use Rattle.ambient_turns.specs.declared.AmbientAnswer.{AmbientAnswer}
 use Rattle.ambient_turns.specs.declared.AmbientAnswer.TheVariants.{Refusal, NotANumber, Logged}
 use Rattle.ambient_turns.specs.Ambient.{Results, Logging}

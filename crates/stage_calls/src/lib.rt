@@ -19,10 +19,11 @@ ghost use Rattle.stage_calls.specs.Inner.{Whole, stage_end};
 
 use checks::Refusal;
 use generator_action::Shape;
-use krylov_job::{Eta, KrylovAnswer, KrylovPhiOptions};
-use phi_solver::{PhiAnswer, PhiSolver};
+use krylov_advance::KrylovPhiReport;
+use krylov_job::{Eta, KrylovPhiOptions};
+use phi_solver::{PhiReport, PhiSolver};
 use schedule_checks::Stage;
-use taylor_job::TaylorAnswer;
+use taylor_job::TaylorReport;
 
 // A Taylor stage whose 12 to 16 have passed.
 fn taylor_stage(
@@ -95,7 +96,7 @@ fn stage_call(
     vectors: &[f64],
     out: &mut [f64],
     work: &mut [f64],
-) -> PhiAnswer
+) -> Result<PhiReport, Refusal>
     requires passed { Passed (csr g.n starts.now cols.now vals.now) (given g.with_mass mass.now) g }
     requires whole { Whole g.n s.count (length (field_of initial start.now out.old)) (length vectors.now) (length out.old) × (Sound ≡ first (time_checks_of s.solver s.tau)) }
     ensures { (gs : List Check) → Sound ≡ first gs → ends result out.new work.new ≡ combine s.solver (after_checks gs (csr g.n starts.now cols.now vals.now) (given g.with_mass mass.now) g) s.tau s.count (field_of initial start.now out.old ++ vectors.now) out.old work.old }
@@ -128,7 +129,7 @@ pub fn run_stage(
     further: &[f64],
     out: &mut [f64],
     work: &mut [f64],
-) -> PhiAnswer
+) -> Result<PhiReport, Refusal>
     requires passed { Passed (csr g.n starts.now cols.now vals.now) (given g.with_mass mass.now) g }
     requires used_bound { used ≤ 192000000 }
     ensures { (gs : List Check) → Sound ≡ first gs → ends result out.new work.new ≡ stage_end (after_checks gs (csr g.n starts.now cols.now vals.now) (given g.with_mass mass.now) g) s last used further.now (field_of initial start.now out.old) out.old work.old }
