@@ -15,7 +15,7 @@ ghost use Rattle.ambient_turns.specs.Ambient.{settle, record_step, ended, conclu
 ghost use Rattle.ambient_turns.specs.Inner.{results_of, shown_in, Logs, results, logging};
 
 use ambient_turns::AmbientAnswer;
-use generator_action::{MatrixAnswer, Shape};
+use generator_action::Shape;
 
 // The records in order: the first starts from `field`, each other from what the one before it left in the output.
 fn run_records(
@@ -88,12 +88,9 @@ pub fn ambient(
     ensures { logging result out.new work.new temperatures.new largest.new smallest.new ≡ ambient (forward (csr n starts.now cols.now vals.now) (given with_mass mass.now)) (log_of durations.now levels.now) field.now load.now window node out.old work.old (results temperatures.old largest.old smallest.old) }
 {
     let matrix = generator_checks::check_generator(n, starts, cols, vals, with_mass, mass);
-    let MatrixAnswer::Norm(norm, _) = matrix else {
-        return AmbientAnswer::Refusal(
-            generator_action::number(matrix),
-            generator_action::value(matrix),
-            0,
-        );
+    let norm = match matrix {
+        Err(r) => return AmbientAnswer::Refusal(r, 0),
+        Ok(l) => l.norm,
     };
     let fields = ambient_checks::check_fields(n, field, load, out.len());
     let log = ambient_checks::check_log(
@@ -106,10 +103,9 @@ pub fn ambient(
         largest.len(),
         smallest.len(),
     );
-    let checked = combination::and_then(fields, log);
-    let Ok(()) = checked else {
-        return AmbientAnswer::Refusal(checks::number(checked), checks::reported(checked), 0);
-    };
+    if let Err(r) = combination::and_then(fields, log) {
+        return AmbientAnswer::Refusal(r, 0);
+    }
     let g = generator_action::generator_shape(n, with_mass, vals.len(), norm);
     let answer = run_records(
         starts,

@@ -8,14 +8,16 @@ ghost use Rattle.ambient_checks.specs.Inner.{log_of, places};
 
 use checks::{Checked, Reason, Refusal};
 
-
 // 15 for the output, 16 for field, then load, 17 for field, then load.
 pub fn check_fields(n: usize, field: &[f64], load: &[f64], output: usize) -> Checked
     ensures { result ≡ first (field_checks n field.now load.now output) }
 {
     vector_checks::check_lengths(output, n, field.len(), n)?;
     if load.len() != n {
-        return Err(Refusal { reason: Reason::VectorLength, value: float::count(load.len()) });
+        return Err(Refusal {
+            reason: Reason::VectorLength,
+            value: float::count(load.len()),
+        });
     }
     let behind = vector_checks::check_finite(load);
     combination::and_then(vector_checks::check_finite(field), behind)
@@ -75,13 +77,22 @@ pub fn check_log(
 {
     let records = durations.len();
     if wrong_window(n, width, node) {
-        return Err(Refusal { reason: Reason::WindowOrNode, value: float::not_a_number() });
+        return Err(Refusal {
+            reason: Reason::WindowOrNode,
+            value: float::not_a_number(),
+        });
     }
     if wrong_records(records, levels.len()) {
-        return Err(Refusal { reason: Reason::RecordCount, value: float::not_a_number() });
+        return Err(Refusal {
+            reason: Reason::RecordCount,
+            value: float::not_a_number(),
+        });
     }
     if short(records, temperatures, largest, smallest) {
-        return Err(Refusal { reason: Reason::ResultsLength, value: float::not_a_number() });
+        return Err(Refusal {
+            reason: Reason::ResultsLength,
+            value: float::not_a_number(),
+        });
     }
     Ok(())
 }

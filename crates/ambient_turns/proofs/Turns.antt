@@ -30,7 +30,7 @@ use Rattle.ambient_turns.specs.declared.AmbientAnswer.TheVariants.{Refusal, NotA
 use Rattle.ambient_turns.specs.contracts.AmbientAnswer.{the_type}
 use Rattle.ambient_turns.specs.Ambient.{Progress, Ended, ended, shown, settle, record_step, concluded}
 use Rattle.ambient_turns.specs.Inner.{turn_at, results_of, shown_in}
-use Rattle.checks.specs.Reasons.{Refused}
+use Rattle.checks.specs.Reasons.{refusal, Refused}
 use Rattle.std.specs.Prelude.{Ok}
 use Rattle.checks.specs.declared.Reason.{Reason}
 
@@ -65,7 +65,7 @@ one_less : (i : ℕ) → i + 1 - 1 ≡ i
 one_less i = omega arith
 
 module _ (node i : ℕ) (o t : List Float) {a : TaylorAnswer} where
-  pub refused_turn : {k : Reason} {x : Float} → a ≡ Refused k x → Settled node i a o t (Refused k x (i + 1)) t × Shown i (Refused k x (i + 1)) t t
+  pub refused_turn : {k : Reason} {x : Float} → a ≡ Refused k x → Settled node i a o t (Refusal (refusal k x) (i + 1)) t × Shown i (Refusal (refusal k x) (i + 1)) t t
   unfolding turn_at settle results_of
   refused_turn e = (λ memory. rw (e, one_less i) refl, (omega arith, λ t₀ h. rw (one_less i) h))
 
@@ -107,14 +107,14 @@ module _ (g : Generator) (log : Log) (load : List Float) (node : ℕ) (field : L
 -- ---- the ends of the loop
 concluded_is : (r : AmbientAnswer) (field output memory t : List Float) → concluded (turn_at r field output memory t) ≡ ended r output memory t
 unfolding concluded turn_at
-concluded_is (Refused k x i) field output memory t = refl
+concluded_is (Refusal r i) field output memory t = refl
 concluded_is (NotANumber i) field output memory t = refl
 concluded_is Logged field output memory t = refl
 
 module _ {step : ℕ → Progress → Turn Progress Ended} {k i : ℕ} {o₀ : Turn Progress Ended} (field output memory t : List Float) where
   pub ended_early : (r : AmbientAnswer) → (r ≡ Logged → ⊥) → Left step k i o₀ (turn_at r field output memory (shown_in r i t)) → ended r output memory (shown_in r k t) ≡ concluded (walk step k 0 o₀)
   unfolding turn_at results_of concluded
-  ended_early (Refused j x m) n h = ap concluded (left_out h _ refl)
+  ended_early (Refusal e m) n h = ap concluded (left_out h _ refl)
   ended_early (NotANumber m) n h = ap concluded (left_out h _ refl)
   ended_early Logged n h = absurd (n refl)
 
@@ -124,6 +124,6 @@ module _ {step : ℕ → Progress → Turn Progress Ended} {k i : ℕ} {o₀ : T
 -- an end names its record, however many there are
 pub same_results : (i k : ℕ) (r : AmbientAnswer) → (r ≡ Logged → ⊥) → results_of r i ≡ results_of r k
 unfolding results_of
-same_results i k (Refused j x m) n = refl
+same_results i k (Refusal e m) n = refl
 same_results i k (NotANumber m) n = refl
 same_results i k Logged n = absurd (n refl)

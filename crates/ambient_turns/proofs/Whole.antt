@@ -27,7 +27,7 @@ use Rattle.ambient_turns.specs.declared.AmbientAnswer.{AmbientAnswer}
 use Rattle.ambient_turns.specs.declared.AmbientAnswer.TheVariants.{Refusal}
 use Rattle.ambient_turns.specs.Ambient.{ended, record_step, ambient_checks, written, concluded, begun, unless_log_refused, ambient}
 use Rattle.ambient_turns.specs.Inner.{results_of, shown_in, Logs, results, logging}
-use Rattle.checks.specs.Reasons.{Sound, Refused}
+use Rattle.checks.specs.Reasons.{refusal, Sound, Refused}
 use Rattle.checks.specs.declared.Reason.{Reason}
 
 -- ---- what the slices hold at the end
@@ -41,7 +41,7 @@ module _ (W n : ℕ) (t₁ w₀ w₁ : List Float) (wide : 1 ≤ W) (fits : n �
   smallest_in e = e ∙ ap (λ (x : List Float). splice 0 x w₀) (extremes_of_front min_num W n t₁ wide fits)
 
 module _ (g : Generator) (log : Log) (field load : List Float) (W node : ℕ) (out₀ w₀ t₀ hi₀ lo₀ : List Float) {r : Checked} (told : r ≡ first (ambient_checks g log field load W node (length out₀) (places (length t₀) (length hi₀) (length lo₀)))) where
-  pub ambient_refused : {k : Reason} {x : Float} → r ≡ Refused k x → logging (Refused k x 0) out₀ w₀ t₀ hi₀ lo₀ ≡ ambient g log field load W node out₀ w₀ (results t₀ hi₀ lo₀)
+  pub ambient_refused : {k : Reason} {x : Float} → r ≡ Refused k x → logging (Refusal (refusal k x) 0) out₀ w₀ t₀ hi₀ lo₀ ≡ ambient g log field load W node out₀ w₀ (results t₀ hi₀ lo₀)
   unfolding ambient unless_log_refused
   ambient_refused e = rw (← told, e) refl
 

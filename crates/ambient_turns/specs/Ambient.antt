@@ -41,7 +41,7 @@ shown false i t c temperatures = on (record { field = c.output; output = c.outpu
 
 -- a refusal ends it with the field before that record, or with nothing changed at the first
 unfoldable pub settle : ℕ → ℕ → List Float → Call TaylorAnswer → TaylorAnswer → Turn Progress Ended
-settle node i temperatures c (Err r) = out (ended (Err r (i + 1)) c.output c.memory temperatures)
+settle node i temperatures c (Err r) = out (ended (Refusal r (i + 1)) c.output c.memory temperatures)
 settle node i temperatures c (Ok r) = shown (is_nan (at c.output node)) i (at c.output node) c temperatures
 
 -- record i + 1
@@ -93,7 +93,7 @@ begun field output memory = record { field = field; output = output; memory = me
 
 -- refused before any record: nothing is changed
 unfoldable pub unless_log_refused : Checked → List Float → List Float → Results → Logging → Logging
-unless_log_refused (Err e) output memory r l = record { call = ends (Err e 0) output memory; results = r }
+unless_log_refused (Err e) output memory r l = record { call = ends (Refusal e 0) output memory; results = r }
 unless_log_refused (Ok _) output memory r l = l
 
 unfoldable pub ambient : Generator → Log → List Float → List Float → ℕ → ℕ → List Float → List Float → Results → Logging

@@ -8,12 +8,12 @@ ghost use Rattle.ambient_turns.specs.Ambient.{settle};
 ghost use Rattle.ambient_turns.specs.Inner.{turn_at, results_of, shown_in};
 
 use checks::Refusal;
-use taylor_job::TaylorAnswer;
+use taylor_job::TaylorReport;
 
 // A refusal's number and double with the record that met it, from 1 (0: before any record); the record after which the temperature is NaN; or all done.
 #[derive(Clone, Copy)]
 pub enum AmbientAnswer {
-    Refusal(u32, f64, u32),
+    Refusal(Refusal, u32),
     NotANumber(u32),
     Logged,
 }
@@ -32,8 +32,8 @@ pub fn settle(
 {
     let record = i as u32 + 1;
     match answer {
-        Err(Refusal { reason: k, value: x }) => AmbientAnswer::Refusal(k, x, record),
-        TaylorAnswer::Result(_) => {
+        Err(r) => AmbientAnswer::Refusal(r, record),
+        Ok(_) => {
             let t = out[node];
             if t != t {
                 return AmbientAnswer::NotANumber(record);
@@ -50,7 +50,7 @@ pub fn results_of(answer: AmbientAnswer, k: usize) -> usize
     ensures { result ≡ results_of answer k }
 {
     match answer {
-        AmbientAnswer::Refusal(_, _, i) => records_before(i),
+        AmbientAnswer::Refusal(_, i) => records_before(i),
         AmbientAnswer::NotANumber(i) => records_before(i),
         AmbientAnswer::Logged => k,
     }

@@ -12,6 +12,7 @@ use Rattle.phi_solver.specs.declared.PhiSolver.TheVariants.{Taylor, Krylov}
 use Rattle.phi_solver.specs.Combine.{PhiAnswer}
 use Rattle.phi_solver.specs.declared.PhiReport.TheVariants as phi
 use Rattle.std.specs.Prelude.{Ok, Err}
+use Rattle.checks.specs.Reasons.{number}
 
 -- 0 or the refusal's number, the double reported, three counts, and the shortest and the last accepted step
 pub record Numbers : Type 0 where
@@ -32,12 +33,12 @@ numbers k x a b c = run_numbers k x a b c +0 +0
 
 -- of a matrix: the norm and the first row that has it; the row of a refusal is 0
 unfoldable pub matrix_numbers : MatrixAnswer → Numbers
-matrix_numbers (Err r) = numbers r.reason r.value 0 0 0
+matrix_numbers (Err r) = numbers (number r.reason) r.value 0 0 0
 matrix_numbers (Ok l) = numbers 0 l.norm l.row 0 0
 
 -- of a join: the number of entries of the result; that of a refusal is 0
 unfoldable pub join_numbers : JoinAnswer → Numbers
-join_numbers (Err r) = numbers r.reason r.value 0 0 0
+join_numbers (Err r) = numbers (number r.reason) r.value 0 0 0
 join_numbers (Ok entries) = numbers 0 +0 entries 0 0
 
 -- and what its output slices hold
@@ -55,17 +56,17 @@ telling_join c = join_told (join_numbers c.answer) c.starts c.columns c.values
 
 -- of Taylor: mu, s, m and the applications
 unfoldable pub taylor_numbers : TaylorAnswer → Numbers
-taylor_numbers (Err r) = numbers r.reason r.value 0 0 0
+taylor_numbers (Err r) = numbers (number r.reason) r.value 0 0 0
 taylor_numbers (Ok r) = numbers 0 r.mu r.s r.m r.applications
 
 -- of Krylov: the estimate, the substeps, the applications, the rejections, and the two steps (document 02, N10)
 unfoldable pub krylov_numbers : KrylovAnswer → Numbers
-krylov_numbers (Err r) = numbers r.reason r.value 0 0 0
+krylov_numbers (Err r) = numbers (number r.reason) r.value 0 0 0
 krylov_numbers (Ok r) = run_numbers 0 r.est_error r.substeps r.matvecs r.rejected r.shortest r.last
 
 -- of either solver: what its own call tells
 unfoldable pub phi_numbers : PhiAnswer → Numbers
-phi_numbers (Err r) = numbers r.reason r.value 0 0 0
+phi_numbers (Err r) = numbers (number r.reason) r.value 0 0 0
 phi_numbers (Ok (phi.Taylor r)) = taylor_numbers (Ok r)
 phi_numbers (Ok (phi.Krylov r)) = krylov_numbers (Ok r)
 

@@ -65,6 +65,14 @@ same_reason e = ap (λ (r : Refusal). r.reason) (err_is e)
 pub same_double : {A : Type 0} {j k : Reason} {x y : Float} → Refused {A = A} j x ≡ Refused {A = A} k y → x ≡ y
 same_double e = ap (λ (r : Refusal). r.value) (err_is e)
 
+-- what is no refusal is sound
+pub sound_left : {c : Checked} → ((r : Refusal) → c ≡ Err r → ⊥) → c ≡ Sound
+sound_left {c} h = go c h
+  where
+    go : (c : Checked) → ((r : Refusal) → c ≡ Err r → ⊥) → c ≡ Sound
+    go (Ok _) h = refl
+    go (Err r) h = absurd (h r refl)
+
 -- what `?` returns is the refusal that it was given
 pub passed_on : {A : Type 0} {r : Result A Refusal} {e : Refusal} → IsErrAnd r (λ d. d ≡ e) → r ≡ Err e
 passed_on {r = r} h = let p = err_from_is_err_and r h in p.1 ∙ ap Err p.2

@@ -33,7 +33,10 @@ fn check_products(load: &[f64], level: f64) -> Checked
 {
     let i = first_bad_product(load, level);
     if i < load.len() {
-        return Err(Refusal { reason: Reason::VectorNotFinite, value: load[i] * level });
+        return Err(Refusal {
+            reason: Reason::VectorNotFinite,
+            value: load[i] * level,
+        });
     }
     Ok(())
 }

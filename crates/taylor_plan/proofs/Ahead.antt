@@ -1,5 +1,5 @@
 -- What the plan alone tells of a run. Assumes nothing.
-use mathlib.Core.Path.{◌≡◌, refl, sym, ◌∙◌, subst}
+use mathlib.Core.Path.{◌≡◌, refl, sym, ap, ◌∙◌, subst}
 use mathlib.Core.Bool.{false}
 use mathlib.Core.List.{List, [], ◌++◌}
 use Prim.Native.Nat.{ℕ, zero, suc, ◌-◌, ◌*◌, ◌≤◌}
@@ -11,7 +11,7 @@ use lib.Ieee.{Float}
 use borrow.Author.Tests.{le-ltb}
 use Rattle.checks.specs.First.{Check, first, before}
 use Rattle.checks.specs.First.{Checked}
-use Rattle.checks.proofs.First.{and_then, first_append, sound_append, sound_cons, sound_on, passes, ends_sound}
+use Rattle.checks.proofs.First.{err_is, ok_is, and_then, first_append, sound_append, sound_cons, sound_on, passes, ends_sound}
 use Rattle.checks.proofs.Numbers.{not_by}
 use Rattle.general_operator.specs.Csr.{row_sum_norm}
 use Rattle.general_operator.proofs.Sound.{or_false}
@@ -32,7 +32,7 @@ use Rattle.taylor_job.specs.Calls.{Fields, after_plan, combination_checks, combi
 use Rattle.phi_batch.proofs.Batch.{soak_counted, batch_counted}
 use Rattle.taylor_plan.specs.TaylorPlan.{taylor_plan_checks, cost_alone, taylor_plan}
 use Rattle.taylor_plan.specs.Ahead.{own, combination_own, action_own, Foretold, PlanAhead}
-use Rattle.checks.specs.Reasons.{Sound, Refused}
+use Rattle.checks.specs.Reasons.{number, Sound, Refused}
 use Rattle.std.specs.Prelude.{Ok, Err}
 use Rattle.checks.specs.declared.Reason.TheVariants.{WorkLength}
 use Rattle.checks.specs.declared.Reason.{Reason}
@@ -127,8 +127,8 @@ module _ (g : Generator) (tau : Float) (cap : ℕ) where
     unfolding unless_refused
     refusal_listed {k} {x} f = go (first cs) refl f
       where
-        same : {i j : Reason} {y z : Float} → Refused i y ≡ Refused j z → Refused j z ≡ Refused i y
-        same h = cc
+        same : {i j : Reason} {y z : Float} → Refused {A = TaylorReport} i y ≡ Refused j z → Refused {A = Unit} j z ≡ Refused i y
+        same h = ap Err (sym (err_is h))
 
         go : (c : Checked) → c ≡ first cs → (unless_refused Refused c output memory (after_plan need tau norm output memory (sweep_plan cap tau g.matrix norm) run)).answer ≡ Refused k x → Refused k x ≡ first cs
         go (Ok _) e h = absurd (no_refusal _ (row_planned (schedule_sound e)) h)
@@ -143,7 +143,7 @@ module _ (g : Generator) (tau : Float) (cap : ℕ) where
       pub sound : Sound ≡ first cs
       pub plan : SweepPlan
       pub has_plan : sweep_plan cap tau g.matrix norm ≡ Plan plan
-      pub is : Ok (record { s = plan.s; m = plan.m; mu = plan.mu; applications = (run plan).applied }) ≡ Ok r
+      pub is : record { s = plan.s; m = plan.m; mu = plan.mu; applications = (run plan).applied } ≡ r
 
     result_planned : {r : TaylorReport} → (call cs need output memory run).answer ≡ Ok r → Planned r
     unfolding unless_refused after_plan
@@ -151,35 +151,35 @@ module _ (g : Generator) (tau : Float) (cap : ℕ) where
       where
         of_plan_answer : Sound ≡ first cs → (p : PlanAnswer) → sweep_plan cap tau g.matrix norm ≡ p → (after_plan need tau norm output memory p run).answer ≡ Ok r → Planned r
         of_plan_answer e NoPlan h i = let z : zero ≡ 1 = cc in absurd (omega (arith, z))
-        of_plan_answer e (Plan p) h i = record { sound = e; plan = p; has_plan = h; is = i }
+        of_plan_answer e (Plan p) h i = record { sound = e; plan = p; has_plan = h; is = ok_is i }
 
         go : (c : Checked) → c ≡ first cs → (unless_refused Refused c output memory (after_plan need tau norm output memory (sweep_plan cap tau g.matrix norm) run)).answer ≡ Ok r → Planned r
         go (Ok _) e h = of_plan_answer e _ refl h
         go (Err r) e h = let z : zero ≡ 1 = cc in absurd (omega (arith, z))
 
 -- ---- numbers that are not a run's own
-record Other (k : ℕ) : Type 0 where
-  pub not_12 : eqb 12 k ≡ false
-  pub not_13 : eqb 13 k ≡ false
-  pub not_15 : eqb 15 k ≡ false
-  pub not_16 : eqb 16 k ≡ false
-  pub not_17 : eqb 17 k ≡ false
-  pub not_21 : eqb 21 k ≡ false
-  pub not_22 : eqb 22 k ≡ false
-  pub not_26 : eqb 26 k ≡ false
+record Other (k : Reason) : Type 0 where
+  pub not_12 : eqb 12 (number k) ≡ false
+  pub not_13 : eqb 13 (number k) ≡ false
+  pub not_15 : eqb 15 (number k) ≡ false
+  pub not_16 : eqb 16 (number k) ≡ false
+  pub not_17 : eqb 17 (number k) ≡ false
+  pub not_21 : eqb 21 (number k) ≡ false
+  pub not_22 : eqb 22 (number k) ≡ false
+  pub not_26 : eqb 26 (number k) ≡ false
 
-other : (k : ℕ) → own k ≡ false → Other k
+other : (k : Reason) → own (number k) ≡ false → Other k
 other k e =
-    let a = or_false (eqb 12 k) _ e in
-    let b = or_false (eqb 13 k) _ a.1 in
-    let c = or_false (eqb 15 k) _ b.1 in
-    let d = or_false (eqb 16 k) _ c.1 in
-    let f = or_false (eqb 17 k) _ d.1 in
-    let h = or_false (eqb 21 k) _ f.1 in
-    let i = or_false (eqb 22 k) _ h.1 in
+    let a = or_false (eqb 12 (number k)) _ e in
+    let b = or_false (eqb 13 (number k)) _ a.1 in
+    let c = or_false (eqb 15 (number k)) _ b.1 in
+    let d = or_false (eqb 16 (number k)) _ c.1 in
+    let f = or_false (eqb 17 (number k)) _ d.1 in
+    let h = or_false (eqb 21 (number k)) _ f.1 in
+    let i = or_false (eqb 22 (number k)) _ h.1 in
     record { not_12 = a.0; not_13 = b.0; not_15 = c.0; not_16 = d.0; not_17 = f.0; not_21 = h.0; not_22 = i.0; not_26 = i.1 }
 
-memory_other : (k memory need : ℕ) → Other k → before k (memory_checks memory need) ≡ memory_checks memory need
+memory_other : (k : Reason) (memory need : ℕ) → Other k → before k (memory_checks memory need) ≡ memory_checks memory need
 unfolding before memory_checks
 memory_other k memory need o = rw o.not_26 refl
 
@@ -195,7 +195,7 @@ module _ (g : Generator) (tau : Float) (cap : ℕ) (lent : List Float) where
 
   module _ (xs ys : List Check) (need : ℕ) (output memory : List Float) (run : SweepPlan → Fields) (runs : ℕ)
       (counted : (p : SweepPlan) → (run p).applied ≡ runs * (p.s * p.m))
-      (others : (k : ℕ) → Other k → (before k xs ≡ xs) × (before k ys ≡ ys)) where
+      (others : (k : Reason) → Other k → (before k xs ≡ xs) × (before k ys ≡ ys)) where
     abbrev checks : List Check
     checks = listed g tau cap xs ys (length memory) need
 
@@ -210,11 +210,8 @@ module _ (g : Generator) (tau : Float) (cap : ℕ) (lent : List Float) where
         let s = sound_plan g.checks xs (plan_checks tau cap) ys (schedule_checks cap (norm g tau cap) tau) _ _ h.sound (enough (length lent) g.stored room) in
         subst
         (λ (r : TaylorReport). (cost : ℕ) × ((taylor_plan g tau cap lent).answer ≡ Ok (record { s = r.s; m = r.m; mu = r.mu; applications = cost })) × (r.applications ≡ runs * cost))
-        (reported h.is)
+        h.is
         (h.plan.s * h.plan.m, rw (plan_is, ← s, h.has_plan) refl, counted h.plan)
-      where
-        reported : {a b : TaylorReport} → Ok a ≡ Ok b → a ≡ b
-        reported e = cc
 
     foretold : Foretold g tau cap lent runs (xs ++ ys) ran
     foretold =
@@ -239,7 +236,7 @@ module _ (g : Generator) (tau : Float) (cap : ℕ) (lent : List Float) where
         let f = further n w in
         length_checks (length output) n (length w) (count * n) ++ (finite_checks w ++ magnitude_checks n f tau (count - 1) (eta_of n f tau (count - 1)).eta)
 
-    combination_others : (k : ℕ) → Other k → (before k (count_checks count) ≡ count_checks count) × (before k rest ≡ rest)
+    combination_others : (k : Reason) → Other k → (before k (count_checks count) ≡ count_checks count) × (before k rest ≡ rest)
     unfolding before count_checks length_checks finite_checks magnitude_checks
     combination_others k o = (rw o.not_12 refl, rw (o.not_15, o.not_16, o.not_17, o.not_21, o.not_22) refl)
 
@@ -256,7 +253,7 @@ module _ (g : Generator) (tau : Float) (cap : ℕ) (lent : List Float) where
       abbrev of_field : List Check
       of_field = length_checks (length output) wanted (length v) g.matrix.n ++ finite_checks v
 
-      action_others : (i : ℕ) → Other i → (before i (index_checks k) ≡ index_checks k) × (before i of_field ≡ of_field)
+      action_others : (i : Reason) → Other i → (before i (index_checks k) ≡ index_checks k) × (before i of_field ≡ of_field)
       unfolding before index_checks length_checks finite_checks
       action_others i o = (rw o.not_13 refl, rw (o.not_15, o.not_16, o.not_17) refl)
 

@@ -9,7 +9,7 @@ use Rattle.taylor_job.specs.declared.TaylorReport.{TaylorReport}
 use Rattle.taylor_job.specs.Calls.{TaylorAnswer}
 use Rattle.taylor_job.specs.Calls.{phi_combination, phi_action, phi_action_batched}
 use Rattle.taylor_plan.specs.TaylorPlan.{taylor_plan}
-use Rattle.checks.specs.Reasons.{Sound, Refused}
+use Rattle.checks.specs.Reasons.{number, Sound, Refused}
 use Rattle.std.specs.Prelude.{Ok}
 use Rattle.checks.specs.declared.Reason.{Reason}
 
@@ -33,8 +33,8 @@ pub record Foretold (g : Generator) (tau : Float) (cap : ℕ) (lent : List Float
   pub told : {r : TaylorReport} → c.answer ≡ Ok r → g.stored ≤ length lent
       → (cost : ℕ) × ((taylor_plan g tau cap lent).answer ≡ Ok (record { s = r.s; m = r.m; mu = r.mu; applications = cost })) × (r.applications ≡ runs * cost)
   -- a refusal that is not its own is the plan's too; and the plan's is its, where it has none of its own
-  pub refused : {k : Reason} {x : Float} → own k ≡ false → c.answer ≡ Refused k x → (taylor_plan g tau cap lent).answer ≡ Refused k x
-  pub refuses : {k : Reason} {x : Float} → own k ≡ false → Sound ≡ first cs → (taylor_plan g tau cap lent).answer ≡ Refused k x → c.answer ≡ Refused k x
+  pub refused : {k : Reason} {x : Float} → own (number k) ≡ false → c.answer ≡ Refused k x → (taylor_plan g tau cap lent).answer ≡ Refused k x
+  pub refuses : {k : Reason} {x : Float} → own (number k) ≡ false → Sound ≡ first cs → (taylor_plan g tau cap lent).answer ≡ Refused k x → c.answer ≡ Refused k x
 
 -- of every combination, action and batch
 pub record PlanAhead (g : Generator) (tau : Float) (cap : ℕ) (lent : List Float) : Type 0 where

@@ -9,8 +9,8 @@ use Rattle.phi_action.proofs.acted.Goals as goal
 pub returns-in_err-j : goal.returns-in_err-j
 returns-in_err-j c gs sound =
     rw (passed_on c.from_residual.ensures.1)
-    (let refusal = c.in_err-j.was in
-    search (refused_action c.args.mass.now c.requires gs sound))
+    (let a = c.args in
+    refused_action a.mass.now c.requires gs sound a.tau a.cap a.k a.v.now a.out.now a.work.now c.admit_action-j.ensures c.in_err-j.was)
 
 pub init_aug_vector-requires : goal.init_aug_vector-requires
 init_aug_vector-requires c =

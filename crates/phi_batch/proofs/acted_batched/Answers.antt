@@ -12,8 +12,8 @@ use Rattle.phi_batch.proofs.acted_batched.Goals as goal
 pub returns-in_err-check_index : goal.returns-in_err-check_index
 returns-in_err-check_index c gs sound =
     rw (passed_on c.from_residual.ensures.1)
-    (let refusal = c.in_err-check_index.was in
-    search (refused_index c.args.mass.now c.requires gs sound))
+    (let a = c.args in
+    refused_index a.mass.now c.requires gs sound a.tau a.cap a.p a.v.now a.out.now a.work.now c.in_err-check_index.was c.check_index.ensures)
 
 pub overflow_add-count : goal.overflow_add-count
 overflow_add-count c = omega (arith, index_known c.args.p c.in_ok-check_index.was c.check_index.ensures)
