@@ -12,6 +12,7 @@ use Rattle.paused_run.specs.declared.Tolerance.TheVariants.{Same, New}
 use Rattle.paused_run.specs.Paused.{StartAnswer}
 use Rattle.paused_run.specs.Paused.{StepAnswer}
 use Rattle.std.specs.Prelude.{Ok, Err}
+use Rattle.checks.specs.Reasons.{number}
 use Rattle.checks.specs.declared.Reason.TheVariants.{WorkLength}
 
 -- ---- a run's doubles and numbers, in this order
@@ -103,7 +104,7 @@ written k x s numbers counts = if fits numbers counts then state k x (numbers_of
 
 -- a refused start writes no state; the estimate of a run that began is +0
 unfoldable pub start_state : StartAnswer → List Float → List ℕ → State
-start_state (Err r) numbers counts = state r.reason r.value numbers counts
+start_state (Err r) numbers counts = state (number r.reason) r.value numbers counts
 start_state (Ok s) numbers counts = written 0 s.report.est_error s numbers counts
 
 -- 27 to 29 come with a substep, every other refusal before it: that writes no state
@@ -111,7 +112,9 @@ abbrev pub ran : ℕ → Bool
 ran k = ltb 26 k && ltb k 30
 
 unfoldable pub step_state : StepAnswer → List Float → List ℕ → State
-step_state (Err r) numbers counts = if ran r.refusal.reason then written r.refusal.reason r.refusal.value r.run numbers counts else state r.refusal.reason r.refusal.value numbers counts
+step_state (Err r) numbers counts =
+    let k = number r.refusal.reason in
+    if ran k then written k r.refusal.value r.run numbers counts else state k r.refusal.value numbers counts
 step_state (Ok s) numbers counts = written 0 s.report.est_error s numbers counts
 
 -- with what the three lent slices of doubles hold

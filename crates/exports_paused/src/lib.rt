@@ -10,7 +10,7 @@ ghost use Rattle.exports_paused.specs.Told.{numbers_of, flag, counts_of, fits, h
 
 use checks::Refusal;
 use krylov_advance::KrylovPhiReport;
-use paused_run::{PausedRun, StartAnswer, StepAnswer, Tolerance};
+use paused_run::{PausedRun, StepRefusal, Tolerance};
 use pow2::Scale;
 
 // Whether the slices of a state have its lengths.
@@ -146,11 +146,11 @@ pub fn start_state(
     ensures { state result value.new numbers.new counts.new ≡ start_state answer numbers.old counts.old }
 {
     match answer {
-        Err(Refusal { reason: k, value: x }) => {
-            *value = x;
-            k
+        Err(r) => {
+            *value = r.value;
+            r.reason.number()
         }
-        StartAnswer::Started(run) => {
+        Ok(run) => {
             write_run(run, numbers, counts);
             *value = run.report.est_error;
             0
@@ -167,7 +167,7 @@ fn ran(k: u32) -> bool
 
 // The same of a step; a refusal before the substep writes no state.
 pub fn step_state(
-    answer: StepAnswer,
+    answer: Result<PausedRun, StepRefusal>,
     numbers: &mut [f64],
     counts: &mut [usize],
     value: &mut f64,
@@ -175,14 +175,15 @@ pub fn step_state(
     ensures { state result value.new numbers.new counts.new ≡ step_state answer numbers.old counts.old }
 {
     match answer {
-        StepAnswer::Refusal(k, x, run) => {
-            *value = x;
+        Err(r) => {
+            let k = r.refusal.reason.number();
+            *value = r.refusal.value;
             if ran(k) {
-                write_run(run, numbers, counts);
+                write_run(r.run, numbers, counts);
             }
             k
         }
-        StepAnswer::Stepped(run) => {
+        Ok(run) => {
             write_run(run, numbers, counts);
             *value = run.report.est_error;
             0

@@ -1,5 +1,5 @@
 -- A step over a job that passed its checks, and by all of them. Assumes nothing.
-use mathlib.Core.Path.{◌≡◌, refl, sym, ap, ◌∙◌}
+use mathlib.Core.Path.{◌≡◌, refl, sym, ap, subst, ◌∙◌}
 use mathlib.Core.Bool.{true, false}
 use mathlib.Core.List.{List, [], ◌++◌}
 use Prim.Native.Nat.{ℕ, ◌+◌, ◌-◌, ◌*◌, ◌≤◌}
@@ -15,7 +15,7 @@ use Rattle.lists.proofs.Window.{length_window, length_splice, splice_whole, wind
 use Rattle.doubles.specs.F64.{+0}
 use Rattle.vectors.specs.Vectors.{scale}
 use Rattle.checks.specs.First.{Check, first}
-use Rattle.checks.proofs.First.{refused_up, sound_on, stops, passes, ends_sound, not_eq, not_ne}
+use Rattle.checks.proofs.First.{err_is, ok_is, refused_up, sound_on, stops, passes, ends_sound, not_eq, not_ne}
 use Rattle.general_operator.specs.Csr.{csr}
 use Rattle.general_operator.proofs.Sound.{or_false}
 use Rattle.generator_action.specs.Mass.{given, quotients, stored}
@@ -50,7 +50,11 @@ use Rattle.krylov_job.specs.declared.Eta.TheVariants.{Began}
 use Rattle.paused_run.specs.Paused.{Job, Input, PausedCall, leaves, rows, field_checks, setting_of, tol_in, options_in, over, other_checks, step_checks, resumed, verdict, field_after, substep_of, after_substep, step_unless, step}
 use Rattle.paused_run.specs.Inner.{job_over, other_checks_by, setting_for, turned, after_of}
 use Rattle.paused_run.specs.declared.PausedRun.{PausedRun}
+use Rattle.paused_run.specs.declared.StepRefusal.{StepRefusal}
 use Rattle.paused_run.specs.declared.Tolerance.{Tolerance}
+use Rattle.std.specs.Prelude.{Result, Ok, Err}
+use Rattle.std.specs.Result.{MatchResult, IsOkAnd, IsErrAnd}
+use Rattle.std.proofs.lemmas.Result.{err_from_is_err_and}
 use Rattle.paused_run.specs.Paused.{StepAnswer, StepRefused}
 use Rattle.checks.specs.Reasons.{Sound, Refused}
 use Rattle.checks.specs.declared.Reason.TheVariants.{WorkLength, RunEnded}
@@ -161,6 +165,24 @@ counts s e few =
     let b = or_false (leb s.limit s.report.substeps) _ a.1 in
     let c = or_false (ltb 129000000 s.report.matvecs) _ b.1 in
     (omega (arith, leb-false s.limit s.report.substeps b.0), omega (arith, ltb-false 129000000 s.report.matvecs c.0), omega (arith, ltb-false 10000000 s.report.rejected c.1))
+
+-- ---- a refusal that is given the run it leaves
+ok_not_err : {A E : Type 0} {x : A} {d : E} → ◌≡◌ {A = Result A E} (Ok x) (Err d) → ⊥
+ok_not_err e = subst (λ r. IsOkAnd r (λ _. Unit {0})) e tt
+
+pub refusal_given : {A E D : Type 0} (c : Result A E) (r : Result A D) (P : E → D → Type 0) {d : D} → r ≡ Err d → MatchResult c (λ x. r ≡ Ok x) (λ e. IsErrAnd r (P e)) → (e : E) × ((c ≡ Err e) × P e d)
+refusal_given (Ok x) r P e m = absurd (ok_not_err (sym m ∙ e))
+refusal_given (Err y) (Ok x) P e m = absurd m
+refusal_given (Err y) (Err d) P e m = (y, (refl, subst (P y) (err_is e) m))
+
+pub value_given : {A E D : Type 0} (c : Result A E) (r : Result A D) (P : E → D → Type 0) {x : A} → r ≡ Ok x → MatchResult c (λ y. r ≡ Ok y) (λ e. IsErrAnd r (P e)) → c ≡ Ok x
+value_given (Ok y) r P e m = ap Ok (ok_is (sym m ∙ e))
+value_given (Err y) (Ok x) P e m = absurd m
+value_given (Err y) (Err d) P e m = absurd (ok_not_err (sym e))
+
+-- what `?` then returns
+pub handed_on : {A : Type 0} {r : Result A StepRefusal} {d : StepRefusal} → IsErrAnd r (λ x. x ≡ d) → r ≡ Err d
+handed_on {r = r} h = let p = err_from_is_err_and r h in p.1 ∙ ap Err p.2
 
 -- ---- by the checks
 module _ (s : PausedRun) (y : List Float) (i : Input) where

@@ -87,7 +87,10 @@ pub fn started(
     let j = krylov_job::admit_job(g, tau, count, w, Eta::Own, o, out.len(), none, work.len());
     j.checked?;
     if field.len() != j.g.n + j.d {
-        return Err(Refusal { reason: Reason::WorkLength, value: float::not_a_number() });
+        return Err(Refusal {
+            reason: Reason::WorkLength,
+            value: float::not_a_number(),
+        });
     }
     begin(o, j, w, out, work, field)
 }

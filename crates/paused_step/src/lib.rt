@@ -47,7 +47,10 @@ pub fn stepped(
     j.checked.map_err(|refusal| StepRefusal { refusal, run })?;
     if field.len() != n + j.d {
         return Err(StepRefusal {
-            refusal: Refusal { reason: Reason::WorkLength, value: float::not_a_number() },
+            refusal: Refusal {
+                reason: Reason::WorkLength,
+                value: float::not_a_number(),
+            },
             run,
         });
     }
@@ -87,12 +90,16 @@ pub fn step(
 {
     if paused_run::over(run) {
         return Err(StepRefusal {
-            refusal: Refusal { reason: Reason::RunEnded, value: float::not_a_number() },
+            refusal: Refusal {
+                reason: Reason::RunEnded,
+                value: float::not_a_number(),
+            },
             run,
         });
     }
-    let matrix = generator_checks::check_generator(n, starts, cols, vals, with_mass, mass)
-        .map_err(|refusal| StepRefusal { refusal, run })?;
+    let matrix = generator_checks::check_generator(n, starts, cols, vals, with_mass, mass).map_err(
+        |refusal| StepRefusal { refusal, run },
+    )?;
     let g = generator_action::generator_shape(n, with_mass, vals.len(), matrix.norm);
     stepped(
         run, tolerance, starts, cols, vals, mass, g, tau, count, w, out, work, field,
