@@ -35,7 +35,7 @@ use Rattle.ambient_claims.proofs.Answers.{whole, refused_at, at_refused_leaves, 
 use Rattle.ambient_claims.proofs.Memory.{room_ran}
 use Rattle.checks.specs.Reasons.{Sound, Refused}
 use Rattle.std.specs.Prelude.{Ok, Err}
-use Rattle.checks.specs.declared.Reason.TheVariants.{WorkLength, WindowOrNode, RecordCount, ResultsLength}
+use Rattle.checks.specs.declared.Reason.TheVariants.{NormRange, WorkLength, WindowOrNode, RecordCount, ResultsLength}
 use Rattle.checks.specs.declared.Reason.{Reason}
 
 -- ---- 38 to 40 pass where W, the node, the records and the slices are as document 02 wants them, and (`ambient_checks/proofs/Checks: log_known`) nowhere else
@@ -73,15 +73,15 @@ module _ (g : Generator) (log : Log) (start load : List Float) (W node : ℕ) (o
             by_record R.0 _ _ R.1.0 (sym h) R.1.1.0 R.1.1.1.0
 
   -- ---- 23
-  early_no_23 : before 23 g.checks ≡ g.checks → before 23 early ≡ early
+  early_no_23 : before NormRange g.checks ≡ g.checks → before NormRange early ≡ early
   unfolding before ambient_checks field_checks log_checks length_checks finite_checks
-  early_no_23 h = before_append 23 g.checks _ h
+  early_no_23 h = before_append NormRange g.checks _ h
 
-  pub never_23 : InRange g → (x : Float) (j : ℕ) → left.call.answer ≡ Refused 23 x j → ⊥
+  pub never_23 : InRange g → (x : Float) (j : ℕ) → left.call.answer ≡ Refused NormRange x j → ⊥
   never_23 h x j e =
       by_either 23 x j e ⊥
-      (λ f. not_by 23 early (early_no_23 h.unnumbered) (sym f))
-      (λ i o m xs s n c. not_by 23 _ (combination_no_number g h _ 30 2 _ _ _) (sym c.refused))
+      (λ f. not_by NormRange early (early_no_23 h.unnumbered) (sym f))
+      (λ i o m xs s n c. not_by NormRange _ (combination_no_number g h _ 30 2 _ _ _) (sym c.refused))
 
   -- ---- 26: at record 1 alone, where all other checks of it pass
   module _ (plain : before WorkLength g.checks ≡ g.checks) where
