@@ -30,13 +30,11 @@ use Rattle.demand_3.specs.Demand3.{start_of}
 use Rattle.demand_3.proofs.Krylov.{expv_late}
 use Rattle.demand_3.proofs.Never23.{InRange, never_23, combination_no_number, krylov_no_number}
 use Rattle.schedule_checks.specs.declared.Stage.{Stage}
-use Rattle.schedule_checks.specs.declared.StagedAnswer.{StagedAnswer}
-use Rattle.schedule_checks.specs.declared.StagedAnswer.TheVariants.{Refusal, Staged}
-use Rattle.schedule_checks.specs.Schedule.{Schedule, stages_of, schedule_checks, stage_checks, Progress}
+use Rattle.schedule_checks.specs.Schedule.{StagedAnswer, refused_at, Schedule, stages_of, schedule_checks, stage_checks, Progress}
 use Rattle.stage_calls.specs.Stages.{stage_step, concluded, begun, before_stages, staged}
 use Rattle.stages_claims.proofs.Walks.{ended_at}
 use Rattle.stages_claims.proofs.Reached.{stands, checks_at, Outcome, early, late, result, outcome}
-use Rattle.checks.specs.Reasons.{Refused}
+use Rattle.checks.specs.Reasons.{refusal, Refused}
 use Rattle.std.specs.Prelude.{Ok, Err}
 use Rattle.checks.specs.declared.Reason.{Reason}
 use Rattle.checks.specs.declared.Reason.TheVariants.{NormRange}
@@ -100,7 +98,7 @@ module _ (g : Generator) (h : InRange g) (s : Schedule) (start further output me
   unfolding before schedule_checks
   schedule_no_number = before_append NormRange g.checks _ h.unnumbered
 
-  numbers : {j k : Reason} {x y : Float} {a b : ℕ} → Refused j x a ≡ Refused k y b → j ≡ k
+  numbers : {j k : Reason} {x y : Float} {a b : ℕ} → refused_at (refusal j x) a ≡ refused_at (refusal k y) b → j ≡ k
   numbers e = cc
 
   same : {x y : Call StagedAnswer} → ◌≡◌ {A = Turn Progress (Call StagedAnswer)} (out x) (out y) → x ≡ y
@@ -109,10 +107,10 @@ module _ (g : Generator) (h : InRange g) (s : Schedule) (start further output me
   differ : {x : Progress} {y : Call StagedAnswer} → ◌≡◌ {A = Turn Progress (Call StagedAnswer)} (on x) (out y) → zero ≡ 1
   differ e = cc
 
-  staged_not : {k : Reason} {x : Float} {i : ℕ} {r : _} → Staged r ≡ Refused k x i → zero ≡ 1
+  staged_not : {k : Reason} {x : Float} {i : ℕ} {r : _} → Ok r ≡ refused_at (refusal k x) i → zero ≡ 1
   staged_not e = cc
 
-  by_outcome : (e : Call StagedAnswer) {x : Float} {i : ℕ} → e.answer ≡ Refused NormRange x i → (j : ℕ) (p : Progress) → stage_step g s further j p ≡ out e → Outcome g s start further output memory j p → ⊥
+  by_outcome : (e : Call StagedAnswer) {x : Float} {i : ℕ} → e.answer ≡ refused_at (refusal NormRange x) i → (j : ℕ) (p : Progress) → stage_step g s further j p ≡ out e → Outcome g s start further output memory j p → ⊥
   by_outcome e n j p d (early k y b c) =
       let q = numbers (ap (λ (z : Call StagedAnswer). z.answer) (same (sym c ∙ d)) ∙ n) in
       not_by NormRange (checks_at g s start further output memory j p) (list_no_number _ _ _ _ _ _ _) (sym (b ∙ (λ i. Refused (q i) y)))
@@ -121,17 +119,17 @@ module _ (g : Generator) (h : InRange g) (s : Schedule) (start further output me
       call_never_23 g h _ _ _ p.output p.memory _ (c ∙ (λ i. Refused (q i) y))
   by_outcome e n j p d (result b c f) = absurd (omega (arith, differ (sym f ∙ d)))
 
-  pub staged_never_23 : {x : Float} {i : ℕ} → (staged g s start further output memory).answer ≡ Refused NormRange x i → ⊥
+  pub staged_never_23 : {x : Float} {i : ℕ} → (staged g s start further output memory).answer ≡ refused_at (refusal NormRange x) i → ⊥
   unfolding staged unless_refused concluded
   staged_never_23 {x} {i} e = by_checks (first (g.checks ++ schedule_checks s)) refl e
     where
-      by_stand : (t : Turn Progress (Call StagedAnswer)) → stands g s start further output memory (stages_of s) ≡ t → (concluded t).answer ≡ Refused NormRange x i → ⊥
+      by_stand : (t : Turn Progress (Call StagedAnswer)) → stands g s start further output memory (stages_of s) ≡ t → (concluded t).answer ≡ refused_at (refusal NormRange x) i → ⊥
       by_stand (on p) d f = absurd (omega (arith, staged_not f))
       by_stand (out y) d f =
           let a = ended_at (stage_step g s further) (begun start output memory) (stages_of s) y d in
           by_outcome y f a.turn a.state a.ended (outcome g s start further output memory a.turn a.state)
 
       by_checks : (c : Checked) → first (g.checks ++ schedule_checks s) ≡ c
-          → (unless_refused before_stages c output memory (concluded (stands g s start further output memory (stages_of s)))).answer ≡ Refused NormRange x i → ⊥
+          → (unless_refused before_stages c output memory (concluded (stands g s start further output memory (stages_of s)))).answer ≡ refused_at (refusal NormRange x) i → ⊥
       by_checks (Err r) d f = not_by NormRange (g.checks ++ schedule_checks s) schedule_no_number (sym (d ∙ (λ j. Refused (numbers f j) r.value)))
       by_checks (Ok _) d f = by_stand (stands g s start further output memory (stages_of s)) refl f
