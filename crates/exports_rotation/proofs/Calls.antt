@@ -1,5 +1,5 @@
 -- A join and a turn as they are told. Assumes nothing.
-use Rattle.std.specs.Prelude.{if◌then◌else◌}
+use Rattle.std.specs.Prelude.{if◌then◌else◌, Option}
 use mathlib.Core.Path.{◌≡◌, refl, sym, ap, ◌∙◌}
 use mathlib.Core.Bool.{Bool, true, false, ◌&&◌, true≢false}
 use mathlib.Core.List.{List, [], ◌∷◌, ◌++◌}
@@ -109,7 +109,7 @@ module _ (units : List Float) (queues : List ℕ) where
       λ k. unit_told (told (es k) (eo k) (ew k) (ey k)) (ep k) (eu' k) (eq' k)
 
   -- ---- a turn
-  pub told_turn : (i : Input) (field numbers : List Float) (counts : List ℕ) {u : Rotation} {t : Tolerance} {r : Turned} {st : State} {out₁ w₁ y₁ : List Float} {place : ℕ} {units₁ : List Float} {queues₁ : List ℕ}
+  pub told_turn : (i : Input) (field numbers : List Float) (counts : List ℕ) {u : Rotation} {t : Option Float} {r : Turned} {st : State} {out₁ w₁ y₁ : List Float} {place : ℕ} {units₁ : List Float} {queues₁ : List ℕ}
       → u ≡ unit_of units queues
       → t ≡ i.tolerance
       → unit_call r.unit r.place (leaves r.answer out₁ w₁ y₁) ≡ turn u field (record { tolerance = t; job = i.job; output = i.output; memory = i.memory })

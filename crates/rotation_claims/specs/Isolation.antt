@@ -1,6 +1,6 @@
 -- One barrel among any others (document 02, N6: 'Suppose the other runs are exchanged for any others and the same steps are given to one barrel: its field, report and run
 -- refusals are as if it were alone'). Definitions only.
-use Rattle.std.specs.Prelude.{◌≡◌, List, [], ◌∷◌, map, ℕ, ◌<◌, eqb, length, Float, if◌then◌else◌}
+use Rattle.std.specs.Prelude.{◌≡◌, List, [], ◌∷◌, map, ℕ, ◌<◌, eqb, length, Float, if◌then◌else◌, Option}
 use Rattle.checks.specs.First.{first}
 use Rattle.checks.specs.First.{Checked}
 use Rattle.krylov_job.specs.declared.KrylovPhiOptions.{KrylovPhiOptions}
@@ -121,7 +121,7 @@ Only31Claim =
 -- ---- two histories
 -- a step that is given: a new tol or none, matrix, tau and vectors
 pub record Given : Type 0 where
-  pub tolerance : Tolerance
+  pub tolerance : Option Float
   pub job : Job
 
 -- what it tells: the report is in the answer's run, a run refusal in the answer

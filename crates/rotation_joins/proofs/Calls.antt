@@ -1,5 +1,5 @@
 -- A join and a turn as the code makes them. Assumes nothing.
-use Rattle.std.specs.Prelude.{if◌then◌else◌}
+use Rattle.std.specs.Prelude.{if◌then◌else◌, Option, Some, None, is_some}
 use mathlib.Core.Path.{◌≡◌, refl, sym, ap, ◌∙◌}
 use mathlib.Core.Logic.{◌⊎◌, inl, inr}
 use mathlib.Core.Bool.{Bool, true, false}
@@ -11,9 +11,8 @@ use lib.Ieee.{Float, nan}
 use borrow.Author.Tests.{lt-ltb}
 use Rattle.lists.specs.Loop.{tabulate}
 use Rattle.doubles.specs.F64.{+0}
+use Rattle.pow2.specs.declared.Scale.{Scale}
 use Rattle.pow2.specs.Pow2.{pow2_scale}
-use Rattle.pow2.specs.declared.Prescale.{Prescale}
-use Rattle.pow2.specs.declared.Prescale.TheVariants.{By, None}
 use Rattle.checks.specs.First.{first}
 use Rattle.checks.specs.First.{Checked}
 use Rattle.krylov_job.specs.declared.KrylovPhiOptions.{KrylovPhiOptions}
@@ -89,10 +88,10 @@ module _ (u : Rotation) (o : KrylovPhiOptions) (j : Job) (out w₀ field : List 
   answers c = admitted u c.answer c (leaves (Refused UnitFull nan) out w₀ field)
 
   -- refused before the start
-  refused_start : (memory y : List Float) (p : Prescale) {k : Reason} {x : Float} → room u ≡ false → Refused k x ≡ full_answer (begun o j y memory p).answer → refuses (Refused k x) ≡ answers (begun o j y memory p)
+  refused_start : (memory y : List Float) (p : Option Scale) {k : Reason} {x : Float} → room u ≡ false → Refused k x ≡ full_answer (begun o j y memory p).answer → refuses (Refused k x) ≡ answers (begun o j y memory p)
   unfolding begun admitted number_of value_of
   refused_start memory y None e h = absurd (not_sound h)
-  refused_start memory y (By f) e h = ap refuses h ∙ rw e refl
+  refused_start memory y (Some f) e h = ap refuses h ∙ rw e refl
 
   refused_by : (r : Checked) {k : Reason} {x : Float} → room u ≡ false → Refused k x ≡ full_answer (start_unless r o j out w₀ field).answer → refuses (Refused k x) ≡ answers (start_unless r o j out w₀ field)
   unfolding start_unless admitted number_of value_of
