@@ -7,8 +7,6 @@ use Rattle.krylov_advance.specs.Run.{empty_report}
 use Rattle.krylov_job.specs.declared.KrylovPhiOptions.{KrylovPhiOptions}
 use Rattle.paused_run.specs.Paused.{Job, Input, start_checks, start_unless, step}
 use Rattle.paused_run.specs.declared.PausedRun.{PausedRun}
-use Rattle.paused_run.specs.declared.Tolerance.{Tolerance}
-use Rattle.paused_run.specs.declared.Tolerance.TheVariants.{Same, New}
 use Rattle.paused_run.specs.Paused.{StartAnswer}
 use Rattle.paused_run.specs.Paused.{StepAnswer}
 use Rattle.std.specs.Prelude.{Ok, Err}

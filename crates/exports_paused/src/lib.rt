@@ -10,7 +10,7 @@ ghost use Rattle.exports_paused.specs.Told.{numbers_of, flag, counts_of, fits, h
 
 use checks::Refusal;
 use krylov_advance::KrylovPhiReport;
-use paused_run::{PausedRun, StepRefusal, Tolerance};
+use paused_run::{PausedRun, StepRefusal};
 use pow2::Scale;
 
 // Whether the slices of a state have its lengths.

@@ -12,7 +12,6 @@ use Rattle.checks.specs.First.{Checked}
 use Rattle.krylov_advance.specs.Run.{State, End, finished, refused}
 use Rattle.paused_run.specs.Paused.{Input, moved, over, other_checks, step_checks, resumed, verdict, substep_of, after_substep, step_unless, step}
 use Rattle.paused_run.specs.declared.PausedRun.{PausedRun}
-use Rattle.paused_run.specs.declared.Tolerance.TheVariants.{Same, New}
 use Rattle.paused_run.specs.Paused.{StepAnswer}
 use Rattle.paused_claims.specs.History.{run_in}
 use Rattle.paused_claims.specs.Alike.{SameStep, Blind, number_in, double_in, run_with_tol, bringing, SameButTol, NewTol}

@@ -4,8 +4,6 @@ use Rattle.doubles.specs.F64.{+0}
 use Rattle.checks.specs.First.{first}
 use Rattle.paused_run.specs.Paused.{PausedCall, Input, step_checks, step}
 use Rattle.paused_run.specs.declared.PausedRun.{PausedRun}
-use Rattle.paused_run.specs.declared.Tolerance.{Tolerance}
-use Rattle.paused_run.specs.declared.Tolerance.TheVariants.{Same, New}
 use Rattle.paused_run.specs.Paused.{StepAnswer}
 use Rattle.paused_claims.specs.History.{run_in}
 use Rattle.checks.specs.Reasons.{Sound}

@@ -12,8 +12,6 @@ use Rattle.krylov_job.specs.KrylovCall.{bound}
 use Rattle.krylov_job.specs.declared.KrylovPhiOptions.{KrylovPhiOptions}
 use Rattle.paused_run.specs.Paused.{Job, PausedCall, start, Input, step_checks, step}
 use Rattle.paused_run.specs.declared.PausedRun.{PausedRun}
-use Rattle.paused_run.specs.declared.Tolerance.{Tolerance}
-use Rattle.paused_run.specs.declared.Tolerance.TheVariants.{Same, New}
 use Rattle.paused_run.specs.Paused.{StepAnswer}
 use Rattle.demand_3.specs.Trace.{Run}
 use Rattle.demand_3.specs.Krylov.{euclidean}

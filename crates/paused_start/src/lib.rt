@@ -18,9 +18,9 @@ ghost use Rattle.paused_run.specs.Inner.{job_over, first_of, begun_of};
 
 use checks::{Reason, Refusal};
 use generator_action::Shape;
-use krylov_job::{Eta, KrylovPhiOptions, RunJob};
+use krylov_job::{KrylovPhiOptions, RunJob};
 use paused_run::PausedRun;
-use pow2::{Prescale, Scale};
+use pow2::Scale;
 
 // A run from a field that is not all zeros, which is scaled by a power of two.
 fn first_run(

@@ -14,7 +14,6 @@ use Rattle.general_operator.specs.Csr.{csr}
 use Rattle.generator_action.specs.Generator.{forward}
 use Rattle.krylov_job.specs.declared.KrylovPhiOptions.{KrylovPhiOptions}
 use Rattle.paused_run.specs.Paused.{Job, open_paused}
-use Rattle.paused_run.specs.declared.Tolerance.TheVariants.{Same}
 use Rattle.rotation.specs.Unit.{empty, waiting, queue_of, next_place, lowest_free, room, admitted, join, turn_of, turn}
 use Rattle.paused_claims.specs.Alike.{number_in}
 use Rattle.rotation_claims.specs.History.{Act, joins, takes_turn, Event, joined, turned, unit_after, event_of, unit_from, events_from, unfinished_from, unfinished}

@@ -1,8 +1,6 @@
 -- What the code's own contracts say. Definitions only.
 use Rattle.std.specs.Prelude.{if◌then◌else◌}
 use Rattle.std.specs.Float.{nan}
-use Rattle.pow2.specs.declared.Prescale.{Prescale}
-use Rattle.pow2.specs.declared.Prescale.TheVariants.{By, None}
 use Rattle.checks.specs.First.{Checked}
 use Rattle.paused_run.specs.Paused.{StartAnswer}
 use Rattle.rotation.specs.declared.Rotation.{Rotation}

@@ -9,7 +9,7 @@ ghost use Rattle.paused_run.specs.Paused.{leaves};
 ghost use Rattle.rotation.specs.Unit.{unit_call, run_left, turn};
 
 use checks::{Reason, Refusal};
-use paused_run::{PausedRun, StepRefusal, Tolerance};
+use paused_run::{PausedRun, StepRefusal};
 use rotation::Rotation;
 
 // The unit after a turn, the place whose turn it was (16: none) and the step's answer.

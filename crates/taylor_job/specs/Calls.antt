@@ -12,8 +12,6 @@ use Rattle.phi_action_helpers.specs.Augmented.{Augmented}
 use Rattle.phi_action_helpers.specs.Sweeps.{run_sweeps}
 use Rattle.phi_action_helpers.specs.declared.SweepPlan.{SweepPlan}
 use Rattle.phi_shift.specs.Plan.{argument, sweep_plan}
-use Rattle.phi_shift.specs.declared.PlanAnswer.{PlanAnswer}
-use Rattle.phi_shift.specs.declared.PlanAnswer.TheVariants.{NoPlan, Plan}
 use Rattle.combination.specs.Combination.{further, eta_of, combination_operator, combination_start, action_operator, init_aug_vector}
 use Rattle.combination.specs.Call.{Call, ends, unless_refused, cleared, open_call}
 use Rattle.combination.specs.Checks.{plan_checks, vector_checks, sweep_checks, job_checks, taylor_need, open_checks}
