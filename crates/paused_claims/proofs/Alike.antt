@@ -55,7 +55,7 @@ module _ (s : PausedRun) (y : List Float) (i : Input) (tol : Float) where
   unfolding step_unless after_substep resumed
   same_by (Err r) = record { number = refl; double = refl; run = refl; output = refl; memory = refl; field = refl }
   same_by (Ok _) =
-      let v = verdict_same (substep_of s y (bringing (New tol) i)) in
+      let v = verdict_same (substep_of s y (bringing (Some tol) i)) in
       record { number = v.0; double = v.1; run = v.2; output = refl; memory = refl; field = refl }
 
   same_checks : first (step_checks s (length y) (bringing (Some tol) i)) ≡ first (step_checks s₁ (length y) (bringing None i))

@@ -150,7 +150,7 @@ signs_kept : start (options tenth 30 9) zeros (nat 7 ∷ nat 7 ∷ []) (replicat
 unfolding open_paused
 signs_kept = refl
 
-idle_31 : step idle (-0 ∷ +0 ∷ []) (input Same zeros (nat 7 ∷ []) []) ≡ leaves (StepRefused RunEnded nan idle) (nat 7 ∷ []) [] (-0 ∷ +0 ∷ [])
+idle_31 : step idle (-0 ∷ +0 ∷ []) (input None zeros (nat 7 ∷ []) []) ≡ leaves (StepRefused RunEnded nan idle) (nat 7 ∷ []) [] (-0 ∷ +0 ∷ [])
 unfolding open_paused
 idle_31 = refl
 

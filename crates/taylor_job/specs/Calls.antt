@@ -36,7 +36,7 @@ report p applied = Ok (record { s = p.s; m = p.m; mu = p.mu; applications = appl
 
 -- an accepted job leaves its fields and clears what it needed; that there is no plan is refusal 25 of the list already
 unfoldable pub after_plan : ℕ → Float → Float → List Float → List Float → Option SweepPlan → (SweepPlan → Fields) → Call TaylorAnswer
-after_plan need tau norm output memory NoPlan run = ends (Refused NoAdmissibleRow (argument tau norm)) output memory
+after_plan need tau norm output memory None run = ends (Refused NoAdmissibleRow (argument tau norm)) output memory
 after_plan need tau norm output memory (Some p) run = ends (report p (run p).applied) (run p).fields (cleared need memory)
 
 -- the n values of the field after the sweeps

@@ -30,7 +30,7 @@ use Rattle.phi_batch.proofs.Batch.{soak_counted, batch_counted}
 use Rattle.taylor_plan.specs.TaylorPlan.{taylor_plan_checks, cost_alone, taylor_plan}
 use Rattle.taylor_plan.specs.Ahead.{own, combination_own, action_own, Foretold, PlanAhead}
 use Rattle.checks.specs.Reasons.{number, Sound, Refused}
-use Rattle.std.specs.Prelude.{Ok, Err}
+use Rattle.std.specs.Prelude.{Ok, Err, Option, Some, None}
 use Rattle.checks.specs.declared.Reason.TheVariants.{WorkLength}
 use Rattle.checks.specs.declared.Reason.{Reason}
 
@@ -147,7 +147,7 @@ module _ (g : Generator) (tau : Float) (cap : ℕ) where
     result_planned {r} f = go (first cs) refl f
       where
         of_plan_answer : Sound ≡ first cs → (p : Option SweepPlan) → sweep_plan cap tau g.matrix norm ≡ p → (after_plan need tau norm output memory p run).answer ≡ Ok r → Planned r
-        of_plan_answer e NoPlan h i = let z : zero ≡ 1 = cc in absurd (omega (arith, z))
+        of_plan_answer e None h i = let z : zero ≡ 1 = cc in absurd (omega (arith, z))
         of_plan_answer e (Some p) h i = record { sound = e; plan = p; has_plan = h; is = ok_is i }
 
         go : (c : Checked) → c ≡ first cs → (unless_refused Refused c output memory (after_plan need tau norm output memory (sweep_plan cap tau g.matrix norm) run)).answer ≡ Ok r → Planned r
