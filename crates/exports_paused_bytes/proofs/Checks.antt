@@ -12,7 +12,7 @@ use lib.ListN.{length}
 use lib.Ieee.{Float, nan}
 use borrow.Author.Tests.{ltb-true, ltb-false, ne_eqb, eqb-true, not-false}
 use Rattle.doubles.specs.F64.{nat}
-use Rattle.checks.specs.First.{Check, refuse, first, Checked, unless_named, same, before}
+use Rattle.checks.specs.First.{Check, refuse, first, Checked, same, before}
 use Rattle.checks.proofs.First.{and_then, first_append, sound_append, sound_cons}
 use Rattle.checks.proofs.Numbers.{before_append, before_number}
 use Rattle.general_operator.specs.Csr.{Csr, csr, row_sum_norm}
@@ -32,6 +32,7 @@ use Rattle.answers.specs.Told.{options}
 use Rattle.exports_paused.proofs.Slices.{fitting}
 use Rattle.exports_paused.specs.Told.{fits, run_of, no_run, ran, told, state, start_state, step_state, state_checks, start_told, step_told, tolerance}
 use Rattle.byte_arrays.proofs.Parts.{Part, Columns}
+use Rattle.byte_arrays.proofs.Alike.{alike_before}
 use Rattle.byte_arrays.proofs.Cuts.{Recut, retold, Uncut, job_cut}
 use Rattle.byte_arrays.proofs.Forward.{forward_refuses}
 use Rattle.paused_byte_calls.specs.Inner.{job, called_run}
@@ -71,12 +72,6 @@ step_on s field t j output memory = ap (λ (l : List Check). refuse RunEnded (ov
 behind_27 : (s : PausedRun) (field : ℕ) (t : Tolerance) (j : Job) (output memory : List Float) → (let l = behind_matrix s field t j output memory ++ field_checks field (rows j + degree j) in (before SubstepLimit l ≡ l) × (before LengthsRejected l ≡ l) × (before NoInnerPlan l ≡ l))
 unfolding before vector_checks_by count_checks time_checks length_checks finite_checks option_checks run_checks magnitude_checks argument_checks memory_checks field_checks other_checks
 behind_27 s field t j output memory = (refl, refl, refl)
-
--- two reasons of one number take the same checks away
-alike_before : (j k : Reason) → number j ≡ number k → (cs : List Check) → before j cs ≡ before k cs
-unfolding before
-alike_before j k e [] = refl
-alike_before j k e (c ∷ cs) = λ i. unless_named (eqb (number c.reason) (e i)) c (alike_before j k e cs i)
 
 other : (k : Reason) (b : Bool) (g l : List Check) {j : Reason} {x : Float} → same RunEnded k ≡ false → before k g ≡ g → before k l ≡ l → Refused j x ≡ first (refuse RunEnded b nan ∷ (g ++ l)) → number j ≡ number k → ⊥
 unfolding before
