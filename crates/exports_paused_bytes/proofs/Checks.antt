@@ -75,7 +75,7 @@ behind_27 s field t j output memory = (refl, refl, refl)
 
 other : (k : Reason) (b : Bool) (g l : List Check) {j : Reason} {x : Float} → same RunEnded k ≡ false → before k g ≡ g → before k l ≡ l → Refused j x ≡ first (refuse RunEnded b nan ∷ (g ++ l)) → number j ≡ number k → ⊥
 unfolding before
-other k b g l {j} e eg el f n = before_number j (refuse RunEnded b nan ∷ (g ++ l)) (f ∙ ap first (sym (alike_before j k n _ ∙ none))) refl
+other k b g l {j} e eg el f n = before_number j (refuse RunEnded b nan ∷ (g ++ l)) (f ∙ ap first (sym (alike_before j k n (refuse RunEnded b nan ∷ (g ++ l)) ∙ none))) refl
   where
     none : before k (refuse RunEnded b nan ∷ (g ++ l)) ≡ refuse RunEnded b nan ∷ (g ++ l)
     none = rw e (ap (λ (r : List Check). refuse RunEnded b nan ∷ r) (before_append k g l eg ∙ ap (λ (r : List Check). g ++ r) el))
