@@ -17,27 +17,27 @@ use Rattle.ambient_turns.specs.Ambient.{Progress, Ended, ended, record_step, beg
 use Rattle.stages_claims.proofs.Walks.{next, walk_next, stays, EndedAt, ended_at}
 use Rattle.ambient_claims.specs.Ran.{record_need, Run, Complete, NanAt, RefusedAt}
 use Rattle.ambient_claims.proofs.Reached.{stands, call, temperature, checked, RanTo, Outcome, refused, nan, result, outcome, refused_step, nan_step, reached, standing, back}
-use Rattle.checks.specs.Reasons.{Sound, Refused}
+use Rattle.checks.specs.Reasons.{refusal, Sound, Refused}
 use Rattle.checks.specs.declared.Reason.{Reason}
 
 -- ---- answers told apart
 named : AmbientAnswer → ℕ
-named (Refused k x i) = 0
+named (Refusal e i) = 0
 named (NotANumber i) = 1
 named Logged = 2
 
 pub number_in : AmbientAnswer → ℕ
-number_in (Refused k x i) = i
+number_in (Refusal e i) = i
 number_in (NotANumber i) = i
 number_in Logged = 0
 
-pub refusal_is : {k k' : ℕ} {x x' : Float} {i i' : ℕ} → Refused k x i ≡ Refused k' x' i' → (k ≡ k') × (x ≡ x')
+pub refusal_is : {k k' : ℕ} {x x' : Float} {i i' : ℕ} → Refusal (refusal k x) i ≡ Refusal (refusal k' x') i' → (k ≡ k') × (x ≡ x')
 refusal_is e = (number e, double e)
   where
-    number : {k k' : ℕ} {x x' : Float} {i i' : ℕ} → Refused k x i ≡ Refused k' x' i' → k ≡ k'
+    number : {k k' : ℕ} {x x' : Float} {i i' : ℕ} → Refusal (refusal k x) i ≡ Refusal (refusal k' x') i' → k ≡ k'
     number a = cc
 
-    double : {k k' : ℕ} {x x' : Float} {i i' : ℕ} → Refused k x i ≡ Refused k' x' i' → x ≡ x'
+    double : {k k' : ℕ} {x x' : Float} {i i' : ℕ} → Refusal (refusal k x) i ≡ Refusal (refusal k' x') i' → x ≡ x'
     double a = cc
 
 module _ (g : Generator) (log : Log) (start load : List Float) (W node : ℕ) (output memory : List Float) (r : Results) where
@@ -61,7 +61,7 @@ module _ (g : Generator) (log : Log) (start load : List Float) (W node : ℕ) (o
         → concluded (stand K) ≡ ended (NotANumber (i + 1)) (call g log start load node output memory i p).output (cleared (record_need g) p.memory) p.temperatures
         → End
     at_refusal : (k : Reason) (i : ℕ) (x : Float) (p : Progress) → i < K → RanTo g log start load node output memory i p → checked g log start load node output memory i p ≡ Refused k x
-        → concluded (stand K) ≡ ended (Refused k x (i + 1)) p.output p.memory p.temperatures
+        → concluded (stand K) ≡ ended (Refusal (refusal k x) (i + 1)) p.output p.memory p.temperatures
         → End
 
   differ : {x : Progress} {y : Ended} → ◌≡◌ {A = Turn Progress Ended} (on x) (out y) → zero ≡ 1
@@ -150,11 +150,11 @@ module _ (g : Generator) (log : Log) (start load : List Float) (W node : ℕ) (o
         ∙ (λ j. ended (NotANumber (i + 1)) (sym c.output_is j) (sym c.memory_is j) xs))
 
     -- ---- a refusal
-    pub refused_at : (k : Reason) (x : Float) (j : ℕ) (o m : List Float) → whole.call ≡ ends (Refused k x j) o m → (i : ℕ) × ((xs : List Float) × ((j ≡ i + 1) × (RefusedAt g log start load node output memory i k x o m xs × Leaves (Refused k x j) o m xs)))
+    pub refused_at : (k : Reason) (x : Float) (j : ℕ) (o m : List Float) → whole.call ≡ ends (Refusal (refusal k x) j) o m → (i : ℕ) × ((xs : List Float) × ((j ≡ i + 1) × (RefusedAt g log start load node output memory i k x o m xs × Leaves (Refusal (refusal k x) j) o m xs)))
     unfolding named number_in
     refused_at k x j o m e = go end
       where
-        go : End → (i : ℕ) × ((xs : List Float) × ((j ≡ i + 1) × (RefusedAt g log start load node output memory i k x o m xs × Leaves (Refused k x j) o m xs)))
+        go : End → (i : ℕ) × ((xs : List Float) × ((j ≡ i + 1) × (RefusedAt g log start load node output memory i k x o m xs × Leaves (Refusal (refusal k x) j) o m xs)))
         go (all p h c) = absurd (omega (arith, ap named (answer_of (call_of c e))))
         go (at_nan i p l h u v c) = absurd (omega (arith, ap named (answer_of (call_of c e))))
         go (at_refusal i k' x' p l h u c) =
@@ -162,9 +162,9 @@ module _ (g : Generator) (log : Log) (start load : List Float) (W node : ℕ) (o
             let q = refusal_is (answer_of f) in
             (i, (p.temperatures, (sym (ap number_in (answer_of f)), (record { reached = l; field = p.field; out = p.output; lent = p.memory; ran = h; refused = u ∙ (λ y. Refused (q.0 y) (q.1 y)); output_is = output_of f; memory_is = memory_of f }, moved p.temperatures f (leaves c)))))
 
-    pub at_refused_leaves : (k : Reason) (i : ℕ) (x : Float) (o m xs : List Float) → RefusedAt g log start load node output memory i k x o m xs → Leaves (Refused k x (i + 1)) o m xs
+    pub at_refused_leaves : (k : Reason) (i : ℕ) (x : Float) (o m xs : List Float) → RefusedAt g log start load node output memory i k x o m xs → Leaves (Refusal (refusal k x) (i + 1)) o m xs
     at_refused_leaves i k x o m xs c =
         let p = standing g log start load node output memory c.field c.out c.lent xs in
         leaves
         (stopped i p _ c.reached (back g log start load node output memory i c.field c.out c.lent xs c.ran) (refused_step g log start load node output memory i p c.refused)
-        ∙ (λ j. ended (Refused k x (i + 1)) (sym c.output_is j) (sym c.memory_is j) xs))
+        ∙ (λ j. ended (Refusal (refusal k x) (i + 1)) (sym c.output_is j) (sym c.memory_is j) xs))

@@ -19,7 +19,7 @@ use Rattle.ambient_turns.specs.Ambient.{ambient_checks, ended, Results, places_o
 use Rattle.combination.proofs.Cleared.{cleared_less}
 use Rattle.ambient_claims.specs.Ran.{record_need, Ran, NanAt, RefusedAt}
 use Rattle.ambient_claims.proofs.Answers.{whole, refused_at}
-use Rattle.checks.specs.Reasons.{Refused}
+use Rattle.checks.specs.Reasons.{refusal, Refused}
 use Rattle.std.specs.Prelude.{Ok, Err}
 use Rattle.checks.specs.declared.Reason.{Reason}
 
@@ -53,7 +53,7 @@ module _ (g : Generator) (log : Log) (start load : List Float) (W node : ℕ) (o
   left = whole g log start load W node output memory r
 
   abbrev untouched_by : ℕ → Float → ℕ → Logging
-  untouched_by k x j = record { call = ends (Refused k x j) output memory; results = r }
+  untouched_by k x j = record { call = ends (Refusal (refusal k x) j) output memory; results = r }
 
   none_written : (a : AmbientAnswer) → written W r (ended a output memory []) ≡ record { call = ends a output memory; results = r }
   unfolding written tabulate
@@ -64,11 +64,11 @@ module _ (g : Generator) (log : Log) (start load : List Float) (W node : ℕ) (o
   unfolding ambient unless_log_refused
   by_checks e = rw e refl
 
-  pub untouched : (k : Reason) (x : Float) (j : ℕ) → left.call.answer ≡ Refused k x j → j ≤ 1 → left ≡ untouched_by k x j
+  pub untouched : (k : Reason) (x : Float) (j : ℕ) → left.call.answer ≡ Refusal (refusal k x) j → j ≤ 1 → left ≡ untouched_by k x j
   unfolding Ran
   untouched k x j e l = go (first (ambient_checks g log start load W node (length output) (places_of r))) refl
     where
-      refusal_all : {k k' : ℕ} {x x' : Float} {i i' : ℕ} → Refused k x i ≡ Refused k' x' i' → untouched_by k x i ≡ untouched_by k' x' i'
+      refusal_all : {k k' : ℕ} {x x' : Float} {i i' : ℕ} → Refusal (refusal k x) i ≡ Refusal (refusal k' x') i' → untouched_by k x i ≡ untouched_by k' x' i'
       refusal_all e = ap (λ (a : AmbientAnswer). record { call = ends a output memory; results = r }) e
 
       go : (c : Checked) → first (ambient_checks g log start load W node (length output) (places_of r)) ≡ c → left ≡ untouched_by k x j
@@ -77,6 +77,6 @@ module _ (g : Generator) (log : Log) (start load : List Float) (W node : ℕ) (o
           let R = refused_at g log start load W node output memory r (sym h) k x j left.call.output left.call.memory (λ i. ends (e i) left.call.output left.call.memory) in
           reach R.0 R.1.0 R.1.1.0 R.1.1.1.0 R.1.1.1.1
         where
-          reach : (i : ℕ) (xs : List Float) → j ≡ i + 1 → RefusedAt g log start load node output memory i k x left.call.output left.call.memory xs → left ≡ written W r (ended (Refused k x j) left.call.output left.call.memory xs) → left ≡ untouched_by k x j
-          reach zero xs n c h = h ∙ (λ i. written W r (ended (Refused k x j) ((c.output_is ∙ c.ran.1) i) ((c.memory_is ∙ c.ran.2) i) (c.ran.3 i))) ∙ none_written (Refused k x j)
+          reach : (i : ℕ) (xs : List Float) → j ≡ i + 1 → RefusedAt g log start load node output memory i k x left.call.output left.call.memory xs → left ≡ written W r (ended (Refusal (refusal k x) j) left.call.output left.call.memory xs) → left ≡ untouched_by k x j
+          reach zero xs n c h = h ∙ (λ i. written W r (ended (Refusal (refusal k x) j) ((c.output_is ∙ c.ran.1) i) ((c.memory_is ∙ c.ran.2) i) (c.ran.3 i))) ∙ none_written (Refusal (refusal k x) j)
           reach (suc i) xs n c h = absurd (omega (arith, n, l))

@@ -33,9 +33,9 @@ use Rattle.ambient_turns.specs.Ambient.{ambient_checks, Results, places_of, Logg
 use Rattle.ambient_claims.specs.Ran.{record_need, Ran, RefusedAt}
 use Rattle.ambient_claims.proofs.Answers.{whole, refused_at, at_refused_leaves, refusal_is}
 use Rattle.ambient_claims.proofs.Memory.{room_ran}
-use Rattle.checks.specs.Reasons.{Sound, Refused}
+use Rattle.checks.specs.Reasons.{refusal, Sound, Refused}
 use Rattle.std.specs.Prelude.{Ok, Err}
-use Rattle.checks.specs.declared.Reason.TheVariants.{WorkLength, WindowOrNode, RecordCount, ResultsLength}
+use Rattle.checks.specs.declared.Reason.TheVariants.{NormRange, WorkLength, WindowOrNode, RecordCount, ResultsLength}
 use Rattle.checks.specs.declared.Reason.{Reason}
 
 -- ---- 38 to 40 pass where W, the node, the records and the slices are as document 02 wants them, and (`ambient_checks/proofs/Checks: log_known`) nowhere else
@@ -57,12 +57,12 @@ module _ (g : Generator) (log : Log) (start load : List Float) (W node : ℕ) (o
   abbrev early : List Check
   early = ambient_checks g log start load W node (length output) (places_of r)
 
-  refused_early : {k : Reason} {x : Float} → first early ≡ Refused k x → left.call.answer ≡ Refused k x 0
+  refused_early : {k : Reason} {x : Float} → first early ≡ Refused k x → left.call.answer ≡ Refusal (refusal k x) 0
   unfolding ambient unless_log_refused
   refused_early e = rw e refl
 
   -- a refusal is by those checks or by a record's
-  module _ (k : Reason) (x : Float) (j : ℕ) (e : left.call.answer ≡ Refused k x j) (A : Type 0) (by_early : first early ≡ Refused k x → A) (by_record : (i : ℕ) (o m xs : List Float) → Sound ≡ first early → j ≡ i + 1 → RefusedAt g log start load node output memory i k x o m xs → A) where
+  module _ (k : Reason) (x : Float) (j : ℕ) (e : left.call.answer ≡ Refusal (refusal k x) j) (A : Type 0) (by_early : first early ≡ Refused k x → A) (by_record : (i : ℕ) (o m xs : List Float) → Sound ≡ first early → j ≡ i + 1 → RefusedAt g log start load node output memory i k x o m xs → A) where
     by_either : A
     by_either = go (first early) refl
       where
@@ -73,15 +73,15 @@ module _ (g : Generator) (log : Log) (start load : List Float) (W node : ℕ) (o
             by_record R.0 _ _ R.1.0 (sym h) R.1.1.0 R.1.1.1.0
 
   -- ---- 23
-  early_no_23 : before 23 g.checks ≡ g.checks → before 23 early ≡ early
+  early_no_23 : before NormRange g.checks ≡ g.checks → before NormRange early ≡ early
   unfolding before ambient_checks field_checks log_checks length_checks finite_checks
-  early_no_23 h = before_append 23 g.checks _ h
+  early_no_23 h = before_append NormRange g.checks _ h
 
-  pub never_23 : InRange g → (x : Float) (j : ℕ) → left.call.answer ≡ Refused 23 x j → ⊥
+  pub never_23 : InRange g → (x : Float) (j : ℕ) → left.call.answer ≡ Refusal (refusal NormRange x) j → ⊥
   never_23 h x j e =
       by_either 23 x j e ⊥
-      (λ f. not_by 23 early (early_no_23 h.unnumbered) (sym f))
-      (λ i o m xs s n c. not_by 23 _ (combination_no_number g h _ 30 2 _ _ _) (sym c.refused))
+      (λ f. not_by NormRange early (early_no_23 h.unnumbered) (sym f))
+      (λ i o m xs s n c. not_by NormRange _ (combination_no_number g h _ 30 2 _ _ _) (sym c.refused))
 
   -- ---- 26: at record 1 alone, where all other checks of it pass
   module _ (plain : before WorkLength g.checks ≡ g.checks) where
@@ -124,7 +124,7 @@ module _ (g : Generator) (log : Log) (start load : List Float) (W node : ℕ) (o
       pub one : j ≡ 1
       pub no_double : x ≡ nan
 
-    pub short_only : (x : Float) (j : ℕ) → left.call.answer ≡ Refused WorkLength x j → Short x j
+    pub short_only : (x : Float) (j : ℕ) → left.call.answer ≡ Refusal (refusal WorkLength x) j → Short x j
     unfolding Ran
     short_only x j e = by_either 26 x j e (Short x j) (λ f. absurd (not_by WorkLength early early_no_26 (sym f))) by_record
       where
@@ -137,12 +137,12 @@ module _ (g : Generator) (log : Log) (start load : List Float) (W node : ℕ) (o
             let q = only_26 _ _ _ _ c.refused in
             absurd (omega (arith, short_known (length c.lent) q.1.0, room_ran g log start load node output memory i c.field c.out c.lent xs c.ran))
 
-    pub short_refused : (x : Float) (j : ℕ) → Short x j → left.call.answer ≡ Refused WorkLength x j
+    pub short_refused : (x : Float) (j : ℕ) → Short x j → left.call.answer ≡ Refusal (refusal WorkLength x) j
     unfolding Ran written ambient_checks
     short_refused x j h =
         let some = (log_known g.matrix.n log W node (places_of r) (sound_append (field_checks g.matrix.n start load (length output)) _ (sound_append g.checks _ h.logged).1).1).some in
         let c : RefusedAt g log start load node output memory 0 26 nan output memory [] = record { reached = omega (arith, some); field = start; out = output; lent = memory; ran = (refl, refl, refl, refl); refused = if_26 _ _ _ _ h.others (short_told (length memory) h.short); output_is = refl; memory_is = refl } in
-        ap (λ (l : Logging). l.call.answer) (at_refused_leaves g log start load W node output memory r h.logged 0 26 nan output memory [] c) ∙ (λ i. Refused WorkLength (sym h.no_double i) (sym h.one i))
+        ap (λ (l : Logging). l.call.answer) (at_refused_leaves g log start load W node output memory r h.logged 0 26 nan output memory [] c) ∙ (λ i. Refusal (refusal WorkLength (sym h.no_double i)) (sym h.one i))
 
 -- ---- of a matrix and a mass: no check is numbered 26, and a mass adds its entries to what is needed
 pub forward_no_26 : (a : Csr) (mass : Mass) → before WorkLength (generator_checks a mass) ≡ generator_checks a mass

@@ -21,7 +21,7 @@ use Rattle.ambient_record.specs.Record.{record_call}
 use Rattle.stages_claims.proofs.Walks.{next, walk_next}
 use Rattle.ambient_claims.specs.Ran.{Gave, record_need, vectors_at, call_at, Run, Next, Ran}
 use Rattle.ambient_claims.proofs.Single.{Passed, refused_record, passed_record, ran_sound}
-use Rattle.checks.specs.Reasons.{Sound, Refused}
+use Rattle.checks.specs.Reasons.{refusal, Sound, Refused}
 use Rattle.std.specs.Prelude.{Ok, Err}
 use Rattle.checks.specs.declared.Reason.{Reason}
 
@@ -43,7 +43,7 @@ module _ (g : Generator) (log : Log) (start load : List Float) (node : ℕ) (out
 
   -- ---- what record i + 1 comes to
   pub data Outcome (i : ℕ) (p : Progress) : Type 0 where
-    refused : (k : Reason) (x : Float) → checked i p ≡ Refused k x → record_step g log load node i p ≡ out (ended (Refused k x (i + 1)) p.output p.memory p.temperatures) → Outcome i p
+    refused : (k : Reason) (x : Float) → checked i p ≡ Refused k x → record_step g log load node i p ≡ out (ended (Refusal (refusal k x) (i + 1)) p.output p.memory p.temperatures) → Outcome i p
     nan : Run g log start load node output memory i p.field p.output p.memory → is_nan (temperature i p) ≡ true
         → record_step g log load node i p ≡ out (ended (NotANumber (i + 1)) (call i p).output (cleared (record_need g) p.memory) p.temperatures)
         → Outcome i p
@@ -90,7 +90,7 @@ module _ (g : Generator) (log : Log) (start load : List Float) (node : ℕ) (out
   true_not e = cc
 
   module _ (i : ℕ) (p : Progress) where
-    pub refused_step : {k : Reason} {x : Float} → checked i p ≡ Refused k x → record_step g log load node i p ≡ out (ended (Refused k x (i + 1)) p.output p.memory p.temperatures)
+    pub refused_step : {k : Reason} {x : Float} → checked i p ≡ Refused k x → record_step g log load node i p ≡ out (ended (Refusal (refusal k x) (i + 1)) p.output p.memory p.temperatures)
     unfolding settle
     refused_step e = settled_by i p (refused_record g (at log.durations i) (at log.levels i) p.field load p.output p.memory e)
 

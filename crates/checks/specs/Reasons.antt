@@ -1,7 +1,7 @@
 -- Why a job is refused: each reason's number (document 01, 'Refusals'; document 02). Definitions only.
 use Rattle.std.specs.Prelude.{ℕ, Result, Ok, Err, Float}
 use Rattle.checks.specs.declared.Reason.{Reason}
-use Rattle.checks.specs.declared.Reason.TheVariants.{RowStartsLength, EntryCount, MatrixTooLarge, RowStartsFall, ColumnRange, EntryNotFinite, MassLength, MassRange, FirstRowStart, RowSumNotFinite, NormNotFinite, VectorCount, IndexRange, TauRange, OutputLength, VectorLength, VectorNotFinite, TolRange, NoSubsteps, OptionTooLarge, MagnitudeNotFinite, GainNotFinite, ArgumentNotFinite, NoAdmissibleRow, WorkLength, SubstepLimit, LengthsRejected, NoInnerPlan, TransposedLength, RunEnded, UnitFull, DegreeRange, JoinRows, JoinColumnOrder, JoinLength, StageCount, WindowOrNode, RecordCount, ResultsLength}
+use Rattle.checks.specs.declared.Reason.TheVariants.{RowStartsLength, EntryCount, MatrixTooLarge, RowStartsFall, ColumnRange, EntryNotFinite, MassLength, MassRange, FirstRowStart, RowSumNotFinite, NormNotFinite, VectorCount, IndexRange, TauRange, OutputLength, VectorLength, VectorNotFinite, TolRange, NoSubsteps, OptionTooLarge, MagnitudeNotFinite, GainNotFinite, NormRange, ArgumentNotFinite, NoAdmissibleRow, WorkLength, SubstepLimit, LengthsRejected, NoInnerPlan, TransposedLength, RunEnded, UnitFull, DegreeRange, JoinRows, JoinColumnOrder, JoinLength, StageCount, WindowOrNode, RecordCount, ResultsLength}
 use Rattle.checks.specs.declared.Refusal.{Refusal}
 
 abbrev pub number : Reason → ℕ
@@ -27,6 +27,7 @@ number NoSubsteps = 19
 number OptionTooLarge = 20
 number MagnitudeNotFinite = 21
 number GainNotFinite = 22
+number NormRange = 23
 number ArgumentNotFinite = 24
 number NoAdmissibleRow = 25
 number WorkLength = 26

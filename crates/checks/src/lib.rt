@@ -4,7 +4,8 @@
 ghost use Rattle.std.specs.Prelude.{◌≡◌};
 ghost use Rattle.checks.specs.Reasons.{number};
 
-// Why a job is refused, in the order in which the checks are met. The number is what callers in other languages are given; 23 is not used.
+// Why a job is refused, in the order in which the checks are met. The number is what callers in other languages are given;
+// 23 is the Rust's, and is never met (demand_3/proofs/Never23).
 #[derive(Clone, Copy, Debug, PartialEq, Eq)]
 pub enum Reason {
     RowStartsLength = 1,
@@ -29,6 +30,7 @@ pub enum Reason {
     OptionTooLarge = 20,
     MagnitudeNotFinite = 21,
     GainNotFinite = 22,
+    NormRange = 23,
     ArgumentNotFinite = 24,
     NoAdmissibleRow = 25,
     WorkLength = 26,

@@ -16,7 +16,7 @@ use Rattle.demand_3.specs.Taylor.{Rows}
 use borrow.Author.Tests.{eqb-false}
 use Rattle.checks.specs.First.{Check, first, before}
 use Rattle.checks.specs.First.{Checked}
-use Rattle.checks.proofs.First.{unless, first_cons, sound_cons, sound_append}
+use Rattle.checks.proofs.First.{err_is, ok_is, same_reason, unless, first_cons, sound_cons, sound_append}
 use Rattle.checks.proofs.Numbers.{before_append, not_by, refused_past}
 use Rattle.general_operator.specs.Csr.{Csr, row_sum_norm}
 use Rattle.general_operator.specs.Checks.{shape_checks, row_checks, entry_checks, matrix_checks}
@@ -44,8 +44,10 @@ use Rattle.demand_3.proofs.Never23.{transposed_in_range}
 use Rattle.demand_3.proofs.Taylor.{fits_is, combination_claim, action_claim, batch_claim}
 use Rattle.checks.specs.Reasons.{Sound, Refused}
 use Rattle.std.specs.Prelude.{Ok, Err}
-use Rattle.checks.specs.declared.Reason.TheVariants.{VectorNotFinite, NoAdmissibleRow, WorkLength, SubstepLimit, DegreeRange}
 use Rattle.checks.specs.declared.Reason.{Reason}
+use Rattle.checks.specs.declared.Reason.TheVariants.{VectorNotFinite, NoAdmissibleRow, WorkLength, SubstepLimit, DegreeRange}
+use Rattle.checks.specs.Reasons.{number as numbered}
+use Rattle.checks.specs.declared.Refusal.{Refusal}
 
 -- ---- a Krylov call
 module _
@@ -101,8 +103,8 @@ module _
   unfolding unless_refused after_run
   accepted (Ok _) (finished s) need f = (refl, (s, (refl, same f, refl)))
     where
-      same : {x y : KrylovPhiReport} → Ok x ≡ Ok y → x ≡ y
-      same g = cc
+      same : {x y : KrylovPhiReport} → ◌≡◌ {A = KrylovAnswer} (Ok x) (Ok y) → x ≡ y
+      same g = ok_is g
   accepted (Ok _) (refused k x s) need f = let z : zero ≡ 1 = cc in absurd (omega (arith, z))
   accepted (Err r) e need f = let z : zero ≡ 1 = cc in absurd (omega (arith, z))
 
@@ -120,17 +122,14 @@ module _
 
   -- ---- 27 is not of the checks
   refused_run : (c : Checked) (e : End) (need : ℕ) {x : Float} → c ≡ first checks → (unless_refused Refused c output memory (after_run n need memory e)).answer ≡ Refused SubstepLimit x
-      → (Sound ≡ c) × ((s : State) × (e ≡ refused 27 x s))
+      → (Sound ≡ c) × ((s : State) × (e ≡ refused SubstepLimit x s))
   unfolding unless_refused after_run
   refused_run (Ok _) (finished s) need d f = let z : zero ≡ 1 = cc in absurd (omega (arith, z))
   refused_run (Ok _) (refused k y s) need d f = (refl, (s, same f))
     where
-      same : {i j : Reason} {x y : Float} → Refused i x ≡ Refused j y → refused i x s ≡ refused j y s
-      same g = cc
-  refused_run (Err r) e need {x} d f = let n : r.reason ≡ 27 = number f in absurd (not_by SubstepLimit checks low (subst (λ (i : Reason). Refused i r.value ≡ first checks) n d))
-    where
-      number : {i j : Reason} {x y : Float} → Refused i x ≡ Refused j y → i ≡ j
-      number g = cc
+      same : {i j : Reason} {x y : Float} → Refused {A = KrylovPhiReport} i x ≡ Refused j y → refused i x s ≡ refused j y s
+      same g = ap (λ (e : Refusal). refused e.reason e.value s) (err_is g)
+  refused_run (Err r) e need {x} d f = let n : r.reason ≡ SubstepLimit = same_reason f in absurd (not_by SubstepLimit checks low (subst (λ (i : Reason). Refused i r.value ≡ first checks) n d))
 
   only_27 : (x : Float) → call.answer ≡ Refused SubstepLimit x → AtLimit checks o.max_substeps (krylov_run g tau count w o) x
   unfolding combination_run_krylov phi_combination_krylov norm2
@@ -153,8 +152,8 @@ module _
   unfolding memory_checks first
   not_of_memory {x} e = go (ltb (length memory) (krylov_need n (count - 1) M g.stored)) (e ∙ first_cons WorkLength (ltb (length memory) (krylov_need n (count - 1) M g.stored)) nan [])
     where
-      go : (b : Bool) → Refused NoAdmissibleRow x ≡ unless b 26 nan Sound → ⊥
-      go true e = let n : ◌≡◌ {A = ℕ} 25 26 = cc in absurd (omega (arith, n))
+      go : (b : Bool) → Refused NoAdmissibleRow x ≡ unless b WorkLength nan Sound → ⊥
+      go true e = let n : 25 ≡ 26 = ap numbered (same_reason e) in absurd (omega (arith, n))
       go false e = let z : zero ≡ 1 = cc in absurd (omega (arith, z))
 
   low_vectors : before NoAdmissibleRow (vector_checks n (time_checks tau) count w (length output)) ≡ vector_checks n (time_checks tau) count w (length output)
@@ -185,27 +184,24 @@ module _
   low_33 = before_append DegreeRange g.checks _ none_33
 
   -- no run refuses by j, and no check does
-  refused_by_none : (j : Reason) → ((x : Float) → Refused j x ≡ first checks → ⊥) → ((k : ℕ) → 26 < k → k < 30 → k ≡ j → ⊥) → (c : Checked) (e : End) (need : ℕ) {x : Float} → c ≡ first checks
-      → ((r : ℕ) (z : Float) (s : State) → e ≡ refused r z s → (26 < r) × (r < 30))
+  refused_by_none : (j : Reason) → ((x : Float) → Refused j x ≡ first checks → ⊥) → ((k : Reason) → 26 < numbered k → numbered k < 30 → k ≡ j → ⊥) → (c : Checked) (e : End) (need : ℕ) {x : Float} → c ≡ first checks
+      → ((r : Reason) (z : Float) (s : State) → e ≡ refused r z s → (26 < numbered r) × (numbered r < 30))
       → (unless_refused Refused c output memory (after_run n need memory e)).answer ≡ Refused j x → ⊥
   unfolding unless_refused after_run
   refused_by_none j h other (Ok _) (finished s) need d late f = let z : zero ≡ 1 = cc in absurd (omega (arith, z))
-  refused_by_none j h other (Ok _) (refused k y s) need d late f = other k (late _ _ _ refl).0 (late _ _ _ refl).1 (number f)
-    where
-      number : {i j : Reason} {x y : Float} → Refused i x ≡ Refused j y → i ≡ j
-      number g = cc
+  refused_by_none j h other (Ok _) (refused k y s) need d late f = other k (late _ _ _ refl).0 (late _ _ _ refl).1 (same_reason f)
   refused_by_none j h other (Err r) e need {x} d late f = h x (same f ∙ d)
     where
-      same : {i j : Reason} {x y : Float} → Refused i x ≡ Refused j y → Refused j y ≡ Refused i x
-      same g = cc
+      same : {i j : Reason} {x y : Float} → Refused {A = KrylovPhiReport} i x ≡ Refused j y → Refused {A = Unit} j y ≡ Refused i x
+      same g = ap Err (sym (err_is g))
 
   pub krylov_no_25 : (x : Float) → call.answer ≡ Refused NoAdmissibleRow x → ⊥
   unfolding combination_run_krylov phi_combination_krylov
-  krylov_no_25 x e = refused_by_none 25 (λ y. checks_25) (λ k l m n. absurd (omega (arith, l, n))) (first checks) _ _ refl (λ r z s. expv_late _ tau _ o.tol o.m o.max_substeps (start_of g tau count w)) e
+  krylov_no_25 x e = refused_by_none NoAdmissibleRow (λ y. checks_25) (λ k l m n. absurd (omega (arith, l, ap numbered n))) (first checks) _ _ refl (λ r z s. expv_late _ tau _ o.tol o.m o.max_substeps (start_of g tau count w)) e
 
   pub krylov_no_33 : (x : Float) → call.answer ≡ Refused DegreeRange x → ⊥
   unfolding combination_run_krylov phi_combination_krylov
-  krylov_no_33 x e = refused_by_none 33 (λ y. not_by DegreeRange checks low_33) (λ k l m n. absurd (omega (arith, m, n))) (first checks) _ _ refl (λ r z s. expv_late _ tau _ o.tol o.m o.max_substeps (start_of g tau count w)) e
+  krylov_no_33 x e = refused_by_none DegreeRange (λ y. not_by DegreeRange checks low_33) (λ k l m n. absurd (omega (arith, m, ap numbered n))) (first checks) _ _ refl (λ r z s. expv_late _ tau _ o.tol o.m o.max_substeps (start_of g tau count w)) e
 
   pub zeros_idle : Sound ≡ first checks → Zeros (start_of g tau count w) → call.answer ≡ Ok (record { matvecs = 0; substeps = 0; rejected = 0; est_error = +0; shortest = +0; last = +0 })
   unfolding combination_run_krylov phi_combination_krylov unless_refused after_run idle

@@ -17,7 +17,7 @@ use Rattle.doubles.proofs.Finite.{holds}
 use Rattle.doubles.proofs.Total.{le_number_left, ⋖_not, ⩽_or_⋖}
 use Rattle.doubles.proofs.Monotone.{finite_number, mul_number, add_nonneg, mul_nonneg}
 use Rattle.checks.specs.First.{Check, refuse, first, before}
-use Rattle.checks.proofs.First.{unless, first_cons, sound_cons, sound_append, sound_on, stops, passes}
+use Rattle.checks.proofs.First.{err_is, ok_is, same_reason, unless, first_cons, sound_cons, sound_append, sound_on, stops, passes}
 use Rattle.checks.proofs.Numbers.{before_append, not_by, refused_past, refused_here, only_by, if_by}
 use Rattle.checks.specs.First.{Checked}
 use Rattle.general_operator.specs.Csr.{Csr, row_sum_norm}
@@ -46,11 +46,11 @@ use Rattle.demand_3.specs.Demand3.{start_of, operator_of, action_start, action_o
 use Rattle.demand_3.proofs.Products.{Made, one_made, batch_made}
 use Rattle.checks.specs.Reasons.{Sound, Refused}
 use Rattle.std.specs.Prelude.{Ok, Err}
-use Rattle.checks.specs.declared.Reason.TheVariants.{VectorNotFinite, ArgumentNotFinite, NoAdmissibleRow, WorkLength, SubstepLimit, DegreeRange}
 use Rattle.checks.specs.declared.Reason.{Reason}
+use Rattle.checks.specs.declared.Reason.TheVariants.{VectorNotFinite, ArgumentNotFinite, NoAdmissibleRow, WorkLength, SubstepLimit, DegreeRange}
 
-reported : {a b : TaylorReport} → Ok a ≡ Ok b → a ≡ b
-reported e = cc
+reported : {a b : TaylorReport} → ◌≡◌ {A = TaylorAnswer} (Ok a) (Ok b) → a ≡ b
+reported e = ok_is e
 
 -- an accepted answer, and its output, are those of a job whose checks all passed
 accepted : (x : Checked) (output memory : List Float) (end : Call TaylorAnswer) {r : TaylorReport} → (unless_refused Refused x output memory end).answer ≡ Ok r
@@ -208,8 +208,8 @@ module _ (gs xs ys : List Check) (tau : Float) (cap : ℕ) (norm : Float) (memor
       refusal_of (Ok _) e f = absurd (has_run _ (has_plan tau cap q norm (planned e)) f)
       refusal_of (Err r) {j} {x} e f = same f ∙ e
         where
-          same : {i j : Reason} {x y : Float} → Refused i x ≡ Refused j y → Refused j y ≡ Refused i x
-          same g = cc
+          same : {i j : Reason} {x y : Float} → Refused {A = TaylorReport} i x ≡ Refused j y → Refused {A = Unit} j y ≡ Refused i x
+          same g = ap Err (sym (err_is g))
 
       refuses : {x : Float} → NoRowFits in_order tau cap norm x → (call (first in_order)).answer ≡ Refused NoAdmissibleRow x
       unfolding unless_refused
@@ -227,12 +227,9 @@ module _ (gs xs ys : List Check) (tau : Float) (cap : ℕ) (norm : Float) (memor
       unfolding unless_refused
       never_27 cs e low x f = go (first cs) refl f
         where
-          number : {i j : Reason} {x y : Float} → Refused i x ≡ Refused j y → i ≡ j
-          number g = cc
-
           go : (c : Checked) → c ≡ first cs → (call c).answer ≡ Refused SubstepLimit x → ⊥
           go (Ok _) d f = absurd (has_run _ (has_plan tau cap q norm (planned (d ∙ ap first e))) f)
-          go (Err r) d f = let n : r.reason ≡ 27 = number f in not_by SubstepLimit cs low (subst (λ (i : Reason). Refused i r.value ≡ first cs) n d)
+          go (Err r) d f = let n : r.reason ≡ SubstepLimit = same_reason f in not_by SubstepLimit cs low (subst (λ (i : Reason). Refused i r.value ≡ first cs) n d)
 
 -- ---- 33 and 17
 -- what a call answers is what its list does

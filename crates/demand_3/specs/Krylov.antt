@@ -16,7 +16,8 @@ use Rattle.krylov_advance.specs.declared.KrylovPhiReport.{KrylovPhiReport}
 use Rattle.krylov_job.specs.KrylovCall.{KrylovAnswer}
 use Rattle.demand_3.specs.Trace.{Accepted, Attempt, total, Run, last_after, accepted_by, tried_by, time_of, field_of, left_by, estimate_of, relative}
 use Rattle.checks.specs.Reasons.{Sound, Refused}
-use Rattle.checks.specs.declared.Reason.TheVariants.{SubstepLimit}
+use Rattle.checks.specs.declared.Reason.TheVariants.{SubstepLimit, LengthsRejected, NoInnerPlan}
+use Rattle.checks.specs.declared.Reason.{Reason}
 
 -- the norm meant: the rounded Euclidean one of all values
 abbrev pub euclidean : List Float → Float
@@ -123,9 +124,9 @@ pub record Finished (u : Run) : Type 0 where
   pub reached : (eq (euclidean (field_of u)) +0 ≡ true) ⊎ (time_of u ≡ 1f)
 
 -- a substep that is not accepted ended it by k: 28 with its eleventh rejection, or 29
-pub record Failed (u : Run) (k : ℕ) : Type 0 where
-  pub number : (k ≡ 28) ⊎ (k ≡ 29)
-  pub eleven : k ≡ 28 → length (tried_by u) ≡ total (λ a. length a.tried) (accepted_by u) + 11
+pub record Failed (u : Run) (k : Reason) : Type 0 where
+  pub number : (k ≡ LengthsRejected) ⊎ (k ≡ NoInnerPlan)
+  pub eleven : k ≡ LengthsRejected → length (tried_by u) ≡ total (λ a. length a.tried) (accepted_by u) + 11
   pub fewer : length (accepted_by u) < length u.settings
   pub below_one : T (time_of u ⋖ 1f)
   pub norm_left : 0 < length (accepted_by u) → eq (euclidean (field_of u)) +0 ≡ false

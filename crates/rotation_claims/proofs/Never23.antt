@@ -22,24 +22,25 @@ use Rattle.rotation_claims.proofs.Numbers.{none_23, step_none_23, step_number}
 use Rattle.rotation_claims.proofs.Admission.{same_refused, any_unit}
 use Rattle.checks.specs.Reasons.{Refused}
 use Rattle.paused_run.specs.Paused.{StepRefused}
+use Rattle.checks.specs.declared.Reason.TheVariants.{NormRange}
 
 module _ (u : Rotation) where
-  starts : (c : Coming) → before 23 c.j.g.checks ≡ c.j.g.checks → (x : Float) → (start_of c).answer ≡ Refused 23 x → ⊥
+  starts : (c : Coming) → before NormRange c.j.g.checks ≡ c.j.g.checks → (x : Float) → (start_of c).answer ≡ Refused NormRange x → ⊥
   starts c g x e = elim ((the_start c.o c.j c.output c.memory c.field).only_refused 23 x e) [
-    | inl r ↦ not_by 23 _ (none_23 c.o c.j (length c.output) (length c.memory) g) r
+    | inl r ↦ not_by NormRange _ (none_23 c.o c.j (length c.output) (length c.memory) g) r
     | inr r ↦ (let z = r.2 in absurd (omega (arith, z)))
   ]
 
-  joins : (c : Coming) → before 23 c.j.g.checks ≡ c.j.g.checks → (x : Float) → (join_to u c).call.answer ≡ Refused 23 x → ⊥
+  joins : (c : Coming) → before NormRange c.j.g.checks ≡ c.j.g.checks → (x : Float) → (join_to u c).call.answer ≡ Refused NormRange x → ⊥
   joins c g x e = elim (any_unit u c).else_32 [
     | inl k ↦ starts c g x (sym (ap (λ (r : PausedCall StartAnswer). r.answer) k) ∙ e)
     | inr k ↦ (let z = (same_refused (sym (ap (λ (r : UnitCall StartAnswer). r.call.answer) k) ∙ e)).0 in absurd (omega (arith, z)))
   ]
 
-  turns : (i : Input) (y : List Float) → before 23 i.job.g.checks ≡ i.job.g.checks → (x : Float) (s : PausedRun) → (turn u y i).call.answer ≡ StepRefused 23 x s → ⊥
+  turns : (i : Input) (y : List Float) → before NormRange i.job.g.checks ≡ i.job.g.checks → (x : Float) (s : PausedRun) → (turn u y i).call.answer ≡ StepRefused 23 x s → ⊥
   turns i y g x s e = elim (turn_cases u y i) [
     | inl k ↦
-        step_number (run_at u k.p) y i 23 (λ x r. not_by 23 (step_checks (run_at u k.p) (length y) i) (step_none_23 (run_at u k.p) (length y) i g) r) (λ z. absurd (omega (arith, z))) (λ z. absurd (omega (arith, z))) (λ z. absurd (omega (arith, z))) (λ z. absurd (omega (arith, z))) (ap number_in (sym (ap (λ (r : UnitCall StepAnswer). r.call.answer) k.is) ∙ e))
+        step_number (run_at u k.p) y i 23 (λ x r. not_by NormRange (step_checks (run_at u k.p) (length y) i) (step_none_23 (run_at u k.p) (length y) i g) r) (λ z. absurd (omega (arith, z))) (λ z. absurd (omega (arith, z))) (λ z. absurd (omega (arith, z))) (λ z. absurd (omega (arith, z))) (ap number_in (sym (ap (λ (r : UnitCall StepAnswer). r.call.answer) k.is) ∙ e))
     | inr k ↦ (let z = ap number_in (sym (ap (λ (r : UnitCall StepAnswer). r.call.answer) k.is) ∙ e) in absurd (omega (arith, z)))
   ]
 

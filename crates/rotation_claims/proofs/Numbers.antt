@@ -22,7 +22,7 @@ use Rattle.paused_claims.specs.Alike.{number_in}
 use Rattle.paused_claims.proofs.Standing.{Refuses, substep_refuses}
 use Rattle.checks.specs.Reasons.{number, Refused}
 use Rattle.std.specs.Prelude.{Ok, Err}
-use Rattle.checks.specs.declared.Reason.TheVariants.{SubstepLimit, RunEnded, UnitFull}
+use Rattle.checks.specs.declared.Reason.TheVariants.{NormRange, SubstepLimit, RunEnded, UnitFull}
 use Rattle.checks.specs.declared.Reason.{Reason}
 
 -- two reasons of one number take the same checks away
@@ -44,17 +44,17 @@ module _ (o : KrylovPhiOptions) (j : Job) (output memory : ℕ) where
   unfolding before krylov_checks krylov_checks_by vector_checks_by count_checks time_checks length_checks finite_checks option_checks run_checks magnitude_checks bound_checks memory_checks
   none_32 h = before_append UnitFull j.g.checks _ h
 
-  pub none_23 : before 23 j.g.checks ≡ j.g.checks → before 23 own ≡ own
+  pub none_23 : before NormRange j.g.checks ≡ j.g.checks → before NormRange own ≡ own
   unfolding before krylov_checks krylov_checks_by vector_checks_by count_checks time_checks length_checks finite_checks option_checks run_checks magnitude_checks bound_checks memory_checks
-  none_23 h = before_append 23 j.g.checks _ h
+  none_23 h = before_append NormRange j.g.checks _ h
 
 -- nor of a step's
-pub step_none_23 : (s : PausedRun) (field : ℕ) (i : Input) → before 23 i.job.g.checks ≡ i.job.g.checks → before 23 (step_checks s field i) ≡ step_checks s field i
+pub step_none_23 : (s : PausedRun) (field : ℕ) (i : Input) → before NormRange i.job.g.checks ≡ i.job.g.checks → before NormRange (step_checks s field i) ≡ step_checks s field i
 unfolding before step_checks krylov_checks_by vector_checks_by count_checks time_checks length_checks other_checks finite_checks option_checks run_checks magnitude_checks bound_checks memory_checks field_checks
 step_none_23 s field i h =
     let j = i.job in
     ap (λ (l : List Check). refuse RunEnded (over s) nan ∷ l)
-    (ap (before 23) (append_assoc j.g.checks _ (field_checks field (rows j + degree j))) ∙ before_append 23 j.g.checks _ h ∙ sym (append_assoc j.g.checks _ (field_checks field (rows j + degree j))))
+    (ap (before NormRange) (append_assoc j.g.checks _ (field_checks field (rows j + degree j))) ∙ before_append NormRange j.g.checks _ h ∙ sym (append_assoc j.g.checks _ (field_checks field (rows j + degree j))))
 
 -- 31 is the first alone
 abbrev behind : PausedRun → ℕ → Input → List Check

@@ -11,11 +11,12 @@ use Rattle.rotation_claims.specs.Order.{QueueClaim, SixteenClaim, NextClaim, Fif
 use Rattle.rotation_claims.specs.Admission.{Coming, join_to, AnyUnit, AnyTurn, AdmissionClaim, LeavesClaim, HoldsClaim}
 use Rattle.checks.specs.Reasons.{Refused}
 use Rattle.paused_run.specs.Paused.{StepRefused}
+use Rattle.checks.specs.declared.Reason.TheVariants.{NormRange}
 
 -- N14: no answer is 23, of any unit, over generators none of whose own checks has that number
 pub record Never23 (u : Rotation) : Type 0 where
-  pub joins : (c : Coming) → before 23 c.j.g.checks ≡ c.j.g.checks → (x : Float) → (join_to u c).call.answer ≡ Refused 23 x → ⊥
-  pub turns : (i : Input) (y : List Float) → before 23 i.job.g.checks ≡ i.job.g.checks → (x : Float) (s : PausedRun) → (turn u y i).call.answer ≡ StepRefused 23 x s → ⊥
+  pub joins : (c : Coming) → before NormRange c.j.g.checks ≡ c.j.g.checks → (x : Float) → (join_to u c).call.answer ≡ Refused NormRange x → ⊥
+  pub turns : (i : Input) (y : List Float) → before NormRange i.job.g.checks ≡ i.job.g.checks → (x : Float) (s : PausedRun) → (turn u y i).call.answer ≡ StepRefused 23 x s → ⊥
 
 pub record RotationClaim : Type 0 where
   -- one barrel among any others

@@ -17,16 +17,14 @@ use Rattle.combination.proofs.Ends.{refused_by, runs}
 use Rattle.phi_solver.specs.Combine.{PhiAnswer}
 use Rattle.phi_solver.specs.declared.PhiReport.TheVariants as phi
 use Rattle.schedule_checks.specs.declared.Stage.{Stage}
-use Rattle.schedule_checks.specs.declared.StagedAnswer.{StagedAnswer}
-use Rattle.schedule_checks.specs.declared.StagedAnswer.TheVariants.{Refusal}
+use Rattle.schedule_checks.specs.declared.StageRefusal.{StageRefusal}
 use Rattle.schedule_checks.specs.declared.SoFar.{SoFar}
-use Rattle.schedule_checks.specs.declared.StageTurn.{StageTurn}
-use Rattle.schedule_checks.specs.declared.StageTurn.TheVariants.{On, Ended}
-use Rattle.schedule_checks.specs.Schedule.{Schedule, stage, stages_of, Progress, further_need, stage_checks, settle, schedule_checks}
+use Rattle.std.specs.Prelude.{Ok, Err}
+use Rattle.schedule_checks.specs.Schedule.{StagedAnswer, refused_at, Schedule, stage, stages_of, Progress, further_need, stage_checks, settle, schedule_checks}
 use Rattle.stage_calls.specs.Stages.{stage_call, unless_stage_refused, stage_step, concluded, begun, before_stages, staged}
-use Rattle.schedule_checks.specs.Inner.{field_of, turn_at}
+use Rattle.schedule_checks.specs.Inner.{StageTurn, field_of, turn_at}
 use Rattle.stage_calls.specs.Inner.{stage_end}
-use Rattle.checks.specs.Reasons.{Sound, Refused}
+use Rattle.checks.specs.Reasons.{refusal, Sound, Refused}
 use Rattle.std.specs.Prelude.{Ok, Err}
 use Rattle.checks.specs.declared.Reason.{Reason}
 
@@ -67,11 +65,11 @@ step_is g n rows schedule further start i p out₀ w₀ {s} {answer} {out₁} {w
     ∙ sym (step_by g schedule further i P)
 
 -- ---- the ends of the loop
-pub turn_on : (t : StageTurn) (p : SoFar) (field output memory : List Float) → t ≡ On p → turn_at t field output memory ≡ on (record { field = field; output = output; memory = memory; used = p.used; report = p.report })
+pub turn_on : (t : StageTurn) (p : SoFar) (field output memory : List Float) → t ≡ Ok p → turn_at t field output memory ≡ on (record { field = field; output = output; memory = memory; used = p.used; report = p.report })
 unfolding turn_at
 turn_on t p field output memory e = ap (λ (x : StageTurn). turn_at x field output memory) e
 
-pub turn_ended : {step : ℕ → Progress → Turn Progress (Call StagedAnswer)} {n i : ℕ} {o₀ : Turn Progress (Call StagedAnswer)} (t : StageTurn) (field output memory : List Float) {k : ℕ} {x : Float} {j : ℕ} → t ≡ Ended k x j
+pub turn_ended : {step : ℕ → Progress → Turn Progress (Call StagedAnswer)} {n i : ℕ} {o₀ : Turn Progress (Call StagedAnswer)} (t : StageTurn) (field output memory : List Float) {e : StageRefusal} → t ≡ Err e
     → Left step n i o₀ (turn_at t field output memory)
     → turn_at t output output memory ≡ walk step n 0 o₀
 unfolding turn_at
@@ -79,7 +77,7 @@ turn_ended t field output memory e h = ap (λ (u : StageTurn). turn_at u output 
 
 -- ---- the whole
 module _ (g : Generator) (schedule : Schedule) (start further out₀ w₀ : List Float) {r : Checked} (told : r ≡ first (g.checks ++ schedule_checks schedule)) where
-  pub staged_refused : {k : Reason} {x : Float} → r ≡ Refused k x → ends (Refused k x 0) out₀ w₀ ≡ staged g schedule start further out₀ w₀
+  pub staged_refused : {k : Reason} {x : Float} → r ≡ Refused k x → ends (refused_at (refusal k x) 0) out₀ w₀ ≡ staged g schedule start further out₀ w₀
   unfolding staged
   staged_refused e = refused_by before_stages _ out₀ w₀ _ e told
 

@@ -15,10 +15,8 @@ use Rattle.generator_action.specs.Generator.{Generator}
 use Rattle.combination.specs.Call.{Call, ends, unless_refused}
 use Rattle.phi_solver.specs.Combine.{PhiAnswer}
 use Rattle.phi_solver.specs.declared.PhiReport.TheVariants as phi
-use Rattle.schedule_checks.specs.Schedule.{Schedule, stage, stages_of, schedule_checks, stage_checks, Progress}
+use Rattle.schedule_checks.specs.Schedule.{StagedAnswer, refused_at, Schedule, stage, stages_of, schedule_checks, stage_checks, Progress}
 use Rattle.schedule_checks.specs.declared.StagedReport.{StagedReport}
-use Rattle.schedule_checks.specs.declared.StagedAnswer.{StagedAnswer}
-use Rattle.schedule_checks.specs.declared.StagedAnswer.TheVariants.{Refusal, Staged}
 use Rattle.schedule_checks.proofs.Checks.{schedule_known}
 use Rattle.stage_calls.specs.Stages.{stage_step, concluded, begun, before_stages, staged}
 use Rattle.stages_claims.specs.Ran.{Ran}
@@ -26,40 +24,40 @@ use Rattle.stages_claims.specs.Claims.{Complete, ByList, ByCall, RefusedAt}
 use Rattle.stages_claims.proofs.Walks.{next, walk_next, stays, EndedAt, ended_at}
 use Rattle.stages_claims.proofs.Accepted.{taken}
 use Rattle.stages_claims.proofs.Reached.{stands, Outcome, early, late, result, outcome, early_step, late_step, call_is, reached, standing, back}
-use Rattle.checks.specs.Reasons.{Sound, Refused}
+use Rattle.checks.specs.Reasons.{refusal, Sound, Refused}
 use Rattle.std.specs.Prelude.{Ok, Err}
 use Rattle.checks.specs.declared.Reason.{Reason}
 
 -- ---- answers told apart
 report_of : StagedReport → StagedAnswer → StagedReport
-report_of d (Refused k x i) = d
-report_of d (Staged r) = r
+report_of d (Err e) = d
+report_of d (Ok r) = r
 
-staged_same : {r r' : StagedReport} {o o' m m' : List Float} → ends (Staged r) o m ≡ ends (Staged r') o' m' → (r ≡ r') × (o ≡ o') × (m ≡ m')
+staged_same : {r r' : StagedReport} {o o' m m' : List Float} → ends (Ok r) o m ≡ ends (Ok r') o' m' → (r ≡ r') × (o ≡ o') × (m ≡ m')
 unfolding report_of
 staged_same {r} e = (ap (λ (c : Call StagedAnswer). report_of r c.answer) e, ap (λ (c : Call StagedAnswer). c.output) e, ap (λ (c : Call StagedAnswer). c.memory) e)
 
-staged_not : {k : Reason} {x : Float} {i : ℕ} {r : StagedReport} {o o' m m' : List Float} → ends (Refused k x i) o m ≡ ends (Staged r) o' m' → zero ≡ 1
+staged_not : {k : Reason} {x : Float} {i : ℕ} {r : StagedReport} {o o' m m' : List Float} → ends (refused_at (refusal k x) i) o m ≡ ends (Ok r) o' m' → zero ≡ 1
 staged_not {k} {x} {i} {r} e = apart (ap (λ (c : Call StagedAnswer). c.answer) e)
   where
-    apart : {k : Reason} {x : Float} {i : ℕ} {r : StagedReport} → Refused k x i ≡ Staged r → zero ≡ 1
+    apart : {k : Reason} {x : Float} {i : ℕ} {r : StagedReport} → refused_at (refusal k x) i ≡ Ok r → zero ≡ 1
     apart e = cc
 
-staged_not_by : {k : Reason} {x : Float} {i : ℕ} {r : StagedReport} → Staged r ≡ Refused k x i → zero ≡ 1
+staged_not_by : {k : Reason} {x : Float} {i : ℕ} {r : StagedReport} → Ok r ≡ refused_at (refusal k x) i → zero ≡ 1
 staged_not_by e = cc
 
-refusal_same : {k k' : ℕ} {x x' : Float} {i i' : ℕ} {o o' m m' : List Float} → ends (Refused k x i) o m ≡ ends (Refused k' x' i') o' m' → (k ≡ k') × (x ≡ x') × (i ≡ i') × (o ≡ o') × (m ≡ m')
+refusal_same : {k k' : ℕ} {x x' : Float} {i i' : ℕ} {o o' m m' : List Float} → ends (refused_at (refusal k x) i) o m ≡ ends (refused_at (refusal k' x') i') o' m' → (k ≡ k') × (x ≡ x') × (i ≡ i') × (o ≡ o') × (m ≡ m')
 refusal_same e =
     let a = ap (λ (c : Call StagedAnswer). c.answer) e in
     (number a, double a, place a, ap (λ (c : Call StagedAnswer). c.output) e, ap (λ (c : Call StagedAnswer). c.memory) e)
   where
-    number : {k k' : ℕ} {x x' : Float} {i i' : ℕ} → Refused k x i ≡ Refused k' x' i' → k ≡ k'
+    number : {k k' : ℕ} {x x' : Float} {i i' : ℕ} → refused_at (refusal k x) i ≡ refused_at (refusal k' x') i' → k ≡ k'
     number a = cc
 
-    double : {k k' : ℕ} {x x' : Float} {i i' : ℕ} → Refused k x i ≡ Refused k' x' i' → x ≡ x'
+    double : {k k' : ℕ} {x x' : Float} {i i' : ℕ} → refused_at (refusal k x) i ≡ refused_at (refusal k' x') i' → x ≡ x'
     double a = cc
 
-    place : {k k' : ℕ} {x x' : Float} {i i' : ℕ} → Refused k x i ≡ Refused k' x' i' → i ≡ i'
+    place : {k k' : ℕ} {x x' : Float} {i i' : ℕ} → refused_at (refusal k x) i ≡ refused_at (refusal k' x') i' → i ≡ i'
     place a = cc
 
 module _ (g : Generator) (s : Schedule) (start further output memory : List Float) where
@@ -81,7 +79,7 @@ module _ (g : Generator) (s : Schedule) (start further output memory : List Floa
   answer_is e = ap (λ (c : Checked). unless_refused before_stages c output memory (concluded (stand K))) (sym e)
 
   -- a stage that ends the soak refuses
-  ended_refused : (e : Call StagedAnswer) → EndedAt (stage_step g s further) (begun start output memory) K e → (k : Reason) × ((x : Float) × ((i : ℕ) × (e.answer ≡ Refused k x i)))
+  ended_refused : (e : Call StagedAnswer) → EndedAt (stage_step g s further) (begun start output memory) K e → (k : Reason) × ((x : Float) × ((i : ℕ) × (e.answer ≡ refused_at (refusal k x) i)))
   ended_refused e a = go (outcome g s start further output memory a.turn a.state)
     where
       same : {x y : Call StagedAnswer} → ◌≡◌ {A = Turn Progress (Call StagedAnswer)} (out x) (out y) → x ≡ y
@@ -90,7 +88,7 @@ module _ (g : Generator) (s : Schedule) (start further output memory : List Floa
       differ : {x : Progress} {y : Call StagedAnswer} → ◌≡◌ {A = Turn Progress (Call StagedAnswer)} (on x) (out y) → zero ≡ 1
       differ e = cc
 
-      go : Outcome g s start further output memory a.turn a.state → (k : Reason) × ((x : Float) × ((i : ℕ) × (e.answer ≡ Refused k x i)))
+      go : Outcome g s start further output memory a.turn a.state → (k : Reason) × ((x : Float) × ((i : ℕ) × (e.answer ≡ refused_at (refusal k x) i)))
       go (early k x b c) = (k, (x, (a.turn + 1, ap (λ (c : Call StagedAnswer). c.answer) (same (sym a.ended ∙ c)))))
       go (late k x b c d) = (k, (x, (a.turn + 1, ap (λ (c : Call StagedAnswer). c.answer) (same (sym a.ended ∙ d)))))
       go (result b c d) = absurd (omega (arith, differ (sym d ∙ a.ended)))
@@ -107,17 +105,17 @@ module _ (g : Generator) (s : Schedule) (start further output memory : List Floa
       (subst (λ (x : List Float). Ran g s start further output memory i x o m xs) ef r))
 
   -- ---- a result
-  pub result_complete : (r : StagedReport) (o m : List Float) → whole ≡ ends (Staged r) o m → Complete g s start further output memory r o m
+  pub result_complete : (r : StagedReport) (o m : List Float) → whole ≡ ends (Ok r) o m → Complete g s start further output memory r o m
   unfolding concluded staged unless_refused
   result_complete r o m e = by_checks (first (g.checks ++ schedule_checks s)) refl
     where
       refused : {k : Reason} {x : Float} → first (g.checks ++ schedule_checks s) ≡ Refused k x → zero ≡ 1
       refused h = staged_not (sym (refused_is h) ∙ e)
         where
-          refused_is : {k : Reason} {x : Float} → first (g.checks ++ schedule_checks s) ≡ Refused k x → whole ≡ ends (Refused k x 0) output memory
+          refused_is : {k : Reason} {x : Float} → first (g.checks ++ schedule_checks s) ≡ Refused k x → whole ≡ ends (refused_at (refusal k x) 0) output memory
           refused_is h = ap (λ (c : Checked). unless_refused before_stages c output memory (concluded (stand K))) h
 
-      by_stand : Sound ≡ first (g.checks ++ schedule_checks s) → (t : Turn Progress (Call StagedAnswer)) → stand K ≡ t → ends (Staged r) o m ≡ concluded t → Complete g s start further output memory r o m
+      by_stand : Sound ≡ first (g.checks ++ schedule_checks s) → (t : Turn Progress (Call StagedAnswer)) → stand K ≡ t → ends (Ok r) o m ≡ concluded t → Complete g s start further output memory r o m
       by_stand h (on p) d c =
           let q = staged_same c in
           let a = reached g s start further output memory K p d in
@@ -145,7 +143,7 @@ module _ (g : Generator) (s : Schedule) (start further output memory : List Floa
   generator_passed zero f o m xs l r = absurd (omega (arith, l))
   generator_passed (suc i) f o m xs l r = (taken g _ _ _ r.out r.lent _ r.gave).generator
 
-  pub complete_result : (r : StagedReport) (o m : List Float) → Complete g s start further output memory r o m → whole ≡ ends (Staged r) o m
+  pub complete_result : (r : StagedReport) (o m : List Float) → Complete g s start further output memory r o m → whole ≡ ends (Ok r) o m
   unfolding concluded
   complete_result r o m c =
       let some = (schedule_known s refl c.scheduled).some in
@@ -156,7 +154,7 @@ module _ (g : Generator) (s : Schedule) (start further output memory : List Floa
 
   -- ---- a refusal after 1 to 11 and 37
   module _ (sound : Sound ≡ first (g.checks ++ schedule_checks s)) where
-    pub refused_at : (k : Reason) (i : ℕ) (x : Float) (o' m' : List Float) → whole ≡ ends (Refused k x (i + 1)) o' m' → RefusedAt g s start further output memory i k x o' m'
+    pub refused_at : (k : Reason) (i : ℕ) (x : Float) (o' m' : List Float) → whole ≡ ends (refused_at (refusal k x) (i + 1)) o' m' → RefusedAt g s start further output memory i k x o' m'
     unfolding concluded
     refused_at i k x o' m' e = by_stand (stand K) refl
       where
@@ -166,7 +164,7 @@ module _ (g : Generator) (s : Schedule) (start further output memory : List Floa
         differ : {x : Progress} {y : Call StagedAnswer} → ◌≡◌ {A = Turn Progress (Call StagedAnswer)} (on x) (out y) → zero ≡ 1
         differ e = cc
 
-        placed : (a : EndedAt (stage_step g s further) (begun start output memory) K (ends (Refused k x (i + 1)) o' m')) → a.turn ≡ i → (p : Progress) (xs : List PhiAnswer)
+        placed : (a : EndedAt (stage_step g s further) (begun start output memory) K (ends (refused_at (refusal k x) (i + 1)) o' m')) → a.turn ≡ i → (p : Progress) (xs : List PhiAnswer)
             → Ran g s start further output memory a.turn p.field p.output p.memory xs
             → (ByList g s start further output memory a.turn p.field p.output p.memory k x o' m' ⊎ ByCall g s start further output memory a.turn p.field p.output p.memory k x o' m')
             → RefusedAt g s start further output memory i k x o' m'
@@ -174,7 +172,7 @@ module _ (g : Generator) (s : Schedule) (start further output memory : List Floa
             subst (λ (j : ℕ). RefusedAt g s start further output memory j k x o' m') e
             (record { reached = a.below; field = p.field; out = p.output; lent = p.memory; answers = xs; ran = r; refused = f })
 
-        by_outcome : (a : EndedAt (stage_step g s further) (begun start output memory) K (ends (Refused k x (i + 1)) o' m')) → Outcome g s start further output memory a.turn a.state → RefusedAt g s start further output memory i k x o' m'
+        by_outcome : (a : EndedAt (stage_step g s further) (begun start output memory) K (ends (refused_at (refusal k x) (i + 1)) o' m')) → Outcome g s start further output memory a.turn a.state → RefusedAt g s start further output memory i k x o' m'
         by_outcome a (early k' x' b c) =
             let r = reached g s start further output memory a.turn a.state a.stood in
             let q = refusal_same (same (sym c ∙ a.ended)) in
@@ -192,11 +190,11 @@ module _ (g : Generator) (s : Schedule) (start further output memory : List Floa
         by_stand : (t : Turn Progress (Call StagedAnswer)) → stand K ≡ t → RefusedAt g s start further output memory i k x o' m'
         by_stand (on p) d = absurd (omega (arith, staged_not (sym (sym (answer_is sound ∙ ap concluded d) ∙ e))))
         by_stand (out y) d =
-            let same : y ≡ ends (Refused k x (i + 1)) o' m' = sym (answer_is sound ∙ ap concluded d) ∙ e in
-            let a = ended_at (stage_step g s further) (begun start output memory) K (ends (Refused k x (i + 1)) o' m') (d ∙ ap out same) in
+            let same : y ≡ ends (refused_at (refusal k x) (i + 1)) o' m' = sym (answer_is sound ∙ ap concluded d) ∙ e in
+            let a = ended_at (stage_step g s further) (begun start output memory) K (ends (refused_at (refusal k x) (i + 1)) o' m') (d ∙ ap out same) in
             by_outcome a (outcome g s start further output memory a.turn a.state)
 
-    pub at_refused : (k : Reason) (i : ℕ) (x : Float) (o' m' : List Float) → RefusedAt g s start further output memory i k x o' m' → whole ≡ ends (Refused k x (i + 1)) o' m'
+    pub at_refused : (k : Reason) (i : ℕ) (x : Float) (o' m' : List Float) → RefusedAt g s start further output memory i k x o' m' → whole ≡ ends (refused_at (refusal k x) (i + 1)) o' m'
     unfolding concluded
     at_refused i k x o' m' r =
         let P = standing g s start further output memory i r.field r.out r.lent r.answers in
@@ -207,10 +205,10 @@ module _ (g : Generator) (s : Schedule) (start further output memory : List Floa
         answer_is sound ∙ ap concluded (ap stand (sym n) ∙ e)
       where
         stepped : (ByList g s start further output memory i r.field r.out r.lent k x o' m' ⊎ ByCall g s start further output memory i r.field r.out r.lent k x o' m')
-            → stage_step g s further i (standing g s start further output memory i r.field r.out r.lent r.answers) ≡ out (ends (Refused k x (i + 1)) o' m')
-        stepped (inl h) = early_step g s start further output memory i (standing g s start further output memory i r.field r.out r.lent r.answers) h.0 ∙ (λ j. out (ends (Refused k x (i + 1)) (sym h.1 j) (sym h.2 j)))
+            → stage_step g s further i (standing g s start further output memory i r.field r.out r.lent r.answers) ≡ out (ends (refused_at (refusal k x) (i + 1)) o' m')
+        stepped (inl h) = early_step g s start further output memory i (standing g s start further output memory i r.field r.out r.lent r.answers) h.0 ∙ (λ j. out (ends (refused_at (refusal k x) (i + 1)) (sym h.1 j) (sym h.2 j)))
         stepped (inr h) =
             let call = call_is g s start further output memory i (standing g s start further output memory i r.field r.out r.lent r.answers) refl in
             late_step g s start further output memory i (standing g s start further output memory i r.field r.out r.lent r.answers) h.0 (ap (λ (y : Call PhiAnswer). y.answer) call ∙ h.1)
-            ∙ (λ j. out (ends (Refused k x (i + 1)) (call j).output (call j).memory))
-            ∙ (λ j. out (ends (Refused k x (i + 1)) (sym h.2 j) (sym h.3 j)))
+            ∙ (λ j. out (ends (refused_at (refusal k x) (i + 1)) (call j).output (call j).memory))
+            ∙ (λ j. out (ends (refused_at (refusal k x) (i + 1)) (sym h.2 j) (sym h.3 j)))

@@ -15,11 +15,11 @@ use Rattle.phi_solver.specs.Combine.{PhiAnswer}
 use Rattle.phi_solver.specs.declared.PhiReport.TheVariants as phi
 use Rattle.schedule_checks.specs.Inner.{schedule_of}
 use Rattle.schedule_checks.specs.Schedule.{Schedule, schedule_checks}
-use Rattle.schedule_checks.specs.declared.StagedAnswer.TheVariants.{Refusal, Staged}
 use Rattle.stage_calls.specs.Stages.{staged, open_stages}
 use Rattle.stages_claims.specs.Ran.{vectors_before, Gave, total, call_at, Ran}
 use Rattle.stages_claims.proofs.Answers.{complete_result}
 use Rattle.checks.specs.declared.Reason.TheVariants.{RowStartsLength, VectorLength, SubstepLimit, StageCount}
+use Rattle.std.specs.Prelude.{Ok}
 
 abbrev empty : Csr
 empty = csr 1 (0 ∷ 0 ∷ []) [] []
@@ -103,7 +103,7 @@ unfolding vectors_before open_stages
 cool_down = refl
 
 -- 12 and 60 products, 3 substeps and 1 rejection
-two_solvers : staged (forward four none) both start (heating ++ cooling) (replicate 4 +0) (replicate 60 (nat 9)) ≡ ends (Staged (record { applications = 72; substeps = 3; rejected = 1 })) cool after_both
+two_solvers : staged (forward four none) both start (heating ++ cooling) (replicate 4 +0) (replicate 60 (nat 9)) ≡ ends (Ok (record { applications = 72; substeps = 3; rejected = 1 })) cool after_both
 unfolding Ran vectors_before total quotients
 two_solvers =
     complete_result (forward four none) both start (heating ++ cooling) (replicate 4 +0) (replicate 60 (nat 9)) _ cool after_both

@@ -21,16 +21,14 @@ use Rattle.combination.specs.Call.{Call, ends}
 use Rattle.phi_solver.specs.Combine.{combine}
 use Rattle.phi_solver.specs.Combine.{PhiAnswer}
 use Rattle.phi_solver.specs.declared.PhiReport.TheVariants as phi
-use Rattle.schedule_checks.specs.Schedule.{Schedule, solver_of, stage, stages_of, further_need, stage_checks, Progress, counted, settle}
+use Rattle.schedule_checks.specs.Schedule.{StagedAnswer, refused_at, Schedule, solver_of, stage, stages_of, further_need, stage_checks, Progress, counted, settle}
 use Rattle.schedule_checks.specs.declared.StagedReport.{StagedReport}
-use Rattle.schedule_checks.specs.declared.StagedAnswer.{StagedAnswer}
-use Rattle.schedule_checks.specs.declared.StagedAnswer.TheVariants.{Refusal}
 use Rattle.stage_calls.specs.Stages.{unless_stage_refused, stage_call, stage_step, begun}
 use Rattle.stages_claims.specs.Ran.{count_at, vectors_before, Gave, applications_of, substeps_of, rejected_of, total, sums, call_at, Next, Ran}
 use Rattle.stages_claims.proofs.Walks.{next, walk_next}
 use Rattle.stages_claims.proofs.Checks.{stage_sound, stage_passing, timed_known}
 use Rattle.stages_claims.proofs.Accepted.{taken}
-use Rattle.checks.specs.Reasons.{Sound, Refused}
+use Rattle.checks.specs.Reasons.{refusal, Sound, Refused}
 use Rattle.std.specs.Prelude.{Ok, Err}
 use Rattle.checks.specs.declared.Reason.{Reason}
 
@@ -89,12 +87,12 @@ module _ (g : Generator) (s : Schedule) (start further output memory : List Floa
       }
 
   -- a refusal by the stage's own list, and one by its call
-  pub early_step : (i : ℕ) (p : Progress) {k : Reason} {x : Float} → first (checks_at i p) ≡ Refused k x → stage_step g s further i p ≡ out (ends (Refused k x (i + 1)) p.output p.memory)
+  pub early_step : (i : ℕ) (p : Progress) {k : Reason} {x : Float} → first (checks_at i p) ≡ Refused k x → stage_step g s further i p ≡ out (ends (refused_at (refusal k x) (i + 1)) p.output p.memory)
   unfolding stage_step unless_stage_refused
   early_step i p e = ap (λ (c : Checked). unless_stage_refused c i p (settle i (p.used + further_need n (stage s i)) p.report (made_at i p) (made_at i p).answer)) e
 
   pub late_step : (i : ℕ) (p : Progress) {k : Reason} {x : Float} → Sound ≡ first (checks_at i p) → (made_at i p).answer ≡ Refused k x
-      → stage_step g s further i p ≡ out (ends (Refused k x (i + 1)) (made_at i p).output (made_at i p).memory)
+      → stage_step g s further i p ≡ out (ends (refused_at (refusal k x) (i + 1)) (made_at i p).output (made_at i p).memory)
   unfolding stage_step unless_stage_refused settle
   late_step i p e ea =
       ap (λ (c : Checked). unless_stage_refused c i p (settle i (p.used + further_need n (stage s i)) p.report (made_at i p) (made_at i p).answer)) (sym e)
@@ -102,8 +100,8 @@ module _ (g : Generator) (s : Schedule) (start further output memory : List Floa
 
   -- ---- what stage i + 1 comes to
   pub data Outcome (i : ℕ) (p : Progress) : Type 0 where
-    early : (k : Reason) (x : Float) → first (checks_at i p) ≡ Refused k x → stage_step g s further i p ≡ out (ends (Refused k x (i + 1)) p.output p.memory) → Outcome i p
-    late : (k : Reason) (x : Float) → Sound ≡ first (checks_at i p) → (made_at i p).answer ≡ Refused k x → stage_step g s further i p ≡ out (ends (Refused k x (i + 1)) (made_at i p).output (made_at i p).memory) → Outcome i p
+    early : (k : Reason) (x : Float) → first (checks_at i p) ≡ Refused k x → stage_step g s further i p ≡ out (ends (refused_at (refusal k x) (i + 1)) p.output p.memory) → Outcome i p
+    late : (k : Reason) (x : Float) → Sound ≡ first (checks_at i p) → (made_at i p).answer ≡ Refused k x → stage_step g s further i p ≡ out (ends (refused_at (refusal k x) (i + 1)) (made_at i p).output (made_at i p).memory) → Outcome i p
     result : Sound ≡ first (checks_at i p) → Gave (made_at i p).answer → stage_step g s further i p ≡ on (after i p) → Outcome i p
 
   pub outcome : (i : ℕ) (p : Progress) → Outcome i p

@@ -27,9 +27,7 @@ use Rattle.phi_solver.specs.declared.PhiSolver.TheVariants as solver
 use Rattle.phi_solver.specs.Combine.{PhiAnswer}
 use Rattle.phi_solver.specs.declared.PhiReport.TheVariants as phi
 use Rattle.schedule_checks.specs.declared.Stage.{Stage}
-use Rattle.schedule_checks.specs.declared.StagedAnswer.{StagedAnswer}
-use Rattle.schedule_checks.specs.declared.StagedAnswer.TheVariants.{Staged}
-use Rattle.schedule_checks.specs.Schedule.{Schedule, stage, stages_of, schedule_checks, further_need, wrong_slice, time_checks_of, stage_checks, Progress, counted}
+use Rattle.schedule_checks.specs.Schedule.{StagedAnswer, Schedule, stage, stages_of, schedule_checks, further_need, wrong_slice, time_checks_of, stage_checks, Progress, counted}
 use Rattle.schedule_checks.proofs.Checks.{count_known}
 use Rattle.stage_calls.specs.Stages.{stage_step, concluded, begun, staged}
 use Rattle.stages.proofs.Turns.{staged_refused, staged_is}
@@ -100,11 +98,11 @@ module _ (n : ℕ) (s : Stage) (last : Bool) (output long : ℕ) (w : ℕ) where
           (by_time (count_known s.count refl (sym d)).0 (first (time_checks_of s.solver s.tau)) refl (sound_on (count_checks s.count) (time_checks_of s.solver s.tau ++ (length_checks output n long n ++ slice)) refl (sym d) refl ∙ e))
 
 -- the counts of one call
-counted_one : (a : PhiAnswer) → Gave a → Staged (counted (record { applications = 0; substeps = 0; rejected = 0 }) a) ≡ one_stage 1 a
+counted_one : (a : PhiAnswer) → Gave a → Ok (counted (record { applications = 0; substeps = 0; rejected = 0 }) a) ≡ one_stage 1 a
 unfolding counted one_stage
 counted_one (Err r) h = absurd h
-counted_one (Ok (phi.Taylor t)) h = λ i. Staged (record { applications = zero-add t.applications i; substeps = 0; rejected = 0 })
-counted_one (Ok (phi.Krylov t)) h = λ i. Staged (record { applications = zero-add t.matvecs i; substeps = zero-add t.substeps i; rejected = zero-add t.rejected i })
+counted_one (Ok (phi.Taylor t)) h = λ i. Ok (record { applications = zero-add t.applications i; substeps = 0; rejected = 0 })
+counted_one (Ok (phi.Krylov t)) h = λ i. Ok (record { applications = zero-add t.matvecs i; substeps = zero-add t.substeps i; rejected = zero-add t.rejected i })
 
 -- ---- the whole
 module _ (g : Generator) (s : Schedule) (start further output memory : List Float) where

@@ -8,7 +8,7 @@ use Rattle.phi_solver.specs.Combine.{combine}
 use Rattle.phi_solver.specs.declared.PhiSolver.{PhiSolver}
 use Rattle.phi_solver.specs.declared.PhiSolver.TheVariants as solver
 use Rattle.phi_solver.specs.Combine.{PhiAnswer}
-use Rattle.phi_solver.specs.declared.PhiAnswer.TheVariants.{Refusal, Taylor, Krylov}
+use Rattle.phi_solver.specs.declared.PhiReport.TheVariants.{Taylor, Krylov}
 use Rattle.schedule_checks.specs.Schedule.{Schedule}
 use Rattle.schedule_checks.specs.declared.StagedReport.{StagedReport}
 use Rattle.std.specs.Prelude.{Err}

@@ -3,9 +3,8 @@ use Rattle.std.specs.Prelude.{ℕ}
 use Rattle.checks.specs.First.{Checked}
 use Rattle.phi_solver.specs.Combine.{PhiAnswer}
 use Rattle.phi_solver.specs.declared.PhiReport.TheVariants as phi
-use Rattle.schedule_checks.specs.declared.StagedAnswer.{StagedAnswer}
-use Rattle.schedule_checks.specs.declared.StagedAnswer.TheVariants.{Refusal, Staged}
 use Rattle.std.specs.Prelude.{Ok, Err}
+use Rattle.schedule_checks.specs.Schedule.{StagedAnswer}
 
 -- no stage is reached where the generator's checks refuse
 abbrev pub stage_told : Checked → ℕ
@@ -14,5 +13,5 @@ stage_told (Ok _) = 1
 
 unfoldable pub one_stage : ℕ → PhiAnswer → StagedAnswer
 one_stage i (Err r) = Err r i
-one_stage i (Ok (phi.Taylor t)) = Staged (record { applications = t.applications; substeps = 0; rejected = 0 })
-one_stage i (Ok (phi.Krylov t)) = Staged (record { applications = t.matvecs; substeps = t.substeps; rejected = t.rejected })
+one_stage i (Ok (phi.Taylor t)) = Ok (record { applications = t.applications; substeps = 0; rejected = 0 })
+one_stage i (Ok (phi.Krylov t)) = Ok (record { applications = t.matvecs; substeps = t.substeps; rejected = t.rejected })
