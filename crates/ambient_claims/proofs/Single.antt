@@ -1,4 +1,5 @@
 -- A record and its single call. Assumes nothing.
+use Rattle.std.specs.Prelude.{Option, Some}
 use mathlib.Core.Path.{◌≡◌, refl, sym, ap, ◌∙◌, subst}
 use mathlib.Core.List.{List, [], ◌++◌}
 use Prim.Native.Nat.{ℕ, ◌+◌, ◌-◌, ◌≤◌}
@@ -15,8 +16,6 @@ use Rattle.generator_action.specs.Generator.{Generator}
 use Rattle.expmv.specs.Select.{M_MAX}
 use Rattle.phi_action_helpers.specs.declared.SweepPlan.{SweepPlan}
 use Rattle.phi_shift.specs.Plan.{sweep_plan}
-use Rattle.phi_shift.specs.declared.PlanAnswer.{PlanAnswer}
-use Rattle.phi_shift.specs.declared.PlanAnswer.TheVariants.{Plan}
 use Rattle.phi_shift.proofs.Ways as plan_ways
 use Rattle.combination.specs.Combination.{further, eta_of, combination_operator, combination_start}
 use Rattle.combination.specs.Call.{Call, ends, unless_refused, cleared}
@@ -69,7 +68,7 @@ module _ (g : Generator) (tau level : Float) (f load o m : List Float) where
 
   pub record Planned : Type 0 where
     pub plan : SweepPlan
-    pub is : sweep_plan 30 tau g.matrix (row_sum_norm g.matrix) ≡ Plan plan
+    pub is : sweep_plan 30 tau g.matrix (row_sum_norm g.matrix) ≡ Some plan
 
   plan_of : (memory : ℕ) → Sound ≡ first (combination_checks g tau 30 2 w (length o) memory) → Planned
   unfolding combination_checks
@@ -98,7 +97,7 @@ module _ (g : Generator) (tau level : Float) (f load o m : List Float) where
     pub room : record_need g ≤ length m
     pub is : record_call g tau level f load o m ≡ ends single.answer single.output (cleared (record_need g) m)
 
-  passed_run : (p : PlanAnswer) (plan : SweepPlan) (run : SweepPlan → Fields) (norm : Float) (a b : ℕ) → p ≡ Plan plan
+  passed_run : (p : Option SweepPlan) (plan : SweepPlan) (run : SweepPlan → Fields) (norm : Float) (a b : ℕ) → p ≡ Some plan
       → Gave (after_plan a tau norm o m p run).answer × (after_plan b tau norm o m p run ≡ ends (after_plan a tau norm o m p run).answer (after_plan a tau norm o m p run).output (cleared b m))
   unfolding after_plan
   passed_run p plan run norm a b e = rw e (tt, refl)

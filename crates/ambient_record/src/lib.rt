@@ -42,10 +42,10 @@ fn run_record(
     let n = l.n;
     let p = taylor_job::prepare(starts, cols, vals, mass, work, j);
     let x = SweepArgs {
-        l: l,
-        b: b,
+        l,
+        b,
         tau: j.tau,
-        p: p,
+        p,
     };
     let applied = taylor_sweeps::run_sweeps(starts, cols, vals, out, work, x);
     vectors::copy_from(out, 0, work, 0, n);

@@ -158,9 +158,9 @@ pub fn options(tol: f64, m: usize, max_substeps: usize) -> KrylovPhiOptions
     ensures { result ≡ options tol m max_substeps }
 {
     KrylovPhiOptions {
-        tol: tol,
-        m: m,
-        max_substeps: max_substeps,
+        tol,
+        m,
+        max_substeps,
     }
 }
 

@@ -8,13 +8,13 @@ ghost use Rattle.doubles.specs.F64.{◌⊘◌, +0, 1f};
 ghost use Rattle.vectors.specs.Vectors.{scale};
 ghost use Rattle.phi_action_helpers.specs.Laid.{matrix_at};
 ghost use Rattle.phi_action_helpers.specs.declared.Coupling.{Coupling};
-ghost use Rattle.gram_schmidt.specs.Basis.{norm2, arnoldi_step, close, arnoldi};
+ghost use Rattle.gram_schmidt.specs.Basis.{norm2, arnoldi_step, arnoldi};
 ghost use Rattle.gram_schmidt.specs.Memory.{setting_at, Room, Spared, column, columns_at, grown_at, Within, basis_at, Counted, Ended};
 
-use gram_schmidt::{BasisAnswer, Grown, Krylov};
+use gram_schmidt::{Broken, Full, Krylov};
 use phi_action_helpers::{Coupling, Layout};
 
-// At most M turns.
+// At most M turns: the products made.
 fn columns(
     starts: &[u32],
     cols: &[u32],
@@ -25,20 +25,17 @@ fn columns(
     b: Coupling,
     k: Krylov,
     beta: f64,
-) -> Grown
+) -> Result<usize, Broken>
     requires { Room l b k (matrix_at l starts.now cols.now vals.now work.old) (length vals.now) (length vectors.now) (length work.old) }
     ensures work_after { grown_at l k k.m result work.new ≡ walk (arnoldi_step (setting_at l b k (matrix_at l starts.now cols.now vals.now work.old) vectors.now) beta) k.m 0 (on (columns_at l k 1 0 work.old)) }
     ensures within { Within k.m result × Spared l k work.old work.new }
 {
     let m = k.m;
-    let mut o = Grown::On(0);
+    let mut applied = 0;
     for j in 0..m {
-        let Grown::On(applied) = o else {
-            return o;
-        };
-        o = basis_column::grow(starts, cols, vals, vectors, work, l, b, k, beta, j, applied);
+        applied = basis_column::grow(starts, cols, vals, vectors, work, l, b, k, beta, j, applied)?;
     }
-    o
+    Ok(applied)
 }
 
 // h at +0, and the first column: y by 1 / beta.
@@ -75,32 +72,6 @@ fn end(
     gram_schmidt::norm2(&work[z..end])
 }
 
-// What follows the turns.
-fn finish(
-    starts: &[u32],
-    cols: &[u32],
-    vals: &[f64],
-    vectors: &[f64],
-    work: &mut [f64],
-    l: Layout,
-    b: Coupling,
-    k: Krylov,
-    o: Grown,
-) -> BasisAnswer
-    requires room { Room l b k (matrix_at l starts.now cols.now vals.now work.old) (length vals.now) (length vectors.now) (length work.old) }
-    requires within { Within k.m o }
-    ensures work_after { basis_at l k result work.new ≡ close (setting_at l b k (matrix_at l starts.now cols.now vals.now work.old) vectors.now) (grown_at l k k.m o work.old) }
-    ensures counted { Counted k.m result × Spared l k work.old work.new }
-{
-    match o {
-        Grown::On(applied) => {
-            let avnorm = end(starts, cols, vals, vectors, work, l, b, k);
-            BasisAnswer::Full(applied + 1, avnorm)
-        }
-        Grown::Broken(applied, mb, hn) => BasisAnswer::Breakdown(applied, mb, hn),
-    }
-}
-
 // The basis of one substep from the field at y, whose norm is beta.
 pub fn arnoldi(
     starts: &[u32],
@@ -112,12 +83,16 @@ pub fn arnoldi(
     b: Coupling,
     k: Krylov,
     beta: f64,
-) -> BasisAnswer
+) -> Result<Full, Broken>
     requires { Room l b k (matrix_at l starts.now cols.now vals.now work.old) (length vals.now) (length vectors.now) (length work.old) }
     ensures work_after { basis_at l k result work.new ≡ arnoldi (setting_at l b k (matrix_at l starts.now cols.now vals.now work.old) vectors.now) (window k.y (l.n + l.d) work.old) beta }
     ensures counted { Counted k.m result × Spared l k work.old work.new }
 {
     begin(work, k.h, k.m + 2, k.y, l.n + l.d, beta);
-    let o = columns(starts, cols, vals, vectors, work, l, b, k, beta);
-    finish(starts, cols, vals, vectors, work, l, b, k, o)
+    let applied = columns(starts, cols, vals, vectors, work, l, b, k, beta)?;
+    let avnorm = end(starts, cols, vals, vectors, work, l, b, k);
+    Ok(Full {
+        applied: applied + 1,
+        avnorm,
+    })
 }

@@ -1,4 +1,4 @@
-// axpy, and the inner product of its result with the next vector, in one loop.
+// axpy, and the inner product of its result with the next vector, in one loop. By index: the three are windows of one slice.
 #![tactic(auto)]
 
 ghost use Rattle.std.specs.Prelude.{◌≡◌, ◌+◌, ◌*◌, ◌/◌, ◌<◌, ◌≤◌, length, set};
@@ -9,17 +9,6 @@ ghost use Rattle.vectors.specs.Vectors.{axpy};
 ghost use Rattle.dot.specs.Dot.{lanes, dot};
 
 use dot::{Lanes, Pair};
-
-// The lesser of two.
-fn least(a: usize, b: usize) -> usize
-    requires { (0 < a) × (0 < b) }
-    ensures { (0 < result) × (result ≤ a) }
-{
-    if a < b {
-        return a;
-    }
-    b
-}
 
 // Two places of y + a x in the place of y, and their products with v added. All is read before a place is written.
 fn axpy_dot_pair(work: &mut [f64], y: usize, x: usize, v: usize, a: f64, acc: Pair) -> Pair
@@ -83,13 +72,11 @@ fn axpy_dot_runs(work: &mut [f64], y_at: usize, x_at: usize, v_at: usize, m: usi
     let y_end = y_at + 4 * m;
     let v_end = v_at + 4 * m;
     let mut acc = dot::no_lanes();
-    let mut b = 0usize;
-    while b < m {
-        let count = least(m - b, 64);
+    for b in (0..m).step_by(64) {
+        let count = (m - b).min(64);
         vectors::axpy_in(work, y_at + 4 * b, x_at + 4 * b, 4 * count, a);
         let w = &work[..];
         acc = dot::add_blocks(&w[y_at..y_end], &w[v_at..v_end], b, count, acc);
-        b += count;
     }
     acc
 }

@@ -12,7 +12,7 @@ ghost use Rattle.phi_action_helpers.specs.declared.Coupling.{Coupling};
 ghost use Rattle.gram_schmidt.specs.Basis.{norm2, broken, arnoldi_step};
 ghost use Rattle.gram_schmidt.specs.Memory.{setting_at, Room, Spared, column, behind, columns_at, grown_at, Within};
 
-use gram_schmidt::{Grown, Krylov};
+use gram_schmidt::{Broken, Krylov};
 use phi_action_helpers::{Coupling, Layout};
 
 // A column whose norm is at most this part of the matrix's norm is at round-off level.
@@ -23,13 +23,7 @@ fn breaks(l: Layout, k: Krylov, beta: f64, j: usize, hn: f64) -> bool
     requires { (j < k.m) × (l.n + l.d ≤ 18446744073709551615) }
     ensures { (b : Coupling) (starts cols : List ℕ) (entries vectors : List Float) → result ≡ broken (setting_at l b k (csr l.n starts cols entries) vectors) beta j hn }
 {
-    if hn <= BREAKDOWN * float::max(k.anorm, 1.0) {
-        if j + 1 == l.n + l.d {
-            return true;
-        }
-        return hn * beta <= k.tol;
-    }
-    false
+    hn <= BREAKDOWN * float::max(k.anorm, 1.0) && (j + 1 == l.n + l.d || hn * beta <= k.tol)
 }
 
 // One more column: hn goes below the diagonal of h, and z by 1 / hn behind the columns.
@@ -46,7 +40,7 @@ fn push(work: &mut [f64], z_at: usize, h_at: usize, dim: usize, len: usize, j: u
     vectors::scaled_in(work, c * len, z_at, len, 1.0 / hn);
 }
 
-// Turn j: a breakdown, or column j + 1.
+// Turn j: column j + 1, and the products made; or a breakdown.
 pub fn grow(
     starts: &[u32],
     cols: &[u32],
@@ -59,7 +53,7 @@ pub fn grow(
     beta: f64,
     j: usize,
     applied: usize,
-) -> Grown
+) -> Result<usize, Broken>
     requires room { Room l b k (matrix_at l starts.now cols.now vals.now work.old) (length vals.now) (length vectors.now) (length work.old) }
     requires j_lt_m { (j < k.m) × (applied ≤ j) }
     ensures work_after { grown_at l k (j + 1) result work.new ≡ arnoldi_step (setting_at l b k (matrix_at l starts.now cols.now vals.now work.old) vectors.now) beta j (columns_at l k (j + 1) applied work.old) }
@@ -71,8 +65,12 @@ pub fn grow(
     gram_schmidt::rest_in(starts, cols, vals, vectors, work, l, b, k, j);
     let hn = gram_schmidt::norm2(&work[z..end]);
     if breaks(l, k, beta, j, hn) {
-        return Grown::Broken(applied + 1, j + 1, hn);
+        return Err(Broken {
+            applied: applied + 1,
+            mb: j + 1,
+            hn,
+        });
     }
     push(work, z, k.h, k.m + 2, len, j, hn);
-    Grown::On(applied + 1)
+    Ok(applied + 1)
 }

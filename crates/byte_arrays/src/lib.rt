@@ -7,48 +7,37 @@ ghost use Rattle.byte_arrays.specs.Large.{large};
 ghost use Rattle.byte_arrays.specs.Inner.{Cut, long_told, lengths_told};
 
 // By lengths in bytes.
+#[tactic(auto, unfolding(crate::specs::Large::large))]
 pub fn large(n: usize, vals: usize, work: usize) -> bool
     ensures value { result ≡ large n vals work }
     ensures n_bound { result ≡ false → (n ≤ 64) × (vals / 8 ≤ 512) × (work / 8 ≤ 4096) }
 {
-    if n > 64 {
-        return true;
-    }
-    if vals / 8 > 512 {
-        return true;
-    }
-    work / 8 > 4096
+    n > 64 || vals / 8 > 512 || work / 8 > 4096
 }
 
 // A slice is cut to `most` bytes.
 pub fn part(len: usize, most: usize) -> usize
     ensures { (result ≤ len) × (result ≤ most) × Cut len most result }
 {
-    if len > most {
-        return most;
-    }
-    len
+    if len > most { most } else { len }
 }
 
 // Without a mass none of its slice is read.
 pub fn used(with_mass: bool, mass: usize) -> usize
     ensures { (result ≡ cond with_mass mass 0) × (result ≤ mass) }
 {
-    if with_mass {
-        return mass;
-    }
-    0
+    if with_mass { mass } else { 0 }
 }
 
+#[tactic(auto, unfolding(crate::specs::Inner::long_told))]
 fn long_told(k: u32, len: usize, number: u32, value: f64) -> f64
     ensures { result ≡ long_told k len number value }
 {
-    if len > 512 {
-        if number == k {
-            return float::count(len);
-        }
+    if len > 512 && number == k {
+        float::count(len)
+    } else {
+        value
     }
-    value
 }
 
 // The lengths handed in, where a refusal reports them.
@@ -72,14 +61,22 @@ pub fn numbers_in(src: &[u8]) -> [u32; 513]
     array
 }
 
+// The same of doubles, N of them.
+fn double_array<const N: usize>(src: &[u8]) -> [f64; N]
+    requires { length src.now / 8 ≤ N }
+    ensures { take (length src.now / 8) result ≡ doubles_of src.now }
+{
+    let mut array = [0.0f64; N];
+    let count = src.len() / 8;
+    le_bytes::unpack_doubles(src, &mut array[..count]);
+    array
+}
+
 pub fn doubles_in(src: &[u8]) -> [f64; 512]
     requires { length src.now / 8 ≤ 512 }
     ensures { take (length src.now / 8) result ≡ doubles_of src.now }
 {
-    let mut array = [0.0f64; 512];
-    let count = src.len() / 8;
-    le_bytes::unpack_doubles(src, &mut array[..count]);
-    array
+    double_array(src)
 }
 
 // Of working memory, which has up to 4,096.
@@ -87,10 +84,7 @@ pub fn memory_in(src: &[u8]) -> [f64; 4096]
     requires { length src.now / 8 ≤ 4096 }
     ensures { take (length src.now / 8) result ≡ doubles_of src.now }
 {
-    let mut array = [0.0f64; 4096];
-    let count = src.len() / 8;
-    le_bytes::unpack_doubles(src, &mut array[..count]);
-    array
+    double_array(src)
 }
 
 // Numbers of eight bytes.

@@ -7,8 +7,8 @@ ghost use Rattle.byte_arrays.specs.Inner.{lengths_told};
 ghost use Rattle.byte_calls.specs.Inner.{taylor_told, krylov_told, revalued};
 
 use checks::Refusal;
-use krylov_job::KrylovAnswer;
-use taylor_job::TaylorAnswer;
+use krylov_advance::KrylovPhiReport;
+use taylor_job::TaylorReport;
 
 // Which call; of Taylor with the highest degree, of Krylov with tol, m and max_substeps.
 #[derive(Clone, Copy)]
@@ -20,7 +20,7 @@ pub enum PhiCall {
 }
 
 // What is handed back as numbers: the counts of a Taylor call, or those of a Krylov call.
-#[derive(Clone, Copy)]
+#[derive(Clone, Copy, Default)]
 pub struct Told {
     pub number: u32,
     pub value: f64,
@@ -34,54 +34,22 @@ pub struct Told {
     pub last: f64,
 }
 
-fn told_taylor(number: u32, value: f64, s: u32, m: u32, applications: u64) -> Told
-    ensures { taylor_told result ≡ numbers number value s m applications }
-{
-    Told {
-        number: number,
-        value: value,
-        s: s,
-        m: m,
-        applications: applications,
-        substeps: 0,
-        matvecs: 0,
-        rejected: 0,
-        shortest: 0.0,
-        last: 0.0,
-    }
-}
-
-fn told_krylov(
-    number: u32,
-    value: f64,
-    substeps: usize,
-    matvecs: usize,
-    rejected: usize,
-    shortest: f64,
-    last: f64,
-) -> Told
-    ensures { krylov_told result ≡ run_numbers number value substeps matvecs rejected shortest last }
-{
-    Told {
-        number: number,
-        value: value,
-        s: 0,
-        m: 0,
-        applications: 0,
-        substeps: substeps,
-        matvecs: matvecs,
-        rejected: rejected,
-        shortest: shortest,
-        last: last,
-    }
-}
-
 pub fn of_taylor(answer: Result<TaylorReport, Refusal>) -> Told
     ensures { taylor_told result ≡ taylor_numbers answer }
 {
     match answer {
-        Err(Refusal { reason: k, value: x }) => told_taylor(k, x, 0, 0, 0),
-        TaylorAnswer::Result(r) => told_taylor(0, r.mu, r.s, r.m, r.applications),
+        Err(r) => Told {
+            number: r.reason.number(),
+            value: r.value,
+            ..Told::default()
+        },
+        Ok(r) => Told {
+            value: r.mu,
+            s: r.s,
+            m: r.m,
+            applications: r.applications,
+            ..Told::default()
+        },
     }
 }
 
@@ -89,16 +57,20 @@ pub fn of_krylov(answer: Result<KrylovPhiReport, Refusal>) -> Told
     ensures { krylov_told result ≡ krylov_numbers answer }
 {
     match answer {
-        Err(Refusal { reason: k, value: x }) => told_krylov(k, x, 0, 0, 0, 0.0, 0.0),
-        KrylovAnswer::Result(r) => told_krylov(
-            0,
-            r.est_error,
-            r.substeps,
-            r.matvecs,
-            r.rejected,
-            r.shortest,
-            r.last,
-        ),
+        Err(r) => Told {
+            number: r.reason.number(),
+            value: r.value,
+            ..Told::default()
+        },
+        Ok(r) => Told {
+            value: r.est_error,
+            substeps: r.substeps,
+            matvecs: r.matvecs,
+            rejected: r.rejected,
+            shortest: r.shortest,
+            last: r.last,
+            ..Told::default()
+        },
     }
 }
 
@@ -106,9 +78,10 @@ pub fn of_krylov(answer: Result<KrylovPhiReport, Refusal>) -> Told
 pub fn reported(t: Told, starts: usize, mass: usize, out: usize, v: usize) -> Told
     ensures { result ≡ revalued t (lengths_told starts mass out v t.number t.value) }
 {
-    let mut r = t;
-    r.value = byte_arrays::reported(t.number, t.value, starts, mass, out, v);
-    r
+    Told {
+        value: byte_arrays::reported(t.number, t.value, starts, mass, out, v),
+        ..t
+    }
 }
 
 pub fn taylor_numbers(

@@ -9,6 +9,8 @@ use lib.ListN.{get_or}
 use borrow.Author.Tests.{eq-eqb, ne_eqb, lt-ltb, le-ltb}
 use lib.Ieee.{Float, nan, binary64, of_int}
 use Rattle.lists.specs.Find.{find, exists}
+use Rattle.lists.specs.Positions.{NoneBelow}
+use Rattle.lists.proofs.Positions.{position_found, position_exists, none_exists}
 use Rattle.checks.specs.First.{Check, refuse, first}
 use Rattle.checks.specs.declared.Reason.{Reason}
 use Rattle.checks.specs.declared.Refusal.{Refusal}
@@ -154,7 +156,7 @@ not_eq {a} {b} e = ap not (eq-eqb a b e)
 pub not_ne : {a b : ℕ} → (a ≡ b → ⊥) → not (eqb a b) ≡ true
 not_ne {a} {b} e = ap not (ne_eqb a b e)
 
--- the same where it is decided by a search, whose place i is told: the element there is reported, or the place
+-- the same where it is decided by a search, whose place i is told: the element there is reported
 pub passes_find : (k : Reason) (x : Float) (cs : List Check) (p : ℕ → Bool) (n : ℕ) {i : ℕ} {r : Checked} → i ≡ find p n → n ≤ i → r ≡ first cs → r ≡ first (refuse k (exists p n) x ∷ cs)
 unfolding exists
 passes_find k x cs p n {i} e l g = passes k x cs (rw (← e) (le-ltb i n l)) g
@@ -163,9 +165,15 @@ pub stops_find : (k : Reason) (w : List Float) (cs : List Check) (p : ℕ → Bo
 unfolding exists
 stops_find k w cs p n {i} e l = stops cs (rw (← e) (lt-ltb i n l)) (ap (λ (j : ℕ). get_or w j nan) e)
 
-pub stops_place : (k : Reason) (cs : List Check) (p : ℕ → Bool) (n : ℕ) {i : ℕ} {y : Float} → i ≡ find p n → i < n → y ≡ of_int binary64 (pos i) → Refused k y ≡ first (refuse k (exists p n) (of_int binary64 (pos (find p n))) ∷ cs)
-unfolding exists
-stops_place k cs p n {i} e l d = stops cs (rw (← e) (lt-ltb i n l)) (d ∙ ap (λ (j : ℕ). of_int binary64 (pos j)) e)
+-- the same of an iterator's `position`, which answered that there is none or the place i
+pub passes_none : (k : Reason) (x : Float) (cs : List Check) (p : ℕ → Bool) (n : ℕ) {r : Checked} → NoneBelow p n → r ≡ first cs → r ≡ first (refuse k (exists p n) x ∷ cs)
+passes_none k x cs p n h g = passes k x cs (sym (none_exists p n h)) g
+
+pub stops_position : (k : Reason) (w : List Float) (cs : List Check) (p : ℕ → Bool) (n : ℕ) {i : ℕ} → (i < n) × (p i ≡ true) × NoneBelow p i → Refused k (get_or w i nan) ≡ first (refuse k (exists p n) (get_or w (find p n) nan) ∷ cs)
+stops_position k w cs p n h = stops_find k w cs p n (position_found p n h) h.0
+
+pub stops_place : (k : Reason) (cs : List Check) (p : ℕ → Bool) (n : ℕ) {i : ℕ} {y : Float} → (i < n) × (p i ≡ true) × NoneBelow p i → y ≡ of_int binary64 (pos i) → Refused k y ≡ first (refuse k (exists p n) (of_int binary64 (pos (find p n))) ∷ cs)
+stops_place k cs p n h d = stops cs (sym (position_exists p n h)) (d ∙ ap (λ (j : ℕ). of_int binary64 (pos j)) (position_found p n h))
 
 -- every return of a chain: `search chain`, from five checks on `search chain depth 9`
-pub ruleset chain = (refl, passes, stops, ends_sound, passes_told, stops_told, passes_not, stops_not, not_eq, not_ne, eq-eqb, ne_eqb, lt-ltb, le-ltb, passes_find, stops_find, stops_place)
+pub ruleset chain = (refl, passes, stops, ends_sound, passes_told, stops_told, passes_not, stops_not, not_eq, not_ne, eq-eqb, ne_eqb, lt-ltb, le-ltb, stops_position, stops_place)

@@ -1,13 +1,12 @@
 -- The checks of a job, in the order in which they are met (document 01, 'Whoever sends the job', 'Matrix and job together', 'The host'; phi_action.rs,
 -- `validate_combination`, `eta_scaled_columns`, `phi_schedule`). Definitions only.
-use Rattle.std.specs.Prelude.{Bool, true, false, not, ◌||◌, List, [], ◌∷◌, ◌++◌, ℕ, ◌+◌, ◌*◌, ltb, eqb, length, Float}
+use Rattle.std.specs.Prelude.{Bool, true, false, not, ◌||◌, List, [], ◌∷◌, ◌++◌, ℕ, ◌+◌, ◌*◌, ltb, eqb, length, Float, Option, Some, None}
 use Rattle.std.specs.Float.{nan}
 use Rattle.lists.specs.Find.{find, exists, open_find}
 use Rattle.doubles.specs.F64.{◌⊗◌, ◌⋖◌, +0, nat, at, is_finite}
 use Rattle.checks.specs.First.{Check, refuse}
 use Rattle.expmv.specs.Select.{select_s_m, M_MAX}
-use Rattle.expmv.specs.declared.Selected.{Selected}
-use Rattle.expmv.specs.declared.Selected.TheVariants.{NoRow, Row}
+use Rattle.expmv.specs.declared.Row.{Row}
 use Rattle.phi_shift.specs.Plan.{argument, open_plan}
 use Rattle.combination.specs.Combination.{magnitude, gain, eta_of, open_combination}
 use Rattle.checks.specs.declared.Reason.TheVariants.{VectorCount, IndexRange, TauRange, OutputLength, VectorLength, VectorNotFinite, MagnitudeNotFinite, GainNotFinite, ArgumentNotFinite, NoAdmissibleRow, WorkLength, DegreeRange}
@@ -52,9 +51,9 @@ unfoldable pub magnitude_checks : ℕ → List Float → Float → ℕ → Float
 magnitude_checks n f tau d eta =
     refuse MagnitudeNotFinite (not (is_finite (magnitude n f tau d))) (magnitude n f tau d) ∷ refuse GainNotFinite (exists (bad_gain n f tau eta) d) nan ∷ []
 
-abbrev pub no_row : Selected → Bool
-no_row NoRow = true
-no_row (Row s m) = false
+abbrev pub no_row : Option Row → Bool
+no_row None = true
+no_row (Some r) = false
 
 -- the argument not finite, no admissible row up to the degree m_max. (23, the norm negative or not finite, never occurs, and its number is not used again: document 02, N14.)
 unfoldable pub schedule_checks : ℕ → Float → Float → List Check

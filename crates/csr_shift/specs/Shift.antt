@@ -1,14 +1,13 @@
 -- The diagonal shift of the generator: the midpoint of its Gershgorin hull (csr_shift.rs, `csr_row`, `midpoint_shift`; phi_shift.rs,
 -- `negated_csr_shift`). Definitions only.
-use Rattle.std.specs.Prelude.{Bool, not, ◌&&◌, ◌||◌, ℕ, ◌+◌, ◌-◌, eqb, get_or, if◌then◌else◌}
+use Rattle.std.specs.Prelude.{Bool, not, ◌&&◌, ◌||◌, ℕ, ◌+◌, ◌-◌, eqb, get_or, Option, Some, None, if◌then◌else◌}
 use lib.Ieee.{Float, neg, eq, is_nan}
 use Rattle.lists.specs.Loop.{iter}
 use Rattle.lists.specs.Find.{exists, open_find}
 use Rattle.doubles.specs.F64.{◌⊕◌, ◌⊖◌, ◌⊗◌, ◌⋖◌, bits, +0, 1/2f, +∞, at, abs, is_finite, max_num, min_num}
 use Rattle.general_operator.specs.Csr.{Csr, start, open_csr}
 use Rattle.csr_shift.specs.declared.Row.{Row}
-use Rattle.csr_shift.specs.declared.Shift.{Shift}
-use Rattle.csr_shift.specs.declared.Shift.TheVariants.{Unshifted, By}
+use Rattle.csr_shift.specs.declared.Shifted.{Shifted}
 
 abbrev pub -∞ : Float
 -∞ = bits 0xfff0_0000_0000_0000
@@ -50,14 +49,17 @@ shifted_norm rows n mu = iter (λ i a. max_num a (abs ((rows i).diagonal ⊖ mu)
 unfoldable pub worth : Float → Float → Float → Bool
 worth mu norm bound = not (eq mu +0) && (is_finite mu && (is_finite norm && norm ⋖ bound))
 
+abbrev pub by : Float → Float → Shifted
+by mu norm = record { mu = mu; norm = norm }
+
 -- no shift where a row has a NaN, the midpoint is 0 or not finite, or the shifted norm is not strictly below the norm
-unfoldable pub midpoint_shift : (ℕ → Row) → ℕ → Float → Shift
+unfoldable pub midpoint_shift : (ℕ → Row) → ℕ → Float → Option Shifted
 midpoint_shift rows n bound =
     let mu = midpoint rows n in
     let norm = shifted_norm rows n mu in
-    if exists (bad_row rows) n then Unshifted else if worth mu norm bound then By mu norm else Unshifted
+    if exists (bad_row rows) n then None else if worth mu norm bound then Some (by mu norm) else None
 
-unfoldable pub negated_csr_shift : Csr → Float → Shift
+unfoldable pub negated_csr_shift : Csr → Float → Option Shifted
 negated_csr_shift q bound = midpoint_shift (generator_row q) q.n bound
 
 -- to compute: a line `unfolding open_shift` opens every definition of this file and of those below it

@@ -9,14 +9,13 @@ use native.Mathlib.Omega.{arith}
 use lib.Dec.{T}
 use lib.ListN.{length}
 use lib.Ieee.{Float, lt, eq, of_bits}
+use Rattle.std.specs.Prelude.{Option, Some, None}
 use Rattle.lists.specs.Walk.{Turn, on, out}
 use Rattle.lists.specs.Window.{window}
 use Rattle.lists.proofs.Walk.{Kept}
 use Rattle.doubles.specs.F64.{◌⊘◌, ◌⋖◌, +0, 1f}
 use Rattle.vectors.specs.Vectors.{scale}
 use Rattle.pow2.specs.declared.Scale.{Scale}
-use Rattle.pow2.specs.declared.Prescale.{Prescale}
-use Rattle.pow2.specs.declared.Prescale.TheVariants.{By, None}
 use Rattle.gram_schmidt.specs.Basis.{Setting, len, norm2}
 use Rattle.krylov_advance.specs.Run.{State, End, finished, refused, unfinished, substep, empty_report, started, relative_report}
 use Rattle.krylov_advance.proofs.Long.{FieldLong, substep_long}
@@ -165,7 +164,7 @@ module _ (u : Run) where
       go (out (refused k x s)) h = absurd (failed_not_finished h g)
 
   -- ---- a run that ended with a result: the report divides the estimate by the first norm, the output is the field scaled back
-  pub finished_cost : (n M limit : ℕ) (start : List Float) (f : Scale) → u.prescale ≡ By f → Each (λ p. p.m ≡ M) u.settings → length u.settings ≤ limit → (Zeros start → ⊥) → Finished u
+  pub finished_cost : (n M limit : ℕ) (start : List Float) (f : Scale) → u.prescale ≡ Some f → Each (λ p. p.m ≡ M) u.settings → length u.settings ≤ limit → (Zeros start → ⊥) → Finished u
       → KrylovCost n M limit start (window 0 n (scale f.up state_of.y)) u (relative_report state_of.report (norm2 u.field))
   unfolding relative_report relative unscaled norm2
   finished_cost n M limit start f by ms few nonzero h =
@@ -175,7 +174,7 @@ module _ (u : Run) where
         idle = ((λ g. absurd (no_none g)), (λ z. absurd (nonzero z)));
         reached = inr h.reached;
         estimate = ap (λ (e : Float). e ⊘ norm2 u.field) c.estimate ∙ ap (relative (estimate_of u) u.field) (sym by);
-        fields = ap (λ (x : List Float). window 0 n (scale f.up x)) c.field ∙ ap (λ (g : Prescale). window 0 n (unscaled (field_of u) g)) (sym by);
+        fields = ap (λ (x : List Float). window 0 n (scale f.up x)) c.field ∙ ap (λ (g : Option Scale). window 0 n (unscaled (field_of u) g)) (sym by);
       }
     where
       no_none : accepted_by u ≡ [] → ⊥

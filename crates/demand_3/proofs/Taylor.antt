@@ -1,4 +1,5 @@
 -- The Taylor half of demand 3: what an accepted job costs, and when 25 refuses (document 01, 'What demand 3 counts'). Assumes nothing.
+use Rattle.std.specs.Prelude.{Option, Some, None}
 use mathlib.Core.Path.{◌≡◌, refl, sym, ap, ◌∙◌, subst}
 use mathlib.Core.Bool.{Bool, true, false, not, ◌||◌, true≢false}
 use mathlib.Core.List.{List, [], ◌∷◌, ◌++◌}
@@ -24,16 +25,13 @@ use Rattle.general_operator.specs.Csr.{Csr, row_sum_norm}
 use Rattle.general_operator.proofs.Sound.{or_false}
 use Rattle.generator_action.specs.Generator.{Generator}
 use Rattle.expmv.specs.Select.{select_s_m, admissible, degree, quotient}
-use Rattle.expmv.specs.declared.Selected.{Selected}
-use Rattle.expmv.specs.declared.Selected.TheVariants.{NoRow, Row}
+use Rattle.expmv.specs.declared.Row.{Row}
 use Rattle.expmv.proofs.Least as Least
 use Rattle.expmv.proofs.Least.{none_only, none_if}
 use Rattle.pow2.specs.Pow2.{sup, eta_scaling}
 use Rattle.phi_action_helpers.specs.Augmented.{Augmented}
 use Rattle.phi_action_helpers.specs.declared.SweepPlan.{SweepPlan}
 use Rattle.phi_shift.specs.Plan.{argument, sweep_plan, plan_of}
-use Rattle.phi_shift.specs.declared.PlanAnswer.{PlanAnswer}
-use Rattle.phi_shift.specs.declared.PlanAnswer.TheVariants.{NoPlan, Plan}
 use Rattle.phi_shift.proofs.Chosen.{plan_chosen, plan_bounded, chosen_least}
 use Rattle.combination.specs.Call.{Call, unless_refused}
 use Rattle.combination.specs.Combination.{further, eta_of, combination_operator, action_operator}
@@ -64,11 +62,11 @@ unfolding admissible quotient degree
 fits_is cap arg j = refl
 
 module _ (tau : Float) (cap : ℕ) (b : Augmented) (runs : ℕ) (start : ℕ → List Float) (run : SweepPlan → Fields) (made : (p : SweepPlan) → Made b tau runs start p (run p)) where
-  of_plan : (need : ℕ) (output memory : List Float) (x : PlanAnswer) {r : TaylorReport} → sweep_plan cap tau b.matrix (norm_of b) ≡ x → (after_plan need tau (norm_of b) output memory x run).answer ≡ Ok r
+  of_plan : (need : ℕ) (output memory : List Float) (x : Option SweepPlan) {r : TaylorReport} → sweep_plan cap tau b.matrix (norm_of b) ≡ x → (after_plan need tau (norm_of b) output memory x run).answer ≡ Ok r
       → TaylorCost tau cap b runs start (after_plan need tau (norm_of b) output memory x run).output r
   unfolding after_plan argument
-  of_plan need output memory NoPlan e f = let z : zero ≡ 1 = cc in absurd (omega (arith, z))
-  of_plan need output memory (Plan p) e f =
+  of_plan need output memory None e f = let z : zero ≡ 1 = cc in absurd (omega (arith, z))
+  of_plan need output memory (Some p) e f =
       let c = plan_chosen cap tau b.matrix (norm_of b) e in
       subst (TaylorCost tau cap b runs start (run p).fields) (reported f)
       (record { planned = e; capped = (plan_bounded cap tau b.matrix (norm_of b) e).m_allowed; chosen = c; least = λ j l e. chosen_least c j l (fits_is cap _ j ∙ e); applications = (made p).applications; counted = (made p).counted; fields = (made p).fields })
@@ -100,22 +98,22 @@ argument_nonneg tau norm e f g =
     let n = in_range norm f in
     mul_nonneg (tau ⊗ norm ⊕ 2f) 2f (add_nonneg (tau ⊗ norm) 2f (mul_nonneg tau norm t.1 n.1 (mul_number tau norm t.0 n.0)) two_nonneg) two_nonneg (finite_number _ g)
 
-row_none : (s : Selected) → no_row s ≡ true → s ≡ NoRow
-row_none NoRow e = refl
-row_none (Row s m) e = absurd (true≢false (sym e))
+row_none : (s : Option Row) → no_row s ≡ true → s ≡ None
+row_none None e = refl
+row_none (Some r) e = absurd (true≢false (sym e))
 
 none_fits : (cap : ℕ) (arg : Float) → T (is_finite arg) → T (+0 ⩽ arg) → Least.Refused cap arg → (j : ℕ) → j < 22 → admissible cap arg j ≡ false
 none_fits cap arg f g (Least.not_finite e) = absurd (true≢false (sym (is_true (is_finite arg) f) ∙ e))
 none_fits cap arg f g (Least.below_zero e) = absurd (⋖_not arg +0 (holds e) g)
 none_fits cap arg f g (Least.no_row h) = h
 
-has_plan : (tau : Float) (cap : ℕ) (q : Csr) (norm : Float) → no_row (select_s_m cap (argument tau norm)) ≡ false → sweep_plan cap tau q norm ≡ NoPlan → zero ≡ 1
+has_plan : (tau : Float) (cap : ℕ) (q : Csr) (norm : Float) → no_row (select_s_m cap (argument tau norm)) ≡ false → sweep_plan cap tau q norm ≡ None → zero ≡ 1
 unfolding sweep_plan plan_of
 has_plan tau cap q norm h e = go (select_s_m cap (argument tau norm)) h e
   where
-    go : (r : Selected) → no_row r ≡ false → plan_of cap tau q norm r ≡ NoPlan → zero ≡ 1
-    go NoRow h e = cc
-    go (Row s m) h e = cc
+    go : (r : Option Row) → no_row r ≡ false → plan_of cap tau q norm r ≡ None → zero ≡ 1
+    go None h e = cc
+    go (Some r) h e = cc
 
 -- the checks of a job: before tau's, between tau's and those of the schedule
 module _ (gs xs ys : List Check) (tau : Float) (cap : ℕ) (norm : Float) (memory need : ℕ) where
@@ -198,10 +196,10 @@ module _ (gs xs ys : List Check) (tau : Float) (cap : ℕ) (norm : Float) (memor
       abbrev call : Checked → Call TaylorAnswer
       call c = unless_refused Refused c output lent (after_plan need tau norm output lent (sweep_plan cap tau q norm) run)
 
-      has_run : (x : PlanAnswer) {k : Reason} {y : Float} → (x ≡ NoPlan → zero ≡ 1) → (after_plan need tau norm output lent x run).answer ≡ Refused k y → ⊥
+      has_run : (x : Option SweepPlan) {k : Reason} {y : Float} → (x ≡ None → zero ≡ 1) → (after_plan need tau norm output lent x run).answer ≡ Refused k y → ⊥
       unfolding after_plan
-      has_run NoPlan h e = absurd (omega (arith, h refl))
-      has_run (Plan p) h e = let z : zero ≡ 1 = cc in absurd (omega (arith, z))
+      has_run None h e = absurd (omega (arith, h refl))
+      has_run (Some p) h e = let z : zero ≡ 1 = cc in absurd (omega (arith, z))
 
       refusal_of : (c : Checked) {j : Reason} {x : Float} → c ≡ first in_order → (call c).answer ≡ Refused j x → Refused j x ≡ first in_order
       unfolding unless_refused

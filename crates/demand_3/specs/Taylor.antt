@@ -1,4 +1,5 @@
 -- The Taylor half of demand 3: what an accepted job did, and when 25 refuses (document 01, 'What demand 3 counts'). Definitions only.
+use Rattle.std.specs.Prelude.{Some}
 use Rattle.std.specs.Prelude.{◌≡◌, ◌⊎◌, Bool, true, false, ◌&&◌, List, [], ◌∷◌, ℕ, ◌*◌, ◌^◌, ◌≤◌, ◌<◌, leb, length, get_or, Float, if◌then◌else◌}
 use Rattle.std.specs.Float.{nan, binary64}
 use Rattle.std.specs.Float.Ieee.{round, to_unsigned}
@@ -12,7 +13,6 @@ use Rattle.expmv.specs.Select.{degrees, thetas, admissible, sweeps, cost}
 use Rattle.phi_action_helpers.specs.Augmented.{Augmented}
 use Rattle.phi_action_helpers.specs.declared.SweepPlan.{SweepPlan}
 use Rattle.phi_shift.specs.Plan.{plan, sweep_plan, Chosen}
-use Rattle.phi_shift.specs.declared.PlanAnswer.TheVariants.{Plan}
 use Rattle.combination.specs.Call.{Call}
 use Rattle.taylor_job.specs.declared.TaylorReport.{TaylorReport}
 use Rattle.taylor_job.specs.Calls.{TaylorAnswer}
@@ -62,7 +62,7 @@ plan_in r = plan r.s r.m r.mu
 -- output what it left
 pub record TaylorCost (tau : Float) (cap : ℕ) (b : Augmented) (runs : ℕ) (start : ℕ → List Float) (output : List Float) (r : TaylorReport) : Type 0 where
   -- s, m and mu are the plan's: the first row of least cost up to the cap, and no admissible row costs less
-  pub planned : sweep_plan cap tau b.matrix (norm_of b) ≡ Plan (plan_in r)
+  pub planned : sweep_plan cap tau b.matrix (norm_of b) ≡ Some (plan_in r)
   pub capped : r.m ≤ cap
   pub chosen : Chosen cap tau b.matrix (norm_of b) (plan_in r)
   pub least : (j : ℕ) → j < 22 → row_fits cap (asked tau (norm_of b)) j ≡ true → r.s * r.m ≤ cost (asked tau (norm_of b)) j

@@ -1,14 +1,13 @@
 -- What a Krylov run did: its accepted substeps one by one, and every length tried (document 01, 'What demand 3 counts'). A substep has its own setting, since matrix,
 -- tau, vectors and tol of a paused run may change at each (document 02, N5); a whole call's run has the same for all. Definitions only.
-use Rattle.std.specs.Prelude.{List, [], ◌∷◌, ◌++◌, map, ℕ, zero, suc, ◌+◌, length, replicate, Float}
+use Rattle.std.specs.Prelude.{List, [], ◌∷◌, ◌++◌, map, ℕ, zero, suc, ◌+◌, length, replicate, Option, Some, None, Float}
 use Rattle.lists.specs.Walk.{Turn, on, out}
 use Rattle.doubles.specs.F64.{◌⊕◌, ◌⊖◌, ◌⊗◌, ◌⊘◌, +0, 1f, min_num, max_num}
 use Rattle.sqrt.specs.Sqrt.{sqrt}
 use Rattle.vectors.specs.Vectors.{scale}
 use Rattle.dot.specs.Dot.{dot}
+use Rattle.pow2.specs.declared.Scale.{Scale}
 use Rattle.pow2.specs.Pow2.{pow2_scale}
-use Rattle.pow2.specs.declared.Prescale.{Prescale}
-use Rattle.pow2.specs.declared.Prescale.TheVariants.{By, None}
 use Rattle.phi_action_helpers.specs.Augmented.{Augmented}
 use Rattle.gram_schmidt.specs.Basis.{Setting, Basis, breakdown, full, norm2, apply, arnoldi}
 use Rattle.trial_steps.specs.Trials.{Trying, Tried, accepted, stuck, try_step, trials}
@@ -105,32 +104,32 @@ pub record Run : Type 0 where
   pub first : Setting
   pub settings : List Setting
   pub field : List Float
-  pub prescale : Prescale
+  pub prescale : Option Scale
 
 -- ---- `expv`
 
 -- the n + d values scaled by a power of two; zeros as they are
-unfoldable pub scaled : List Float → Prescale → List Float
+unfoldable pub scaled : List Float → Option Scale → List Float
 scaled y None = y
-scaled y (By f) = scale f.down y
+scaled y (Some f) = scale f.down y
 
 -- and back
-unfoldable pub unscaled : List Float → Prescale → List Float
+unfoldable pub unscaled : List Float → Option Scale → List Float
 unscaled y None = y
-unscaled y (By f) = scale f.up y
+unscaled y (Some f) = scale f.up y
 
 -- the estimate that a result tells, e divided by the norm of the field y; of zeros as it is
-unfoldable pub relative : Float → List Float → Prescale → Float
+unfoldable pub relative : Float → List Float → Option Scale → Float
 relative e y None = e
-relative e y (By f) = e ⊘ sqrt (dot y y)
+relative e y (Some f) = e ⊘ sqrt (dot y y)
 
 -- a start whose values are all zeros takes no substep
-unfoldable pub allowed : ℕ → Prescale → ℕ
+unfoldable pub allowed : ℕ → Option Scale → ℕ
 allowed limit None = 0
-allowed limit (By f) = limit
+allowed limit (Some f) = limit
 
 -- its run by the factors (phi_krylov_arnoldi.rs, `expv`): tol times the first norm, M, the limit
-unfoldable pub run_by : Augmented → Float → Float → Float → ℕ → ℕ → List Float → Prescale → Run
+unfoldable pub run_by : Augmented → Float → Float → Float → ℕ → ℕ → List Float → Option Scale → Run
 run_by b tau anorm tol m limit y f =
     let p = setting b tau anorm (tol ⊗ norm2 (scaled y f)) (clamp_m m (length y)) in
     record { first = p; settings = replicate (allowed limit f) p; field = scaled y f; prescale = f }

@@ -12,14 +12,12 @@ fn matmul(a: f64, b: f64) -> f64
 }
 
 // The largest column sum of |c h|.
+#[tactic(auto, using(doubles::proofs::Library::abs_is), unfolding(crate::specs::DenseExp::norm))]
 fn norm(c: f64) -> f64
     ensures { result ≡ norm c }
 {
-    let sum = 0.0 + float::abs(c * 1.0);
-    if sum > 0.0 {
-        return sum;
-    }
-    0.0
+    let sum = 0.0 + (c * 1.0).abs();
+    if sum > 0.0 { sum } else { 0.0 }
 }
 
 // How often the scale is halved, and what it is then.
@@ -35,13 +33,10 @@ fn halvings(norm: f64) -> Scaling
     let mut squarings = 0u32;
     let mut scale = 1.0;
     while norm * scale > 0.5 && squarings < 1100 {
-        scale = scale * 0.5;
+        scale *= 0.5;
         squarings += 1;
     }
-    Scaling {
-        squarings: squarings,
-        scale: scale,
-    }
+    Scaling { squarings, scale }
 }
 
 // The terms of the series of e ^ a up to a ^ 18 / 18!, added up.
@@ -50,12 +45,9 @@ fn series(a: f64) -> f64
 {
     let mut result = 1.0;
     let mut term = 1.0;
-    for k in 0..18u32 {
-        let d = k + 1;
-        term = matmul(term, a);
-        let inv = 1.0 / (d as f64);
-        term = term * inv;
-        result = result + term;
+    for d in 1..=18u32 {
+        term = matmul(term, a) * (1.0 / d as f64);
+        result += term;
     }
     result
 }

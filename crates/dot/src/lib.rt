@@ -19,8 +19,8 @@ fn tail(x: &[f64], y: &[f64], b: usize, n: usize) -> f64
     ensures { result ≡ tail b x.now y.now n }
 {
     let mut s = 0.0;
-    for j in 0..n {
-        s = s + term(x, y, b + j);
+    for (u, v) in x[b..b + n].iter().zip(&y[b..b + n]) {
+        s = s + *u * *v;
     }
     s
 }
@@ -34,29 +34,21 @@ pub struct Lanes {
     pub acc3: f64,
 }
 
-// The partial sums over `count` blocks of four more.
+// The partial sums over `count` blocks of four more. By index: two lines cut the parts that `chunks_exact(4)` would take the blocks of.
 pub fn add_blocks(x: &[f64], y: &[f64], from: usize, count: usize, acc: Lanes) -> Lanes
     requires count_in_bounds { (4 * (from + count) ≤ length x.now) × (4 * (from + count) ≤ length y.now) }
     requires acc_value { acc ≡ lanes x.now y.now from }
     ensures { result ≡ lanes x.now y.now (from + count) }
 {
-    let mut acc0 = acc.acc0;
-    let mut acc1 = acc.acc1;
-    let mut acc2 = acc.acc2;
-    let mut acc3 = acc.acc3;
+    let mut acc = acc;
     for j in 0..count {
         let k = 4 * (from + j);
-        acc0 = acc0 + term(x, y, k);
-        acc1 = acc1 + term(x, y, k + 1);
-        acc2 = acc2 + term(x, y, k + 2);
-        acc3 = acc3 + term(x, y, k + 3);
+        acc.acc0 = acc.acc0 + term(x, y, k);
+        acc.acc1 = acc.acc1 + term(x, y, k + 1);
+        acc.acc2 = acc.acc2 + term(x, y, k + 2);
+        acc.acc3 = acc.acc3 + term(x, y, k + 3);
     }
-    Lanes {
-        acc0: acc0,
-        acc1: acc1,
-        acc2: acc2,
-        acc3: acc3,
-    }
+    acc
 }
 
 // The partial sums of no block.

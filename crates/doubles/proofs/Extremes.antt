@@ -1,6 +1,6 @@
 -- `replaced`, of which the maximum and the minimum are made. Assumes nothing.
 use Rattle.std.specs.Prelude.{if◌then◌else◌}
-use mathlib.Core.Path.{◌≡◌, refl, sym, ap, ◌∙◌, subst}
+use mathlib.Core.Path.{◌≡◌, refl, sym, ◌∙◌, subst}
 use mathlib.Core.Bool.{Bool, true, false, not, true≢false}
 use mathlib.Core.Logic.{◌⊎◌, inl, inr}
 use lib.Dec.{T}
@@ -8,12 +8,13 @@ use lib.Ieee.{Float, nan, inf, fin, ne, lt, is_nan}
 use lib.Ieee.Bits.{is_true}
 use lib.Ieee.Compare.{nan_differs}
 use Rattle.doubles.specs.F64.{◌⩽◌, ◌⋖◌, abs, is_finite, nonneg, replaced, min_num, max_num}
-use Rattle.doubles.proofs.Magnitude.{nan_of_ne}
 use Rattle.doubles.proofs.Total.{⩽_or_⋖, ⋖_⩽}
 
-pub where_nan : (x y : Float) (b : Bool) → ne x x ≡ true → y ≡ replaced x y b
-unfolding replaced
-where_nan x y b e = sym (ap (λ (z : Float). replaced z y b) (nan_of_ne x e))
+pub where_nan : (x y : Float) (b : Bool) → true ≡ is_nan x → y ≡ replaced x y b
+unfolding replaced is_nan
+where_nan nan y b e = refl
+where_nan (inf s) y b e = absurd (true≢false e)
+where_nan (fin s m d) y b e = absurd (true≢false e)
 
 pub where_told : (x y : Float) (b : Bool) → b ≡ true → y ≡ replaced x y b
 unfolding replaced
@@ -26,6 +27,12 @@ unfolding replaced
 where_not nan y b n e = absurd (true≢false (sym nan_differs ∙ n))
 where_not (inf s) y b n e = rw e
 where_not (fin s m d) y b n e = rw e
+
+pub where_number : (x y : Float) (b : Bool) → false ≡ is_nan x → b ≡ false → x ≡ replaced x y b
+unfolding replaced is_nan
+where_number nan y b n e = absurd (true≢false (sym n))
+where_number (inf s) y b n e = rw e
+where_number (fin s m d) y b n e = rw e
 
 pub replaced_finite : (x y : Float) (b : Bool) → is_finite x ≡ true → is_finite y ≡ true → is_finite (replaced x y b) ≡ true
 unfolding replaced

@@ -27,3 +27,4 @@ pub mod KeptDigits
 pub mod Scaled
 pub mod ScaledOrder
 pub mod PowerOfTwo
+pub mod Library

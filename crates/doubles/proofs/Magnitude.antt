@@ -5,9 +5,9 @@ use native.Mathlib.Nat.{add-mod_left, zero-add, mod-eq_of_lt, lt_of_not-le, add_
 use native.Mathlib.Omega.{arith}
 use mathlib.Core.Bool.{Bool, true, false, not, cond, true≢false}
 use lib.IntN.{ℤ}
-use lib.Dec.{T, ltb, eqb, lt→ltb}
-use lib.Ieee.{Float, nan, inf, fin, binary64, up, down, size, ne, of_fields, of_bits, to_bits, nan_bits, fits, is_nan}
-use lib.Ieee.Bits.{is_true, of_bits-to_bits, to_bits-lt, nan_bits_is}
+use lib.Dec.{T, eqb}
+use lib.Ieee.{Float, nan, inf, fin, binary64, up, down, size, ne, of_fields, of_bits, to_bits, fits, is_nan}
+use lib.Ieee.Bits.{of_bits-to_bits, to_bits-lt}
 use lib.Ieee.Compare.{differs_from_itself, nan_differs}
 use Rattle.doubles.specs.F64.{abs, is_finite}
 use Rattle.doubles.proofs.Patterns.{positive_fields}
@@ -82,20 +82,6 @@ bits_abs (fin false m e) f n =
     ∙ sym (zero-add (rest m e))
     ∙ sym (bits_fin false m e)
 
-abs_no_nan : (x : Float) → T (not (is_nan x)) → T (not (is_nan (abs x)))
-unfolding is_nan
-abs_no_nan nan n = n
-abs_no_nan (inf s) n = tt
-abs_no_nan (fin s m e) n = tt
-
-pub cleared_is : (x : Float) → T (fits binary64 x) → T (not (is_nan x)) → of_bits binary64 (to_bits binary64 x % 9223372036854775808) ≡ abs x
-cleared_is x f n = ap (of_bits binary64) (bits_abs x f n) ∙ of_bits-to_bits binary64 (abs x) (abs_fits x f)
-
-pub cleared_no_nan : (x : Float) → T (fits binary64 x) → T (not (is_nan x)) → T (not (nan_bits binary64 (to_bits binary64 x % 9223372036854775808)))
-cleared_no_nan x f n =
-    subst (λ (b : Bool). T (not b)) (sym (nan_bits_is binary64 (to_bits binary64 x % 9223372036854775808)))
-    (subst (λ (v : Float). T (not (is_nan v))) (sym (cleared_is x f n)) (abs_no_nan x n))
-
 -- ---- a finite magnitude's pattern is below the infinity's
 at_top : (b : ℕ) → 9218868437227405312 ≤ b → b < 9223372036854775808 → b / 4503599627370496 ≡ 2047
 at_top b h k = omega arith
@@ -122,14 +108,3 @@ finite_bits (fin s m e) f h = lt_of_not-le (λ (g : 9218868437227405312 ≤ b).
 
     back : of_bits binary64 b ≡ fin false m e
     back = of_bits-to_bits binary64 (fin false m e) (flip_fits s false m e f)
-
-pub inf_bits : to_bits binary64 (inf false) ≡ 9218868437227405312
-unfolding to_bits
-inf_bits = refl
-
-pub finite_test : (x : Float) → T (fits binary64 x) → T (not (is_nan x)) → ltb (to_bits binary64 x % 9223372036854775808) 9218868437227405312 ≡ is_finite x
-unfolding is_nan
-finite_test nan f n = absurd n
-finite_test (inf s) f n = ap (λ (z : ℕ). ltb z 9218868437227405312) (bits_abs (inf s) f n ∙ inf_bits)
-finite_test (fin s m e) f n =
-    ap (λ (z : ℕ). ltb z 9218868437227405312) (bits_abs (fin s m e) f n) ∙ is_true (ltb (to_bits binary64 (fin false m e)) 9218868437227405312) (lt→ltb (to_bits binary64 (fin false m e)) 9218868437227405312 (finite_bits (fin s m e) f tt))

@@ -1,11 +1,15 @@
 -- A loop that sums, turn by turn. Assumes nothing.
 use mathlib.Core.Path.{◌≡◌, refl, sym, ◌∙◌}
-use Prim.Native.Nat.{ℕ, zero, suc, ◌+◌, ◌<◌}
+use Prim.Native.Nat.{ℕ, zero, suc, ◌+◌, ◌-◌, ◌≤◌, ◌<◌}
 use native.Mathlib.Omega.{arith}
-use lib.Ieee.{Float}
+use mathlib.Core.List.{List}
+use lib.Ieee.{Float, nan}
+use lib.ListN.{length}
+use Rattle.std.specs.List.{fold, slice_range}
 use Rattle.lists.specs.Loop.{iter}
 use Rattle.lists.proofs.Loop.{iter_none, iter_next}
-use Rattle.doubles.specs.F64.{◌⊕◌, +0}
+use Rattle.lists.proofs.Positions.{fold_range}
+use Rattle.doubles.specs.F64.{◌⊕◌, +0, at}
 use Rattle.doubles.specs.Sum.{sum}
 
 pub sum_none : (f : ℕ → Float) → sum 0 f ≡ +0
@@ -25,3 +29,8 @@ pub sum_ext : (n : ℕ) (f g : ℕ → Float) → ((k : ℕ) → k < n → f k �
 unfolding sum iter
 sum_ext zero f g h = refl
 sum_ext (suc n) f g h = λ i. sum_ext n f g (λ k l. h k (omega arith)) i ⊕ h n (omega arith) i
+
+-- a fold over `xs[from..to]`
+pub sum_range : (g : Float → Float) (xs : List Float) (from to : ℕ) → from ≤ to → to ≤ length xs → fold (λ s x. s ⊕ g x) +0 (slice_range xs from to) ≡ sum (to - from) (λ k. g (at xs (from + k)))
+unfolding sum
+sum_range g xs from to h l = fold_range (λ (s x : Float). s ⊕ g x) +0 xs from to nan h l

@@ -3,7 +3,5 @@
 
 // +infinity: the patterns below it are the finite numbers whose sign is clear.
 pub const INF_BITS: u64 = 0x7ff0_0000_0000_0000;
-// The sign alone: a pattern modulo this has the sign clear.
-pub const SIGN_BIT: u64 = 0x8000_0000_0000_0000;
 // 1.0
 pub const ONE_BITS: u64 = 0x3ff0_0000_0000_0000;

@@ -1,17 +1,27 @@
--- The 22 rows: a degree is from 1 to 30, and the s of an admissible row is a `u32` that is not 0. Assumes nothing.
+-- The 22 rows: the code's table; a degree is from 1 to 30, and the s of an admissible row is a `u32` that is not 0. Assumes nothing.
 use mathlib.Core.Path.{◌≡◌, refl, sym}
 use mathlib.Core.Bool.{Bool, true, false, ◌&&◌, true≢false, cond}
 use mathlib.Core.List.{List, [], ◌∷◌}
 use Prim.Native.Nat.{ℕ, zero, suc, ◌≤◌, ◌<◌}
 use native.Mathlib.Nat.{le_refl, not-suc-le-zero, le_of_suc-le-suc}
 use lib.Dec.{T, leb, leb→le, lit≤}
-use lib.Ieee.{Float, nan}
+use lib.Ieee.{Float, nan, round, of_bits}
 use lib.Ieee.Fits.{and_l, and_r}
-use lib.ListN.{get_or, length}
+use lib.ListN.{get_or, length, get_or-map}
 use borrow.Author.Tests.{leb-true}
 use Rattle.doubles.specs.F64.{◌⊘◌, ◌⋖◌, ◌⩽◌, nat, 1f}
-use Rattle.expmv.specs.Select.{degrees, thetas, degree, quotient, admissible, sweeps}
+use Rattle.expmv.specs.declared.TheConstants.{TABLE}
+use Rattle.expmv.specs.Select.{degrees, decimal, thetas, degree, quotient, admissible, sweeps}
 use Rattle.expmv.proofs.Counted.{counted}
+
+-- the code's table is `degrees` and `thetas`: antt computes each entry, and compares them
+pub table_degree : (i : ℕ) → (get_or TABLE i (0, nan)).0 ≡ degree i
+unfolding degrees degree
+table_degree i = sym (get_or-map (λ (p : ℕ × Float). p.0) TABLE i (0, nan))
+
+pub table_theta : (i : ℕ) → (get_or TABLE i (0, nan)).1 ≡ get_or thetas i nan
+unfolding thetas decimal round of_bits
+table_theta i = sym (get_or-map (λ (p : ℕ × Float). p.1) TABLE i (0, nan))
 
 -- every number of a list is from a to b
 abbrev within : ℕ → ℕ → List ℕ → Bool

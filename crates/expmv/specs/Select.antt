@@ -1,12 +1,11 @@
 -- `select_s_m` over `THETA_M` (expmv.rs; Al-Mohy and Higham 2011, Table 3.1 and Algorithm 3.2). Definitions only.
-use Rattle.std.specs.Prelude.{Bool, true, false, not, ◌&&◌, ◌≡◌, List, [], ◌∷◌, ℕ, ◌*◌, ◌^◌, ◌≤◌, ◌<◌, leb, ltb, get_or, Float, if◌then◌else◌}
+use Rattle.std.specs.Prelude.{Bool, true, false, not, ◌&&◌, ◌≡◌, List, [], ◌∷◌, ℕ, ◌*◌, ◌^◌, ◌≤◌, ◌<◌, leb, ltb, get_or, Float, Option, Some, None, if◌then◌else◌}
 use Rattle.std.specs.Float.{nan, binary64}
 use Rattle.std.specs.Float.Ieee.{round, to_unsigned}
 use Rattle.lists.specs.Loop.{iter, open_loop}
 use Rattle.doubles.specs.F64.{◌⊘◌, ◌⋖◌, ◌⩽◌, nat, +0, 1f, is_finite, open_f64}
 use Rattle.doubles.specs.Whole.{ceil, open_whole}
-use Rattle.expmv.specs.declared.Selected.{Selected}
-use Rattle.expmv.specs.declared.Selected.TheVariants.{NoRow, Row}
+use Rattle.expmv.specs.declared.Row.{Row}
 
 -- `THETA_M`: 22 degrees
 unfoldable pub degrees : List ℕ
@@ -48,17 +47,25 @@ sweeps arg i = if quotient arg i ⋖ 1f then 1 else to_unsigned 32 (quotient arg
 unfoldable pub cost : Float → ℕ → ℕ
 cost arg i = sweeps arg i * degree i
 
--- the cheaper of s * m and what was found before; at equal cost the earlier
-unfoldable pub cheaper : ℕ → ℕ → Selected → Selected
-cheaper s m NoRow = Row s m
-cheaper s m (Row s₀ m₀) = if ltb (s * m) (s₀ * m₀) then Row s m else Row s₀ m₀
+-- s sweeps of degree m
+abbrev pub row : ℕ → ℕ → Row
+row s m = record { s = s; m = m }
 
-unfoldable pub consider : ℕ → Float → ℕ → Selected → Selected
-consider m_max arg i best = if admissible m_max arg i then cheaper (sweeps arg i) (degree i) best else best
+-- row i, if it is admissible
+unfoldable pub row_at : ℕ → Float → ℕ → Option Row
+row_at m_max arg i = if admissible m_max arg i then Some (row (sweeps arg i) (degree i)) else None
+
+-- the cheaper of a row and what was found before; at equal cost the earlier
+unfoldable pub cheaper : Row → Option Row → Row
+cheaper r None = r
+cheaper r (Some r₀) = if ltb (r.s * r.m) (r₀.s * r₀.m) then r else r₀
+
+unfoldable pub consider : ℕ → Float → ℕ → Option Row → Option Row
+consider m_max arg i best = if admissible m_max arg i then Some (cheaper (row (sweeps arg i) (degree i)) best) else best
 
 -- the first admissible row of least cost; none for an argument that is negative or not finite
-unfoldable pub select_s_m : ℕ → Float → Selected
-select_s_m m_max arg = if is_finite arg && not (arg ⋖ +0) then iter (consider m_max arg) 22 NoRow else NoRow
+unfoldable pub select_s_m : ℕ → Float → Option Row
+select_s_m m_max arg = if is_finite arg && not (arg ⋖ +0) then iter (consider m_max arg) 22 None else None
 
 -- row i is the first of least cost among the admissible rows below n, and s and m are its
 pub record Least (m_max : ℕ) (arg : Float) (n s m i : ℕ) : Type 0 where
@@ -79,5 +86,5 @@ pub record Bounds (m_max s m : ℕ) : Type 0 where
 
 -- to compute: a line `unfolding open_select` opens every definition of this file and of those below it
 unfoldable pub open_select : Unit {0}
-unfolding degrees decimal thetas degree quotient admissible sweeps cost cheaper consider select_s_m open_whole open_f64 open_loop
+unfolding degrees decimal thetas degree quotient admissible sweeps cost row_at cheaper consider select_s_m open_whole open_f64 open_loop
 open_select = tt

@@ -1,5 +1,5 @@
 -- A start and a step as they are told. Assumes nothing.
-use Rattle.std.specs.Prelude.{if◌then◌else◌}
+use Rattle.std.specs.Prelude.{if◌then◌else◌, Option}
 use mathlib.Core.Path.{◌≡◌, refl, ap, ◌∙◌}
 use mathlib.Core.Bool.{Bool, true, false, not}
 use mathlib.Core.List.{List, [], ◌∷◌, ◌++◌, append_assoc}
@@ -24,7 +24,6 @@ use Rattle.krylov_job.specs.KrylovCall.{krylov_checks, krylov_checks_by}
 use Rattle.krylov_job.specs.declared.KrylovPhiOptions.{KrylovPhiOptions}
 use Rattle.paused_run.specs.Paused.{Job, Input, PausedCall, leaves, rows, degree, field_checks, start_checks, StartAnswer, start_unless, start, StepAnswer, step}
 use Rattle.paused_run.specs.declared.PausedRun.{PausedRun}
-use Rattle.paused_run.specs.declared.Tolerance.{Tolerance}
 use Rattle.exports_paused.specs.Told.{fits, run_of, State, told, start_state, step_state, state_checks, start_told, step_told}
 use Rattle.checks.specs.Reasons.{Sound, Refused}
 use Rattle.std.specs.Prelude.{Ok, Err}
@@ -159,7 +158,7 @@ some_rows a mass tau count w o output memory e =
     rw (quotients_rows a mass) (shape_sound _ _ _ _ (sound_append _ _ m).0).some
 
 -- ---- a step
-pub told_step : (i : Input) (field numbers : List Float) (counts : List ℕ) {r : PausedRun} {t : Tolerance} {answer : StepAnswer} {st : State} {out₁ w₁ field₁ : List Float} → r ≡ run_of numbers counts → t ≡ i.tolerance
+pub told_step : (i : Input) (field numbers : List Float) (counts : List ℕ) {r : PausedRun} {t : Option Float} {answer : StepAnswer} {st : State} {out₁ w₁ field₁ : List Float} → r ≡ run_of numbers counts → t ≡ i.tolerance
     → leaves answer out₁ w₁ field₁ ≡ step r field (record { tolerance = t; job = i.job; output = i.output; memory = i.memory })
     → st ≡ step_state answer numbers counts
     → told st out₁ w₁ field₁ ≡ step_told i field numbers counts

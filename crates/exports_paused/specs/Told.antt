@@ -1,5 +1,5 @@
 -- A paused run as ten doubles and eight numbers, and a start and a step as an exported function hands them back (document 02, N5). Definitions only.
-use Rattle.std.specs.Prelude.{Bool, true, false, not, ◌&&◌, List, [], ◌∷◌, ◌++◌, ℕ, eqb, ltb, length, get_or, Float, if◌then◌else◌}
+use Rattle.std.specs.Prelude.{Bool, true, false, not, ◌&&◌, List, [], ◌∷◌, ◌++◌, ℕ, eqb, ltb, length, get_or, Float, if◌then◌else◌, Option, Some, None}
 use Rattle.std.specs.Float.{nan}
 use Rattle.doubles.specs.F64.{+0, 1f, at}
 use Rattle.checks.specs.First.{Check, refuse, first}
@@ -7,8 +7,6 @@ use Rattle.krylov_advance.specs.Run.{empty_report}
 use Rattle.krylov_job.specs.declared.KrylovPhiOptions.{KrylovPhiOptions}
 use Rattle.paused_run.specs.Paused.{Job, Input, start_checks, start_unless, step}
 use Rattle.paused_run.specs.declared.PausedRun.{PausedRun}
-use Rattle.paused_run.specs.declared.Tolerance.{Tolerance}
-use Rattle.paused_run.specs.declared.Tolerance.TheVariants.{Same, New}
 use Rattle.paused_run.specs.Paused.{StartAnswer}
 use Rattle.paused_run.specs.Paused.{StepAnswer}
 use Rattle.std.specs.Prelude.{Ok, Err}
@@ -137,9 +135,9 @@ start_told o j output memory field numbers counts =
     told (start_state c.answer numbers counts) c.output c.memory c.field
 
 -- a new tol or none
-abbrev pub tolerance : Bool → Float → Tolerance
-tolerance true tol = New tol
-tolerance false tol = Same
+abbrev pub tolerance : Bool → Float → Option Float
+tolerance true tol = Some tol
+tolerance false tol = None
 
 unfoldable pub step_told : Input → List Float → List Float → List ℕ → Told
 step_told i field numbers counts =

@@ -10,7 +10,7 @@ ghost use Rattle.exports_paused.specs.Told.{numbers_of, flag, counts_of, fits, h
 
 use checks::Refusal;
 use krylov_advance::KrylovPhiReport;
-use paused_run::{PausedRun, StepRefusal, Tolerance};
+use paused_run::{PausedRun, StepRefusal};
 use pow2::Scale;
 
 // Whether the slices of a state have its lengths.
@@ -244,13 +244,10 @@ pub fn hazhendu_krylov_start(
     start_state(answer, numbers, counts, value)
 }
 
-pub fn tolerance(with_tol: bool, tol: f64) -> Tolerance
+pub fn tolerance(with_tol: bool, tol: f64) -> Option<f64>
     ensures { result ≡ tolerance with_tol tol }
 {
-    if with_tol {
-        return Tolerance::New(tol);
-    }
-    Tolerance::Same
+    with_tol.then_some(tol)
 }
 
 // `paused_step::step`, told by `step_state`.

@@ -11,6 +11,7 @@ use lib.Dec.{eqb, ltb}
 use lib.ListN.{length}
 use lib.Ieee.{Float, nan}
 use borrow.Author.Tests.{ltb-true, ltb-false, ne_eqb, eqb-true, not-false}
+use Rattle.std.specs.Prelude.{Option}
 use Rattle.doubles.specs.F64.{nat}
 use Rattle.checks.specs.First.{Check, refuse, first, Checked, same, before}
 use Rattle.checks.proofs.First.{and_then, first_append, sound_append, sound_cons}
@@ -27,7 +28,6 @@ use Rattle.krylov_job.specs.KrylovCall.{bound, dimension, option_checks, bound_c
 use Rattle.krylov_job.specs.declared.KrylovPhiOptions.{KrylovPhiOptions}
 use Rattle.paused_run.specs.Paused.{Job, rows, degree, field_checks, start_checks, start_unless, over, other_checks, step_checks, options_in, tol_in, step_unless, step}
 use Rattle.paused_run.specs.declared.PausedRun.{PausedRun}
-use Rattle.paused_run.specs.declared.Tolerance.{Tolerance}
 use Rattle.answers.specs.Told.{options}
 use Rattle.exports_paused.proofs.Slices.{fitting}
 use Rattle.exports_paused.specs.Told.{fits, run_of, no_run, ran, told, state, start_state, step_state, state_checks, start_told, step_told, tolerance}
@@ -55,7 +55,7 @@ not_27 a none = (refl, refl, refl)
 not_27 a (some mass) = (refl, refl, refl)
 
 -- what stands behind those of the matrix
-abbrev behind_matrix : PausedRun → ℕ → Tolerance → Job → List Float → List Float → List Check
+abbrev behind_matrix : PausedRun → ℕ → Option Float → Job → List Float → List Float → List Check
 behind_matrix s field t j output memory =
     let n = j.g.matrix.n in
     let d = j.count - 1 in
@@ -64,12 +64,12 @@ behind_matrix s field t j output memory =
     ++ (option_checks (options_in s (tol_in t s)) M
     ++ run_checks n j.tau d (further n j.w) s.eta (bound j.tau (row_sum_norm j.g.matrix)) (length memory) (krylov_need n d M j.g.stored))
 
-step_on : (s : PausedRun) (field : ℕ) (t : Tolerance) (j : Job) (output memory : List Float)
+step_on : (s : PausedRun) (field : ℕ) (t : Option Float) (j : Job) (output memory : List Float)
     → step_checks s field (record { tolerance = t; job = j; output = output; memory = memory }) ≡ refuse RunEnded (over s) nan ∷ (j.g.checks ++ (behind_matrix s field t j output memory ++ field_checks field (rows j + degree j)))
 unfolding step_checks krylov_checks_by
 step_on s field t j output memory = ap (λ (l : List Check). refuse RunEnded (over s) nan ∷ l) (append_assoc j.g.checks (behind_matrix s field t j output memory) (field_checks field (rows j + degree j)))
 
-behind_27 : (s : PausedRun) (field : ℕ) (t : Tolerance) (j : Job) (output memory : List Float) → (let l = behind_matrix s field t j output memory ++ field_checks field (rows j + degree j) in (before SubstepLimit l ≡ l) × (before LengthsRejected l ≡ l) × (before NoInnerPlan l ≡ l))
+behind_27 : (s : PausedRun) (field : ℕ) (t : Option Float) (j : Job) (output memory : List Float) → (let l = behind_matrix s field t j output memory ++ field_checks field (rows j + degree j) in (before SubstepLimit l ≡ l) × (before LengthsRejected l ≡ l) × (before NoInnerPlan l ≡ l))
 unfolding before vector_checks_by count_checks time_checks length_checks finite_checks option_checks run_checks magnitude_checks argument_checks memory_checks field_checks other_checks
 behind_27 s field t j output memory = (refl, refl, refl)
 
@@ -88,7 +88,7 @@ not_ran k a b c = go (ltb 26 k) refl (ltb k 30) refl
     go true e false f = refl
     go true e true f = absurd (omega (arith, ltb-true 26 k e, ltb-true k 30 f, a, b, c))
 
-early : (s : PausedRun) (field : ℕ) (t : Tolerance) (a : Csr) (mass : Mass) (tau : Float) (count : ℕ) (w output memory : List Float) {k : Reason} {x : Float}
+early : (s : PausedRun) (field : ℕ) (t : Option Float) (a : Csr) (mass : Mass) (tau : Float) (count : ℕ) (w output memory : List Float) {k : Reason} {x : Float}
     → first (step_checks s field (record { tolerance = t; job = job a mass tau count w; output = output; memory = memory })) ≡ Refused k x → ran (number k) ≡ false
 early s field t a mass tau count w output memory {k} {x} e =
     let j = job a mass tau count w in
@@ -144,7 +144,7 @@ running numbers counts e = go (fits numbers counts) refl
     go false d = absurd (true≢false (sym ended ∙ ap over (sym (no_state numbers counts d)) ∙ e))
 
 -- those of a step between 31 and the field's
-abbrev of_call : PausedRun → Tolerance → Job → List Float → List Float → List Check
+abbrev of_call : PausedRun → Option Float → Job → List Float → List Float → List Check
 of_call s t j output memory =
     krylov_checks_by j.g j.tau j.count j.w s.eta (length_checks (length output) (rows j) (length j.w) (j.count * rows j) ++ other_checks s j) (options_in s (tol_in t s)) (length memory)
 

@@ -1,5 +1,5 @@
 -- A join and a turn as they are told. Assumes nothing.
-use Rattle.std.specs.Prelude.{if◌then◌else◌}
+use Rattle.std.specs.Prelude.{if◌then◌else◌, Option}
 use mathlib.Core.Path.{◌≡◌, refl, sym, ap, ◌∙◌}
 use mathlib.Core.Bool.{Bool, true, false, ◌&&◌, true≢false}
 use mathlib.Core.List.{List, [], ◌∷◌, ◌++◌}
@@ -20,7 +20,6 @@ use Rattle.krylov_job.specs.KrylovCall.{krylov_checks}
 use Rattle.krylov_job.specs.declared.KrylovPhiOptions.{KrylovPhiOptions}
 use Rattle.paused_run.specs.Paused.{Job, Input, PausedCall, leaves, rows, start_checks, StartAnswer, start_unless, start, StepAnswer}
 use Rattle.paused_run.specs.declared.PausedRun.{PausedRun}
-use Rattle.paused_run.specs.declared.Tolerance.{Tolerance}
 use Rattle.rotation.specs.Unit.{empty, waiting, next_place, UnitCall, unit_call, lowest_free, room, admitted_by, admitted, join, turn_of, turn}
 use Rattle.rotation.specs.declared.Rotation.{Rotation}
 use Rattle.rotation_joins.specs.declared.Joined.{Joined}
@@ -107,7 +106,7 @@ module _ (units : List Float) (queues : List ℕ) where
       λ k. unit_told (told (es k) (eo k) (ew k) (ey k)) (ep k) (eu' k) (eq' k)
 
   -- ---- a turn
-  pub told_turn : (i : Input) (field numbers : List Float) (counts : List ℕ) {u : Rotation} {t : Tolerance} {r : Turned} {st : State} {out₁ w₁ y₁ : List Float} {place : ℕ} {units₁ : List Float} {queues₁ : List ℕ}
+  pub told_turn : (i : Input) (field numbers : List Float) (counts : List ℕ) {u : Rotation} {t : Option Float} {r : Turned} {st : State} {out₁ w₁ y₁ : List Float} {place : ℕ} {units₁ : List Float} {queues₁ : List ℕ}
       → u ≡ unit_of units queues
       → t ≡ i.tolerance
       → unit_call r.unit r.place (leaves r.answer out₁ w₁ y₁) ≡ turn u field (record { tolerance = t; job = i.job; output = i.output; memory = i.memory })

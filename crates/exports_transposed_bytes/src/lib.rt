@@ -310,9 +310,9 @@ fn check_answer(
     let number = answers::matrix_numbers(answer, &mut value, &mut row);
     let told = byte_arrays::reported(number, value, starts.len() / 4, mass_len / 8, 0, 0);
     RowTold {
-        number: number,
+        number,
         value: told,
-        row: row,
+        row,
     }
 }
 

@@ -1,13 +1,12 @@
 // The run over unit time: substeps until the time is 1, from a field scaled by a power of two.
 #![tactic(auto)]
 
-ghost use Rattle.std.specs.Prelude.{◌≡◌, List, ◌+◌, ◌*◌, ◌≤◌, length, Float};
+ghost use Rattle.std.specs.Prelude.{◌≡◌, List, ◌+◌, ◌*◌, ◌≤◌, length, Some, Float};
 ghost use Rattle.lists.specs.Walk.{on, walk};
 ghost use Rattle.lists.specs.Window.{window};
 ghost use Rattle.lists.specs.Frame.{Kept};
 ghost use Rattle.doubles.specs.F64.{+0};
 ghost use Rattle.vectors.specs.Vectors.{scale};
-ghost use Rattle.pow2.specs.declared.Prescale.TheVariants.{By};
 ghost use Rattle.phi_action_helpers.specs.declared.Coupling.{Coupling};
 ghost use Rattle.phi_action_helpers.specs.declared.Layout.{Layout};
 ghost use Rattle.phi_action_helpers.specs.Laid.{matrix_at, operator_at};
@@ -20,7 +19,7 @@ use checks::{Reason, Refusal};
 use gram_schmidt::Krylov;
 use krylov_advance::{Control, KrylovPhiReport, Progress, RunAnswer};
 use phi_action_helpers::{Coupling, Layout};
-use pow2::{Prescale, Scale};
+use pow2::Scale;
 
 // At most `limit` substeps.
 fn run_substeps(
@@ -42,7 +41,7 @@ fn run_substeps(
     ensures kept { Kept 0 l.q +0 work.old work.new }
 {
     let mut o = Progress::On(c, r);
-    for i in 0..limit {
+    for _ in 0..limit {
         let Progress::On(control, report) = o else {
             return o;
         };
@@ -94,7 +93,7 @@ fn substeps(
     let c = Control {
         time: 0.0,
         next: phi_krylov_arnoldi::first_length(k.m, k.anorm, k.tol, beta),
-        beta: beta,
+        beta,
     };
     let r = KrylovPhiReport {
         matvecs: 0,
@@ -139,7 +138,7 @@ fn scaled_run(
 ) -> RunAnswer
     requires room { Room l b k (matrix_at l starts.now cols.now vals.now work.old) (length vals.now) (length vectors.now) (length work.old) }
     requires m_bound { (k.m ≤ 128) × (limit ≤ 1000000) × (clamp_m k.m (l.n + l.d) ≡ k.m) }
-    ensures work_after { end_at l k result work.new ≡ expv_by (operator_at l b starts.now cols.now vals.now vectors.now work.old) k.tau k.anorm k.tol k.m limit (window k.y (l.n + l.d) work.old) (By f) }
+    ensures work_after { end_at l k result work.new ≡ expv_by (operator_at l b starts.now cols.now vals.now vectors.now work.old) k.tau k.anorm k.tol k.m limit (window k.y (l.n + l.d) work.old) (Some f) }
     ensures kept { Kept 0 l.q +0 work.old work.new }
 {
     let y = k.y;
@@ -147,12 +146,8 @@ fn scaled_run(
     vectors::scale(&mut work[y..end], f.down);
     let beta = gram_schmidt::norm2(&work[y..end]);
     let scaled = Krylov {
-        m: k.m,
-        h: k.h,
-        y: k.y,
-        tau: k.tau,
-        anorm: k.anorm,
         tol: k.tol * beta,
+        ..k
     };
     let o = substeps(starts, cols, vals, vectors, work, l, b, scaled, limit);
     vectors::scale(&mut work[y..end], f.up);
@@ -178,9 +173,8 @@ pub fn expv(
 {
     let y = k.y;
     let end = y + (l.n + l.d);
-    let scale = pow2::pow2_scale(&work[y..end]);
-    match scale {
-        Prescale::None => RunAnswer::Finished(
+    let Some(f) = pow2::pow2_scale(&work[y..end]) else {
+        return RunAnswer::Finished(
             Control {
                 time: 0.0,
                 next: 0.0,
@@ -194,7 +188,7 @@ pub fn expv(
                 shortest: 0.0,
                 last: 0.0,
             },
-        ),
-        Prescale::By(f) => scaled_run(starts, cols, vals, vectors, work, l, b, k, limit, f),
-    }
+        );
+    };
+    scaled_run(starts, cols, vals, vectors, work, l, b, k, limit, f)
 }

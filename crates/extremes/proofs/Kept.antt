@@ -7,11 +7,11 @@ use mathlib.Core.List.{List}
 use Prim.Native.Nat.{ℕ, zero, suc, ◌+◌, ◌-◌, ◌≤◌, ◌<◌}
 use native.Mathlib.Omega.{arith}
 use lib.Dec.{T}
-use lib.Ieee.{Float, nan, inf, fin, eq, lt, le, is_nan}
+use lib.Ieee.{Float, eq, lt, le, is_nan}
 use lib.Ieee.Bits.{is_true}
 use Rattle.lists.specs.Loop.{iter}
 use Rattle.lists.proofs.Bounds.{lt_or_le}
-use Rattle.doubles.specs.F64.{◌⩽◌, ◌⋖◌, +0, at, replaced, max_num, min_num}
+use Rattle.doubles.specs.F64.{◌⩽◌, ◌⋖◌, +0, at, max_num, min_num}
 use Rattle.doubles.proofs.Total.{⩽_refl, ⩽_trans, ⩽_or_⋖, ⋖_⩽, ⋖_apart, le_number_right}
 use Rattle.doubles.proofs.Extremes.{replaced_number, min_of_two}
 use Rattle.extremes.specs.Extremes.{unsigned_zero, window_start, extreme, largest, smallest}

@@ -3,7 +3,7 @@ use mathlib.Core.Bool.{Bool, true, false, not, ◌||◌, ◌&&◌, true≢false}
 use mathlib.Core.List.{List, ◌++◌}
 use mathlib.Core.Path.{◌≡◌, refl, sym, ◌∙◌}
 use mathlib.Core.Logic.{⊎_elim}
-use Prim.Native.Nat.{ℕ, ◌+◌, ◌≤◌, ◌<◌}
+use Prim.Native.Nat.{ℕ, ◌+◌, ◌-◌, ◌≤◌, ◌<◌}
 use native.Mathlib.Nat.{eq-zero-or-pos}
 use native.Mathlib.Omega.{arith}
 use lib.Dec.{eqb}
@@ -64,7 +64,7 @@ shape_sound n starts columns entries e =
 
 -- the same of an answer s of the function that makes the checks
 module _ (n : ℕ) (starts : List ℕ) (columns entries : ℕ) {s : Checked} (e : s ≡ Sound) (d : s ≡ first (shape_checks n starts columns entries)) where
-  pub shape_rows : n < length starts
+  pub shape_rows : length starts - 1 ≡ n
   shape_rows = let h = shape_sound n starts columns entries (sym e ∙ d) in omega arith
 
   pub shape_paired : columns ≡ entries

@@ -1,8 +1,9 @@
 // The checks 1 to 6 of a sparse matrix, on any input.
 #![tactic(auto)]
 
-ghost use Rattle.std.specs.Prelude.{◌≡◌, ◌+◌, ◌<◌, length};
-ghost use Rattle.lists.specs.Find.{find};
+ghost use Rattle.std.specs.Prelude.{◌≡◌, not, ◌||◌, ◌-◌, ◌<◌, length, leb};
+ghost use Rattle.lists.specs.Positions.{IsPosition};
+ghost use Rattle.doubles.specs.F64.{is_finite};
 ghost use Rattle.checks.specs.First.{first};
 ghost use Rattle.general_operator.specs.Csr.{csr};
 ghost use Rattle.general_operator.specs.Checks.{wrong_rows, wrong_entries, too_large, falls, bad_entry, shape_checks, row_checks, entry_checks, matrix_checks};
@@ -10,39 +11,26 @@ ghost use Rattle.general_operator.specs.Checks.{wrong_rows, wrong_entries, too_l
 use checks::{Checked, Reason, Refusal};
 
 // n + 1 is not formed: n may be the largest number.
+#[tactic(auto, unfolding(crate::specs::Checks::wrong_rows))]
 fn wrong_rows(n: usize, len: usize) -> bool
     ensures { result ≡ wrong_rows n len }
 {
-    if n == 0 {
-        return true;
-    }
-    if len == 0 {
-        return true;
-    }
-    if len - 1 != n {
-        return true;
-    }
-    false
+    n == 0 || len == 0 || len - 1 != n
 }
 
+#[tactic(auto, unfolding(crate::specs::Checks::wrong_entries))]
 fn wrong_entries(n: usize, starts: &[u32], columns: usize, entries: usize) -> bool
     requires { n < length starts.now }
     ensures { result ≡ wrong_entries n starts.now columns entries }
 {
-    if columns != entries {
-        return true;
-    }
-    let last = starts[n] as usize;
-    last != entries
+    columns != entries || starts[n] as usize != entries
 }
 
+#[tactic(auto, unfolding(crate::specs::Checks::too_large))]
 fn too_large(n: usize, entries: usize) -> bool
     ensures { result ≡ too_large n entries }
 {
-    if n > 1000000 {
-        return true;
-    }
-    entries > 16777216
+    n > 1000000 || entries > 16777216
 }
 
 // 1 to 3.
@@ -70,56 +58,39 @@ fn check_shape(n: usize, starts: &[u32], columns: usize, entries: usize) -> Chec
     Ok(())
 }
 
-// The first row whose start falls, n if none does.
-fn first_fall(starts: &[u32], n: usize) -> usize
-    requires { n < length starts.now }
-    ensures { result ≡ find (falls starts.now) n }
+// The first row whose start falls.
+#[tactic(auto, unfolding(crate::specs::Checks::falls))]
+fn first_fall(starts: &[u32]) -> Option<usize>
+    ensures { IsPosition (falls starts.now) (length starts.now - 1) result }
 {
-    for i in 0..n {
-        if starts[i + 1] < starts[i] {
-            return i;
-        }
-    }
-    n
+    starts.windows(2).position(|w| w[1] < w[0])
 }
 
 // 4.
-fn check_rows(n: usize, starts: &[u32]) -> Checked
-    requires { n < length starts.now }
-    ensures { result ≡ first (row_checks n starts.now) }
+fn check_rows(starts: &[u32]) -> Checked
+    ensures { result ≡ first (row_checks (length starts.now - 1) starts.now) }
 {
-    let i = first_fall(starts, n);
-    if i < n {
-        return Err(Refusal {
-            reason: Reason::RowStartsFall,
-            value: float::count(i),
-        });
+    if let Some(i) = first_fall(starts) {
+        return Err(Refusal { reason: Reason::RowStartsFall, value: float::count(i) });
     }
     Ok(())
 }
 
-fn is_bad_entry(n: usize, cols: &[u32], vals: &[f64], k: usize) -> bool
-    requires { (k < length cols.now) × (k < length vals.now) }
-    ensures { result ≡ bad_entry n cols.now vals.now k }
+fn is_bad_entry(n: usize, c: u32, x: f64) -> bool
+    ensures { result ≡ (leb n c || not (is_finite x)) }
 {
-    let c = cols[k] as usize;
-    if n <= c {
-        return true;
-    }
-    !float::is_finite(vals[k])
+    n <= c as usize || !float::is_finite(x)
 }
 
 // Entries before the first row start are tested like all others.
-fn first_bad_entry(n: usize, cols: &[u32], vals: &[f64]) -> usize
+#[tactic(auto, unfolding(crate::specs::Checks::bad_entry, crate::specs::Checks::bad_column))]
+fn first_bad_entry(n: usize, cols: &[u32], vals: &[f64]) -> Option<usize>
     requires { length cols.now ≡ length vals.now }
-    ensures { result ≡ find (bad_entry n cols.now vals.now) (length vals.now) }
+    ensures { IsPosition (bad_entry n cols.now vals.now) (length vals.now) result }
 {
-    for k in 0..vals.len() {
-        if is_bad_entry(n, cols, vals, k) {
-            return k;
-        }
-    }
-    vals.len()
+    cols.iter()
+        .zip(vals)
+        .position(|(c, x)| is_bad_entry(n, *c, *x))
 }
 
 // 5 and 6.
@@ -127,21 +98,14 @@ fn check_entries(n: usize, cols: &[u32], vals: &[f64]) -> Checked
     requires { length cols.now ≡ length vals.now }
     ensures { result ≡ first (entry_checks n cols.now vals.now) }
 {
-    let k = first_bad_entry(n, cols, vals);
-    if k < vals.len() {
-        let c = cols[k] as usize;
-        if n <= c {
-            return Err(Refusal {
-                reason: Reason::ColumnRange,
-                value: float::count(c),
-            });
-        }
-        return Err(Refusal {
-            reason: Reason::EntryNotFinite,
-            value: vals[k],
-        });
+    let Some(k) = first_bad_entry(n, cols, vals) else {
+        return Ok(());
+    };
+    let c = cols[k] as usize;
+    if n <= c {
+        return Err(Refusal { reason: Reason::ColumnRange, value: float::count(c) });
     }
-    Ok(())
+    Err(Refusal { reason: Reason::EntryNotFinite, value: vals[k] })
 }
 
 // 1 to 6.
@@ -149,6 +113,6 @@ pub fn validate_csr(n: usize, starts: &[u32], cols: &[u32], vals: &[f64]) -> Che
     ensures { result ≡ first (matrix_checks (csr n starts.now cols.now vals.now)) }
 {
     check_shape(n, starts, cols.len(), vals.len())?;
-    check_rows(n, starts)?;
+    check_rows(starts)?;
     check_entries(n, cols, vals)
 }

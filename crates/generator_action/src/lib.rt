@@ -23,17 +23,17 @@ pub fn generator_shape(n: usize, with_mass: bool, entries: usize, norm: f64) -> 
 {
     if with_mass {
         return Shape {
-            n: n,
+            n,
             with_mass: true,
             stored: entries,
-            norm: norm,
+            norm,
         };
     }
     Shape {
-        n: n,
+        n,
         with_mass: false,
         stored: 0,
-        norm: norm,
+        norm,
     }
 }
 

@@ -1,12 +1,11 @@
-// The checks 7 to 11: the mass, the row sums, the norm and the first row that has it.
+// The checks 7 to 11: the mass, the row sums, the norm and the first row that has it. Rows are gone through by their number, which is part of the answer.
 #![tactic(auto)]
 
-ghost use Rattle.std.specs.Prelude.{◌≡◌, true, cond, List, ℕ, ◌+◌, ◌-◌, ◌≤◌, ◌<◌, length, Float};
-ghost use Rattle.lists.specs.Find.{find};
-ghost use Rattle.doubles.specs.F64.{◌⊘◌, ◌⋖◌, at, abs};
-ghost use Rattle.doubles.specs.Sum.{sum};
+ghost use Rattle.std.specs.Prelude.{◌≡◌, true, cond, List, ℕ, ◌+◌, ◌-◌, ◌≤◌, ◌<◌, length, fold, Float};
+ghost use Rattle.lists.specs.Positions.{IsPosition};
+ghost use Rattle.doubles.specs.F64.{◌⊕◌, ◌⊘◌, ◌⋖◌, +0, at, abs};
 ghost use Rattle.checks.specs.First.{first};
-ghost use Rattle.general_operator.specs.Csr.{csr, Valid, size_sum};
+ghost use Rattle.general_operator.specs.Csr.{csr, Valid};
 ghost use Rattle.generator_action.specs.Mass.{given, normalise, stored, bad_mass, mass_checks, sum_checks, norm_checks};
 ghost use Rattle.generator_action.specs.Answer.{matrix_answer};
 ghost use Rattle.generator_action.specs.Known.{Finite, Dividing, Answered};
@@ -14,25 +13,18 @@ ghost use Rattle.generator_action.specs.Known.{Finite, Dividing, Answered};
 use checks::{Checked, Reason, Refusal};
 use generator_action::Largest;
 
+#[tactic(auto, unfolding(generator_action::specs::Mass::bad_mass))]
 fn is_bad_mass(x: f64) -> bool
     ensures { result ≡ bad_mass x }
 {
-    if float::is_finite(x) {
-        return x <= 0.0;
-    }
-    true
+    !float::is_finite(x) || x <= 0.0
 }
 
-// The first mass that 8 refuses, the length if none is.
-fn first_bad_mass(mass: &[f64]) -> usize
-    ensures { result ≡ find (λ i. bad_mass (at mass.now i)) (length mass.now) }
+// The first mass that 8 refuses.
+fn first_bad_mass(mass: &[f64]) -> Option<usize>
+    ensures { IsPosition (λ i. bad_mass (at mass.now i)) (length mass.now) result }
 {
-    for i in 0..mass.len() {
-        if is_bad_mass(mass[i]) {
-            return i;
-        }
-    }
-    mass.len()
+    mass.iter().position(|m| is_bad_mass(*m))
 }
 
 // 7 to 9, which do not depend on the columns and the entries.
@@ -46,12 +38,8 @@ pub fn check_mass(n: usize, starts: &[u32], mass: &[f64]) -> Checked
             value: float::count(mass.len()),
         });
     }
-    let i = first_bad_mass(mass);
-    if i < mass.len() {
-        return Err(Refusal {
-            reason: Reason::MassRange,
-            value: mass[i],
-        });
+    if let Some(i) = first_bad_mass(mass) {
+        return Err(Refusal { reason: Reason::MassRange, value: mass[i] });
     }
     if starts[0] != 0 {
         return Err(Refusal {
@@ -62,30 +50,18 @@ pub fn check_mass(n: usize, starts: &[u32], mass: &[f64]) -> Checked
     Ok(())
 }
 
-// The sum of the sizes of the entries from `from` up to `to`.
-fn size_sum(vals: &[f64], from: usize, to: usize) -> f64
-    requires { (from ≤ to) × (to ≤ length vals.now) }
-    ensures { result ≡ size_sum vals.now from to }
+// The sum of the sizes of a row's entries.
+fn size_sum(row: &[f64]) -> f64
+    ensures { result ≡ fold (λ s x. s ⊕ abs x) +0 row.now }
 {
-    let mut s = 0.0;
-    let count = to - from;
-    for k in 0..count {
-        s = s + float::abs(vals[from + k]);
-    }
-    s
+    row.iter().fold(0.0, |s, x| s + float::abs(*x))
 }
 
 // The same, each entry divided by m.
-fn quotient_sum(vals: &[f64], from: usize, to: usize, m: f64) -> f64
-    requires { (from ≤ to) × (to ≤ length vals.now) }
-    ensures { result ≡ sum (to - from) (λ k. abs (at vals.now (from + k) ⊘ m)) }
+fn quotient_sum(row: &[f64], m: f64) -> f64
+    ensures { result ≡ fold (λ s x. s ⊕ abs (x ⊘ m)) +0 row.now }
 {
-    let mut s = 0.0;
-    let count = to - from;
-    for k in 0..count {
-        s = s + float::abs(vals[from + k] / m);
-    }
-    s
+    row.iter().fold(0.0, |s, x| s + float::abs(*x / m))
 }
 
 // After row i, whose sum is s.
@@ -108,7 +84,7 @@ pub fn entry_norm(n: usize, starts: &[u32], cols: &[u32], vals: &[f64]) -> Resul
     for row in 0..n {
         let from = starts[row] as usize;
         let to = starts[row + 1] as usize;
-        let s = size_sum(vals, from, to);
+        let s = size_sum(&vals[from..to]);
         best = larger(best, s, row);
     }
     if !float::is_finite(best.norm) {
@@ -137,7 +113,7 @@ pub fn quotient_norm(
     for i in 0..n {
         let from = starts[i] as usize;
         let to = starts[i + 1] as usize;
-        let s = quotient_sum(vals, from, to, mass[i]);
+        let s = quotient_sum(&vals[from..to], mass[i]);
         if !float::is_finite(s) {
             return Err(Refusal {
                 reason: Reason::RowSumNotFinite,

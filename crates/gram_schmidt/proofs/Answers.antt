@@ -6,6 +6,7 @@ use native.Mathlib.Numerals.{add-one}
 use native.Mathlib.Omega.{arith}
 use lib.ListN.{length, get_or, replicate, length-replicate}
 use lib.Ieee.{Float}
+use Rattle.std.specs.Prelude.{Result, Ok, Err}
 use Rattle.lists.specs.Loop.{tabulate}
 use Rattle.lists.specs.Walk.{Turn, on, out, walk}
 use Rattle.lists.specs.Window.{window, splice}
@@ -22,52 +23,38 @@ use Rattle.phi_action_helpers.specs.declared.Coupling.{Coupling}
 use Rattle.phi_action_helpers.specs.Laid.{matrix_at}
 use Rattle.phi_action_helpers.proofs.Sweeps.{values_kept}
 use Rattle.gram_schmidt.specs.Basis.{Setting, Columns, Breakdown, arnoldi_step, close, first_column, arnoldi}
-use Rattle.gram_schmidt.specs.Memory.{setting_at, Room, Spared, column, columns_at, breakdown_at, grown_at, Within, basis_at, Ended}
+use Rattle.gram_schmidt.specs.Memory.{setting_at, Room, Spared, column, columns_at, grown_at, basis_at, Ended}
 use Rattle.gram_schmidt.specs.declared.Krylov.{Krylov}
-use Rattle.gram_schmidt.specs.declared.Grown.{Grown}
-use Rattle.gram_schmidt.specs.declared.Grown.TheVariants.{On, Broken}
-use Rattle.gram_schmidt.specs.declared.BasisAnswer.{BasisAnswer}
-use Rattle.gram_schmidt.specs.declared.BasisAnswer.TheVariants.{Breakdown as Broke, Full}
+use Rattle.gram_schmidt.specs.declared.Broken.{Broken}
+use Rattle.gram_schmidt.specs.declared.Full.{Full}
 use Rattle.gram_schmidt.proofs.Turns.{spared_all, spared_by}
 
--- ---- the loop: what the present answer stands for
-pub within_more : (i j : ℕ) (o : Grown) → Within i o → i ≤ j → Within j o
-within_more i j (On a) h l = omega arith
-within_more i j (Broken a mb hn) h l = omega arith
-
+-- ---- the loop
 module _ (l : Layout) (k : Krylov) where
-  pub seen_on : (j : ℕ) (o : Grown) (w : List Float) (a : ℕ) → o ≡ On a → grown_at l k j o w ≡ on (columns_at l k (j + 1) a w)
+  -- it is left by a breakdown, which stands for the same after however many turns
+  pub left_broken : (step : ℕ → Columns → Turn Columns Breakdown) (m j : ℕ) (s : Turn Columns Breakdown) (w : List Float) (e : Broken) → Left step m j s (grown_at l k j (Err e) w) → grown_at l k m (Err e) w ≡ walk step m 0 s
   unfolding grown_at
-  seen_on j o w a e = ap (λ (u : Grown). grown_at l k j u w) e
+  left_broken step m j s w e h = left_out h _ refl
 
-  seen_broken : (j : ℕ) (o : Grown) (w : List Float) (a mb : ℕ) (hn : Float) → o ≡ Broken a mb hn → grown_at l k j o w ≡ out (breakdown_at l k a mb hn w)
+  -- or after turn m
+  pub left_whole : (step : ℕ → Columns → Turn Columns Breakdown) (m j : ℕ) (s : Turn Columns Breakdown) (w : List Float) (a : ℕ) → Left step m j s (on (columns_at l k (j + 1) a w)) → j ≤ m → m ≤ j → grown_at l k m (Ok a) w ≡ walk step m 0 s
   unfolding grown_at
-  seen_broken j o w a mb hn e = ap (λ (u : Grown). grown_at l k j u w) e
-
-  -- the loop is left by a breakdown in turn j, or after turn m
-  pub left_broken : (step : ℕ → Columns → Turn Columns Breakdown) (m j : ℕ) (s : Turn Columns Breakdown) (o : Grown) (w : List Float) → Left step m j s (grown_at l k j o w)
-      → (a mb : ℕ) (hn : Float) → o ≡ Broken a mb hn → grown_at l k m o w ≡ walk step m 0 s
-  left_broken step m j s o w h a mb hn e = seen_broken m o w a mb hn e ∙ sym (seen_broken j o w a mb hn e) ∙ left_out h _ (seen_broken j o w a mb hn e)
-
-  pub left_whole : (step : ℕ → Columns → Turn Columns Breakdown) (m j : ℕ) (s : Turn Columns Breakdown) (o : Grown) (w : List Float) → Left step m j s (grown_at l k j o w)
-      → j ≤ m → m ≤ j → grown_at l k m o w ≡ walk step m 0 s
-  left_whole step m j s o w h a b =
+  left_whole step m j s w a h le ge =
       let e : m ≡ j = omega arith in
-      ap (λ (i : ℕ). grown_at l k i o w) e ∙ left_none h b
+      ap (λ (i : ℕ). on (columns_at l k (i + 1) a w)) e ∙ left_none h ge
 
   -- ---- the answer
-  pub closed_on : (b : Coupling) (q : Csr) (vectors : List Float) (a : ℕ) (o : Grown) (w₀ w₁ : List Float) (avnorm : Float) → o ≡ On a → Ended l k (setting_at l b k q vectors) w₀ w₁ avnorm
-      → basis_at l k (Full (a + 1) avnorm) w₁ ≡ close (setting_at l b k q vectors) (grown_at l k k.m o w₀)
-  unfolding basis_at close
-  closed_on b q vectors a o w₀ w₁ avnorm e t =
+  pub closed_on : (b : Coupling) (q : Csr) (vectors : List Float) (a : ℕ) (w₀ w₁ : List Float) (avnorm : Float) → Ended l k (setting_at l b k q vectors) w₀ w₁ avnorm
+      → basis_at l k (Ok (record { applied = a + 1; avnorm = avnorm })) w₁ ≡ close (setting_at l b k q vectors) (grown_at l k k.m (Ok a) w₀)
+  unfolding basis_at grown_at close
+  closed_on b q vectors a w₀ w₁ avnorm t =
       let v = column (l.n + l.d) w₀ in
       let g : get_or (tabulate (k.m + 1) v) k.m [] ≡ v k.m = get_d_tabulate (k.m + 1) v k.m [] (omega arith) in
-      rw (seen_on k.m o w₀ a e, t.v_is, t.h_is, t.avnorm_is, add-one a, g)
+      rw (t.v_is, t.h_is, t.avnorm_is, add-one a, g)
 
-  pub closed_broken : (p : Setting) (a mb : ℕ) (o : Grown) (w : List Float) (hn : Float) → o ≡ Broken a mb hn
-      → basis_at l k (Broke a mb hn) w ≡ close p (grown_at l k k.m o w)
-  unfolding basis_at close
-  closed_broken p a mb o w hn e = rw (seen_broken k.m o w a mb hn e)
+  pub closed_broken : (p : Setting) (e : Broken) (w : List Float) → basis_at l k (Err e) w ≡ close p (grown_at l k k.m (Err e) w)
+  unfolding basis_at grown_at close
+  closed_broken p e w = refl
 
 -- ---- the first column and the clear matrix
 pub begun : (l : Layout) (b : Coupling) (k : Krylov) (q : Csr) (vectors : List Float) (beta : Float) {v x : ℕ} (w₀ w₁ : List Float) → Room l b k q v x (length w₀)
@@ -87,7 +74,7 @@ begun l b k q vectors beta w₀ w₁ r e =
 
 -- ---- all of it
 module _ (l : Layout) (b : Coupling) (k : Krylov) (starts cols : List ℕ) (vals vectors : List Float) where
-  pub made : (beta : Float) (w₀ w₁ w₂ w₃ : List Float) (o : Grown) (r : BasisAnswer)
+  pub made : (beta : Float) (w₀ w₁ w₂ w₃ : List Float) (o : Result ℕ Broken) (r : Result Full Broken)
       → columns_at l k 1 0 w₁ ≡ first_column (setting_at l b k (matrix_at l starts cols vals w₀) vectors) (window k.y (l.n + l.d) w₀) beta
       → Spared l k w₀ w₁
       → grown_at l k k.m o w₂ ≡ walk (arnoldi_step (setting_at l b k (matrix_at l starts cols vals w₁) vectors) beta) k.m 0 (on (columns_at l k 1 0 w₁))

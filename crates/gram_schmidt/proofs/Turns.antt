@@ -28,7 +28,7 @@ use Rattle.phi_action_helpers.proofs.Sweeps.{values_kept}
 use Rattle.gram_schmidt.specs.Basis.{Setting, len, norm2, apply, Rest, orthogonal, rest, broken, extend, arnoldi_step}
 use Rattle.gram_schmidt.specs.Memory.{setting_at, Room, Spared, column, rest_at, columns_at, grown_at, Rested, Ended}
 use Rattle.gram_schmidt.specs.declared.Krylov.{Krylov}
-use Rattle.gram_schmidt.specs.declared.Grown.TheVariants.{On, Broken}
+use Rattle.std.specs.Prelude.{Ok, Err}
 use Rattle.gram_schmidt.proofs.GramSchmidt.{orthogonal_ext, orthogonal_long, orthogonal_h_long, length_column}
 
 pub length_product : (p : Setting) (x : List Float) → length (apply p x) ≡ len p
@@ -127,7 +127,7 @@ module _ (l : Layout) (b : Coupling) (k : Krylov) (q : Csr) (vectors : List Floa
   -- a breakdown
   pub at_break : Rested l k (setting_at l b k q vectors) j w₀ w₁ → hn ≡ norm2 (take (l.w + (l.n + l.d) - l.w) (drop l.w w₁))
       → c ≡ broken (setting_at l b k q vectors) beta j hn → c ≡ true
-      → grown_at l k (j + 1) (Broken (a + 1) (j + 1) hn) w₁ ≡ arnoldi_step (setting_at l b k q vectors) beta j (columns_at l k (j + 1) a w₀)
+      → grown_at l k (j + 1) (Err (record { applied = a + 1; mb = j + 1; hn = hn })) w₁ ≡ arnoldi_step (setting_at l b k q vectors) beta j (columns_at l k (j + 1) a w₀)
   unfolding grown_at arnoldi_step extend
   at_break t eh ec el =
       let m = l.n + l.d in
@@ -138,7 +138,7 @@ module _ (l : Layout) (b : Coupling) (k : Krylov) (q : Csr) (vectors : List Floa
   pub at_column : {v x : ℕ} (w₂ : List Float) → Room l b k q v x (length w₀) → j < k.m → Rested l k (setting_at l b k q vectors) j w₀ w₁ → hn ≡ norm2 (take (l.w + (l.n + l.d) - l.w) (drop l.w w₁))
       → c ≡ broken (setting_at l b k q vectors) beta j hn → c ≡ false
       → w₂ ≡ splice ((j + 1) * (l.n + l.d)) (scale (1f ⊘ hn) (window l.w (l.n + l.d) w₁)) (set w₁ (k.h + place (k.m + 2) (j + 1) j) hn)
-      → (grown_at l k (j + 1) (On (a + 1)) w₂ ≡ arnoldi_step (setting_at l b k q vectors) beta j (columns_at l k (j + 1) a w₀)) × Spared l k w₀ w₂
+      → (grown_at l k (j + 1) (Ok (a + 1)) w₂ ≡ arnoldi_step (setting_at l b k q vectors) beta j (columns_at l k (j + 1) a w₀)) × Spared l k w₀ w₂
   unfolding grown_at arnoldi_step extend column
   at_column w₂ r g t eh ec el e₂ =
       let m = l.n + l.d in

@@ -1,5 +1,5 @@
 -- Where a Krylov run keeps its columns, and what the memory stands for. Definitions only.
-use Rattle.std.specs.Prelude.{◌≡◌, List, ℕ, ◌+◌, ◌*◌, ◌≤◌, ◌<◌, set, Float}
+use Rattle.std.specs.Prelude.{Result, Ok, Err, ◌≡◌, List, ℕ, ◌+◌, ◌*◌, ◌≤◌, ◌<◌, set, Float}
 use Rattle.lists.specs.Frame.{Kept}
 use Rattle.lists.specs.Loop.{tabulate}
 use Rattle.lists.specs.Walk.{Turn, on, out}
@@ -12,10 +12,8 @@ use Rattle.phi_action_helpers.specs.declared.Coupling.{Coupling}
 use Rattle.phi_action_helpers.specs.Laid.{operator_of, Laid}
 use Rattle.gram_schmidt.specs.Basis.{Setting, Columns, Rest, Breakdown, Basis, breakdown, full, norm2, apply, rest}
 use Rattle.gram_schmidt.specs.declared.Krylov.{Krylov}
-use Rattle.gram_schmidt.specs.declared.Grown.{Grown}
-use Rattle.gram_schmidt.specs.declared.Grown.TheVariants.{On, Broken}
-use Rattle.gram_schmidt.specs.declared.BasisAnswer.{BasisAnswer}
-use Rattle.gram_schmidt.specs.declared.BasisAnswer.TheVariants.{Breakdown as Broke, Full}
+use Rattle.gram_schmidt.specs.declared.Broken.{Broken}
+use Rattle.gram_schmidt.specs.declared.Full.{Full}
 
 abbrev pub setting_at : Layout → Coupling → Krylov → Csr → List Float → Setting
 setting_at l b k q vectors = record { operator = operator_of l b q vectors; tau = k.tau; anorm = k.anorm; tol = k.tol; m = k.m }
@@ -50,27 +48,27 @@ rest_at n q r dim w = record { z = window q n w; h = window r (dim * dim) w }
 abbrev pub columns_at : Layout → Krylov → ℕ → ℕ → List Float → Columns
 columns_at l k i applied w = record { v = tabulate i (column (l.n + l.d) w); h = window k.h ((k.m + 2) * (k.m + 2)) w; applied = applied }
 
-abbrev pub breakdown_at : Layout → Krylov → ℕ → ℕ → Float → List Float → Breakdown
-breakdown_at l k applied mb hn w = record { columns = columns_at l k mb applied w; mb = mb; hn = hn }
+abbrev pub breakdown_at : Layout → Krylov → Broken → List Float → Breakdown
+breakdown_at l k e w = record { columns = columns_at l k e.mb e.applied w; mb = e.mb; hn = e.hn }
 
--- after j turns
-unfoldable pub grown_at : Layout → Krylov → ℕ → Grown → List Float → Turn Columns Breakdown
-grown_at l k j (On applied) w = on (columns_at l k (j + 1) applied w)
-grown_at l k j (Broken applied mb hn) w = out (breakdown_at l k applied mb hn w)
+-- after j turns: the products made, or a breakdown
+unfoldable pub grown_at : Layout → Krylov → ℕ → Result ℕ Broken → List Float → Turn Columns Breakdown
+grown_at l k j (Ok applied) w = on (columns_at l k (j + 1) applied w)
+grown_at l k j (Err e) w = out (breakdown_at l k e w)
 
 -- the counts of at most j turns
-abbrev pub Within : ℕ → Grown → Type 0
-Within j (On applied) = applied ≤ j
-Within j (Broken applied mb hn) = (applied ≤ j) × (0 < mb) × (mb ≤ j)
+abbrev pub Within : ℕ → Result ℕ Broken → Type 0
+Within j (Ok applied) = applied ≤ j
+Within j (Err e) = (e.applied ≤ j) × (0 < e.mb) × (e.mb ≤ j)
 
 -- the answer's basis, and its counts
-unfoldable pub basis_at : Layout → Krylov → BasisAnswer → List Float → Basis
-basis_at l k (Broke applied mb hn) w = breakdown (breakdown_at l k applied mb hn w)
-basis_at l k (Full applied avnorm) w = full (columns_at l k (k.m + 1) applied w) avnorm
+unfoldable pub basis_at : Layout → Krylov → Result Full Broken → List Float → Basis
+basis_at l k (Ok b) w = full (columns_at l k (k.m + 1) b.applied w) b.avnorm
+basis_at l k (Err e) w = breakdown (breakdown_at l k e w)
 
-abbrev pub Counted : ℕ → BasisAnswer → Type 0
-Counted m (Broke applied mb hn) = (applied ≤ m + 1) × (0 < mb) × (mb ≤ m)
-Counted m (Full applied avnorm) = applied ≤ m + 1
+abbrev pub Counted : ℕ → Result Full Broken → Type 0
+Counted m (Ok b) = b.applied ≤ m + 1
+Counted m (Err e) = (e.applied ≤ m + 1) × (0 < e.mb) × (e.mb ≤ m)
 
 -- z is orthogonal to columns 0 to j
 pub record Rested (l : Layout) (k : Krylov) (p : Setting) (j : ℕ) (w₀ w : List Float) : Type 0 where

@@ -24,18 +24,19 @@ pub struct Krylov {
     pub tol: f64,
 }
 
-// The products made; on a breakdown also how many columns count, and the size left out.
+// A breakdown: the products made, how many columns count, and the size left out.
 #[derive(Clone, Copy)]
-pub enum Grown {
-    On(usize),
-    Broken(usize, usize, f64),
+pub struct Broken {
+    pub applied: usize,
+    pub mb: usize,
+    pub hn: f64,
 }
 
-// A breakdown as above; or M + 1 columns: the products made, and the norm of the last one.
+// M + 1 columns: the products made, and the norm of the last one.
 #[derive(Clone, Copy)]
-pub enum BasisAnswer {
-    Breakdown(usize, usize, f64),
-    Full(usize, f64),
+pub struct Full {
+    pub applied: usize,
+    pub avnorm: f64,
 }
 
 pub fn norm2(x: &[f64]) -> f64
@@ -82,6 +83,7 @@ fn orthogonal(work: &mut [f64], z_at: usize, h_at: usize, dim: usize, len: usize
     let z_end = z_at + len;
     let s = &work[..];
     let mut c = dot::dot(&s[z_at..z_end], &s[0..len]);
+    // z, the columns and h lie in one lent slice, of which the kernels take places: i counts those
     for i in 0..j {
         let at = i * len;
         let e = j * dim + i;

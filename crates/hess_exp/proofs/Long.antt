@@ -1,4 +1,5 @@
 -- The column of the small exponential has a value for each row. Assumes nothing.
+use Rattle.std.specs.Prelude.{Option, Some, None}
 use mathlib.Core.Path.{◌≡◌, sym, ◌∙◌}
 use mathlib.Core.List.{List, map}
 use Prim.Native.Nat.{ℕ, zero, suc, ◌+◌}
@@ -7,8 +8,7 @@ use lib.Ieee.{Float}
 use Rattle.lists.specs.Loop.{iter}
 use Rattle.lists.proofs.Loop.{length_tabulate, length_zip_with}
 use Rattle.doubles.specs.F64.{◌⊕◌, ◌⊗◌, ◌⊘◌, nat, +0, 1f}
-use Rattle.expmv.specs.declared.Selected.{Selected}
-use Rattle.expmv.specs.declared.Selected.TheVariants.{NoRow, Row}
+use Rattle.expmv.specs.declared.Row.{Row}
 use Rattle.hess_exp.specs.HessExp.{Terms, term_step, hess_sweep, e1, Small, unplanned, column, swept, hess_exp_e1}
 use Rattle.hess_rows.specs.HessProduct.{hess_product}
 
@@ -36,10 +36,10 @@ module _ (h : List Float) (dim mx : ℕ) where
   sweeps_long ts deg zero y e = e
   sweeps_long ts deg (suc k) y e = terms_long ts deg _ (sweeps_long ts deg k y e)
 
-  swept_long : (t arg : Float) (r : Selected) → Long mx (swept h dim mx t arg r)
+  swept_long : (t arg : Float) (r : Option Row) → Long mx (swept h dim mx t arg r)
   unfolding swept e1
-  swept_long t arg NoRow = tt
-  swept_long t arg (Row s deg) = sweeps_long (t ⊘ nat s) deg s _ (length-set (replicate mx +0) 0 1f ∙ length-replicate mx +0)
+  swept_long t arg None = tt
+  swept_long t arg (Some r) = sweeps_long (t ⊘ nat r.s) r.m r.s _ (length-set (replicate mx +0) 0 1f ∙ length-replicate mx +0)
 
   pub column_long : (t : Float) → Long mx (hess_exp_e1 h dim mx t)
   unfolding hess_exp_e1

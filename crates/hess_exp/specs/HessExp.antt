@@ -1,12 +1,11 @@
 -- `hess_exp_e1` (phi_krylov_arnoldi.rs): e ^ (t H) e_1 for the leading mx rows and columns of h, which is stored in columns of dim, row r with
 -- entries from column r - 1 on; by Taylor sweeps on the vector. Definitions only.
-use Rattle.std.specs.Prelude.{List, map, ℕ, ◌+◌, ◌*◌, replicate, set, Float}
+use Rattle.std.specs.Prelude.{List, map, ℕ, ◌+◌, replicate, set, Float, Option, Some, None}
 use Rattle.lists.specs.Loop.{iter, zip_with}
 use Rattle.doubles.specs.F64.{◌⊕◌, ◌⊗◌, ◌⊘◌, nat, +0, 1f, at, abs, max_num}
 use Rattle.doubles.specs.Sum.{sum, open_sum}
 use Rattle.expmv.specs.Select.{select_s_m, M_MAX, open_select}
-use Rattle.expmv.specs.declared.Selected.{Selected}
-use Rattle.expmv.specs.declared.Selected.TheVariants.{NoRow, Row}
+use Rattle.expmv.specs.declared.Row.{Row}
 use Rattle.hess_rows.specs.HessProduct.{place, hess_product, open_hess_product}
 
 -- the largest column sum of sizes; a NaN sum is dropped
@@ -37,9 +36,9 @@ pub data Small : Type 0 where
   unplanned : Float → Small
   column : List Float → Small
 
-unfoldable pub swept : List Float → ℕ → ℕ → Float → Float → Selected → Small
-swept h dim mx t arg NoRow = unplanned arg
-swept h dim mx t arg (Row s deg) = column (iter (λ _ y. hess_sweep h dim mx (t ⊘ nat s) deg y) s (e1 mx))
+unfoldable pub swept : List Float → ℕ → ℕ → Float → Float → Option Row → Small
+swept h dim mx t arg None = unplanned arg
+swept h dim mx t arg (Some r) = column (iter (λ _ y. hess_sweep h dim mx (t ⊘ nat r.s) r.m y) r.s (e1 mx))
 
 unfoldable pub hess_exp_e1 : List Float → ℕ → ℕ → Float → Small
 hess_exp_e1 h dim mx t = let arg = t ⊗ column_sum_norm h dim mx in swept h dim mx t arg (select_s_m M_MAX arg)

@@ -2,12 +2,15 @@
 #![tactic(auto)]
 
 ghost use Rattle.std.specs.Prelude.{◌≡◌, ◌+◌, ◌*◌, ◌<◌, ◌≤◌, length};
+ghost use Rattle.std.specs.List.{fold};
 ghost use Rattle.lists.specs.Loop.{iter, zip_with};
 ghost use Rattle.lists.specs.Window.{window};
-ghost use Rattle.doubles.specs.F64.{◌⊕◌};
+ghost use Rattle.doubles.specs.F64.{◌⊕◌, +0, abs};
 ghost use Rattle.hess_exp.specs.HessExp.{column_sum_norm, term_step, hess_sweep, hess_exp_e1};
-ghost use Rattle.hess_exp.specs.Parts.{column_sum, terms, small_of};
+ghost use Rattle.hess_exp.specs.Parts.{terms, small_of};
 ghost use Rattle.hess_rows.specs.Parts.{Leading};
+
+use expmv::Row;
 
 // Whether there was a plan; its argument; and where there was one, the column in the first places.
 #[derive(Drop)]
@@ -17,16 +20,11 @@ pub struct SmallExp {
     pub column: [f64; 130],
 }
 
-fn column_sum(h: &[f64], dim: usize, mx: usize, c: usize) -> f64
-    requires leading { Leading h.now dim mx }
-    requires c_lt_mx { c < mx }
-    ensures { result ≡ column_sum h.now dim mx c }
+// The sum of the sizes in a column.
+fn column_sum(column: &[f64]) -> f64
+    ensures { result ≡ fold (λ s x. s ⊕ abs x) +0 column.now }
 {
-    let mut s = 0.0;
-    for r in 0..mx {
-        s = s + float::abs(h[c * dim + r]);
-    }
-    s
+    column.iter().fold(0.0, |s, x| s + float::abs(*x))
 }
 
 fn column_sum_norm(h: &[f64], dim: usize, mx: usize) -> f64
@@ -35,18 +33,19 @@ fn column_sum_norm(h: &[f64], dim: usize, mx: usize) -> f64
 {
     let mut m = 0.0;
     for c in 0..mx {
-        m = float::max(m, column_sum(h, dim, mx, c));
+        let from = c * dim;
+        m = float::max(m, column_sum(&h[from..from + mx]));
     }
     m
 }
 
-// y = y + w
+// y = y + w, and no zip with y.iter_mut(): of what is written through that a proof knows the length alone
 fn added_in(w: &[f64], y: &mut [f64])
     requires { length w.now ≡ length y.old }
     ensures { y.new ≡ zip_with ◌⊕◌ y.old w.now }
 {
-    for i in 0..y.len() {
-        y[i] = y[i] + w[i];
+    for (i, a) in y.iter_mut().enumerate() {
+        *a = *a + w[i];
     }
 }
 
@@ -67,7 +66,7 @@ fn hess_sweep(h: &[f64], dim: usize, mx: usize, ts: f64, deg: usize, y: &mut [f6
     requires y_len { (length y.old ≡ mx) × (length w.old ≡ mx) }
     ensures { y.new ≡ hess_sweep h.now dim mx ts deg y.old }
 {
-    vectors::copy_from(w, 0, y, 0, mx);
+    w.copy_from_slice(y);
     for k in 0..deg {
         hess_term(h, dim, mx, ts, k, y, w);
     }
@@ -88,7 +87,7 @@ fn hess_sweeps(
     requires y_len { (length y.old ≡ mx) × (length w.old ≡ mx) }
     ensures { y.new ≡ iter (λ _ v. hess_sweep h.now dim mx ts deg v) s y.old }
 {
-    for i in 0..s {
+    for _ in 0..s {
         hess_sweep(h, dim, mx, ts, deg, y, w);
     }
 }
@@ -122,7 +121,7 @@ pub fn hess_exp_e1(h: &[f64], dim: usize, mx: usize, t: f64) -> SmallExp
     let mut w = [0.0; 130];
     let arg = t * column_sum_norm(h, dim, mx);
     let plan = expmv::select_s_m(expmv::M_MAX, arg);
-    let expmv::Selected::Row(s, deg) = plan else {
+    let Some(Row { s, m }) = plan else {
         return SmallExp {
             planned: false,
             argument: arg,
@@ -131,7 +130,7 @@ pub fn hess_exp_e1(h: &[f64], dim: usize, mx: usize, t: f64) -> SmallExp
     };
     y[0] = 1.0;
     let ts = t / float::count(s as usize);
-    hess_sweeps_in(h, dim, mx, ts, deg as usize, s as usize, &mut y, &mut w);
+    hess_sweeps_in(h, dim, mx, ts, m as usize, s as usize, &mut y, &mut w);
     SmallExp {
         planned: true,
         argument: arg,

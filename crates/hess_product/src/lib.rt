@@ -25,10 +25,10 @@ fn eight_rows(h: &[f64], dim: usize, mx: usize, w: &[f64], r: usize, x: f64) -> 
     let from = r + 7;
     let mut s = hess_rows::four_rows(h, dim, from, w, r, x);
     let mut t = hess_rows::four_starts(h, dim, w, r + 4, w[r + 3]);
-    for j in from..mx {
-        let p = j * dim + r;
-        s = hess_rows::add_four(h, p, w[j], s);
-        t = hess_rows::add_four(h, p + 4, w[j], t);
+    for (k, y) in w[from..mx].iter().enumerate() {
+        let p = (from + k) * dim + r;
+        s = hess_rows::add_four(h, p, *y, s);
+        t = hess_rows::add_four(h, p + 4, *y, t);
     }
     Eight { upper: s, lower: t }
 }
@@ -50,22 +50,18 @@ pub fn hess_product_in(h: &[f64], dim: usize, mx: usize, f: f64, w: &mut [f64])
     requires w_len { length w.old ≡ mx }
     ensures { w.new ≡ map (λ e. f ⊗ e) (hess_product h.now dim mx w.old) }
 {
-    let mut r = 0;
     let mut x = 0.0;
-    while r < mx {
-        if mx - r < 8 {
-            let s = hess_rows::row_part(h, dim, w, r, x, mx);
-            x = w[r];
-            w[r] = f * s;
-            r = r + 1;
-        } else {
-            let s = eight_rows(h, dim, mx, w, r, x);
-            let upper = s.upper;
-            let lower = s.lower;
-            x = w[r + 7];
-            put_four(w, r, f, upper);
-            put_four(w, r + 4, f, lower);
-            r = r + 8;
-        }
+    let blocks = mx / 8;
+    for b in 0..blocks {
+        let r = 8 * b;
+        let s = eight_rows(h, dim, mx, w, r, x);
+        x = w[r + 7];
+        put_four(w, r, f, s.upper);
+        put_four(w, r + 4, f, s.lower);
+    }
+    for r in 8 * blocks..mx {
+        let s = hess_rows::row_part(h, dim, w, r, x, mx);
+        x = w[r];
+        w[r] = f * s;
     }
 }

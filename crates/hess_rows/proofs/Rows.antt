@@ -6,11 +6,12 @@ use native.Mathlib.Omega.{arith}
 use native.Mathlib.Numerals.{unary_clauses}
 use native.Mathlib.Nat.{mul-le-mul_right}
 use borrow.Author.Tests.{ne_eqb}
-use lib.ListN.{length}
-use lib.Ieee.{Float}
+use lib.ListN.{length, take, drop}
+use lib.Ieee.{Float, nan}
 use Rattle.lists.specs.Loop.{iter}
 use Rattle.lists.proofs.Loop.{iter_none, iter_next}
-use Rattle.lists.proofs.Bounds.{column_within}
+use Rattle.lists.proofs.Bounds.{cell_within, column_within}
+use Rattle.lists.proofs.Folds.{length_part, get_d_part}
 use Rattle.doubles.specs.F64.{◌⊕◌, ◌⊗◌, +0, at}
 use Rattle.doubles.specs.Sum.{sum}
 use Rattle.hess_rows.specs.HessProduct.{place}
@@ -36,9 +37,21 @@ module _ (h : List Float) (dim : ℕ) (x : Float) (w : List Float) (r : ℕ) whe
   pub part_turn : (j : ℕ) {s : Float} → r ≤ j → s ≡ row_part h dim x w r j → s ⊕ at h (place dim r j) ⊗ at w j ≡ row_part h dim x w r (j + 1)
   part_turn j l e = ap (λ (t : Float). t ⊕ at h (place dim r j) ⊗ at w j) e ∙ sym (part_next j l)
 
+  -- the same where w is gone through from place r on
+  pub part_more : (to k : ℕ) {s : Float} → k < length (take (to - r) (drop r w)) → to ≤ length w → s ≡ row_part h dim x w r (r + k)
+      → s ⊕ at h (place dim r (r + k)) ⊗ at (take (to - r) (drop r w)) k ≡ row_part h dim x w r (r + (k + 1))
+  part_more to k {s} l m e =
+      let more : r + k + 1 ≡ r + (k + 1) = omega arith in
+      let here = get_d_part r to w k nan (omega (arith, length_part r to w m)) in
+      rw (here, ← more) (part_turn (r + k) (omega arith) e)
+
 -- fewer rows and columns lie within h too
 pub fewer : {h : List Float} {dim a : ℕ} → Leading h dim a → (b : ℕ) → b ≤ a → Leading h dim b
 fewer {h} {dim} {a} l b m = record { across = omega (arith, l.across); down = omega (arith, mul-le-mul_right dim m, l.down) }
+
+-- the entry of row r in column r + k lies within h
+pub row_within : {h : List Float} {dim a : ℕ} → Leading h dim a → (w : List Float) (r k : ℕ) → r < dim → a ≤ length w → k < length (take (a - r) (drop r w)) → (r + k) * dim + r < length h
+row_within {h} {dim} {a} l w r k m n g = omega (arith, cell_within (r + k) a dim r (omega (arith, length_part r a w n)) m, l.down)
 
 -- the entries of four rows in column j lie within h
 pub four_within : {h : List Float} {dim a : ℕ} → Leading h dim a → (r j : ℕ) → r + 4 ≤ dim → j < a → j * dim + r + 4 ≤ length h
@@ -57,6 +70,17 @@ module _ (h : List Float) (dim : ℕ) (x : Float) (w : List Float) (r j : ℕ) (
       let t2 = turn_at (at w (r + 1)) (r + 2) (p + 2) (omega arith) (omega (arith, d)) (ap (λ (z : Four). z.s2) e) in
       let t3 = turn_at (at w (r + 2)) (r + 3) (p + 3) (omega arith) (omega (arith, d)) (ap (λ (z : Four). z.s3) e) in
       λ i. record { s0 = t0 i; s1 = t1 i; s2 = t2 i; s3 = t3 i }
+
+-- where w is gone through from place `from` on: the entries of four rows lie within h, and a turn
+pub four_in : {h : List Float} {dim a : ℕ} → Leading h dim a → (w : List Float) (r from k : ℕ) → r + 4 ≤ dim → a ≤ length w → k < length (take (a - from) (drop from w)) → (from + k) * dim + r + 4 ≤ length h
+four_in {h} {dim} {a} l w r from k m n g = four_within l r (from + k) m (omega (arith, length_part from a w n))
+
+pub four_more : (h : List Float) (dim : ℕ) (x : Float) (w : List Float) (r from to k p : ℕ) {s : Four} → r + 3 ≤ from → k < length (take (to - from) (drop from w)) → to ≤ length w
+    → p ≡ place dim r (from + k) → s ≡ four_parts h dim x w r (from + k) → added h p (at (take (to - from) (drop from w)) k) s ≡ four_parts h dim x w r (from + (k + 1))
+four_more h dim x w r from to k p {s} b l m d e =
+    let more : from + k + 1 ≡ from + (k + 1) = omega arith in
+    let here = get_d_part from to w k nan (omega (arith, length_part from to w m)) in
+    rw (here, ← more) (four_turn h dim x w r (from + k) (omega arith) p d e)
 
 -- ---- the row that the parts make
 -- a sum by another way of its terms, and with its first term apart

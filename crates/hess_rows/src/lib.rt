@@ -17,14 +17,15 @@ fn left_product(h: &[f64], dim: usize, r: usize, x: f64) -> f64
 }
 
 // Row r of H w up to column `to`, x being w at r - 1: nothing left of place r is read.
+// The entries by their places, here and below: with chunks_exact(dim) for the columns the product takes 1.1 times as long.
 pub fn row_part(h: &[f64], dim: usize, w: &[f64], r: usize, x: f64, to: usize) -> f64
     requires leading { Leading h.now dim to }
     requires r_le_to { (r ≤ to) × (r < dim) × (to ≤ length w.now) }
     ensures { result ≡ row_part h.now dim x w.now r to }
 {
     let mut s = left_product(h, dim, r, x);
-    for j in r..to {
-        s = s + h[j * dim + r] * w[j];
+    for (k, y) in w[r..to].iter().enumerate() {
+        s = s + h[(r + k) * dim + r] * *y;
     }
     s
 }
@@ -74,8 +75,8 @@ pub fn four_rows(h: &[f64], dim: usize, to: usize, w: &[f64], r: usize, x: f64) 
 {
     let from = r + 3;
     let mut s = four_starts(h, dim, w, r, x);
-    for j in from..to {
-        s = add_four(h, j * dim + r, w[j], s);
+    for (k, y) in w[from..to].iter().enumerate() {
+        s = add_four(h, (from + k) * dim + r, *y, s);
     }
     s
 }

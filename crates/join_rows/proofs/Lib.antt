@@ -2,3 +2,4 @@ pub mod Values
 pub mod Row
 pub mod Steps
 pub mod Passes
+pub mod Order

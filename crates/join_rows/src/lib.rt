@@ -1,13 +1,13 @@
 // Rows of the two matrices of a join: whether their columns rise, how many entries they have together, and whether each sum is finite.
+// Rows are gone through by their number: a row is told by two places of two slices, and windows of both read no plainer.
 #![tactic(auto)]
 
-ghost use Rattle.std.specs.Prelude.{◌≡◌, List, true, ◌+◌, ◌-◌, ◌≤◌, ◌<◌, length, Float};
-ghost use Rattle.lists.specs.Find.{exists};
+ghost use Rattle.std.specs.Prelude.{◌≡◌, List, true, ◌+◌, ◌-◌, ◌≤◌, ◌<◌, length, Float, MatchBool};
 ghost use Rattle.lists.specs.Loop.{stack};
 ghost use Rattle.checks.specs.First.{first};
 ghost use Rattle.general_operator.specs.Csr.{csr};
-ghost use Rattle.join_rows.specs.Join.{joined_columns, joined_values, join, not_rising, unordered, value_checks, ends};
-ghost use Rattle.join_rows.specs.Inner.{Rows, Ordered, Joinable};
+ghost use Rattle.join_rows.specs.Join.{joined_columns, joined_values, join, unordered, value_checks, ends};
+ghost use Rattle.join_rows.specs.Inner.{Rows, Ordered, Joinable, Repeats, Rises};
 ghost use Rattle.row_merge.specs.Merge.{advance};
 
 use checks::{Checked, Reason, Refusal};
@@ -20,29 +20,11 @@ pub struct Lengths {
     pub values: usize,
 }
 
-// The entry at place k of a row that ends at `to` and the next one of that row do not rise.
-fn not_rising(cols: &[u32], to: usize, k: usize) -> bool
-    requires { (k < to) × (to ≤ length cols.now) }
-    ensures { result ≡ not_rising cols.now to k }
-{
-    if k + 1 < to {
-        return cols[k + 1] <= cols[k];
-    }
-    false
-}
-
 // 35 of one row.
-fn row_unordered(cols: &[u32], from: usize, to: usize) -> bool
-    requires { (from ≤ to) × (to ≤ length cols.now) }
-    ensures { result ≡ exists (λ k. not_rising cols.now to (from + k)) (to - from) }
+fn row_unordered(row: &[u32]) -> bool
+    ensures { MatchBool result (Repeats row.now) (Rises row.now) }
 {
-    let count = to - from;
-    for k in 0..count {
-        if not_rising(cols, to, from + k) {
-            return true;
-        }
-    }
-    false
+    row.windows(2).any(|w| w[1] <= w[0])
 }
 
 // 35 of one input. Entries before the first row start are in no row.
@@ -53,7 +35,7 @@ pub fn is_unordered(n: usize, starts: &[u32], cols: &[u32]) -> bool
     for i in 0..n {
         let from = starts[i] as usize;
         let to = starts[i + 1] as usize;
-        if row_unordered(cols, from, to) {
+        if row_unordered(&cols[from..to]) {
             return true;
         }
     }

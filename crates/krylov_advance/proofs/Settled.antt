@@ -5,6 +5,7 @@ use Prim.Native.Nat.{ℕ, ◌+◌, ◌*◌, ◌≤◌}
 use native.Mathlib.Nat.{mul-le-mul_right, add-mul, one-mul}
 use native.Mathlib.Omega.{arith}
 use lib.Ieee.{Float}
+use Rattle.std.specs.Prelude.{Result, Ok, Err}
 use Rattle.lists.specs.Loop.{tabulate}
 use Rattle.lists.specs.Window.{window}
 use Rattle.doubles.specs.F64.{◌⊖◌, 1f}
@@ -14,8 +15,8 @@ use Rattle.phi_action_helpers.specs.declared.Coupling.{Coupling}
 use Rattle.gram_schmidt.specs.Basis.{arnoldi}
 use Rattle.gram_schmidt.specs.Memory.{setting_at, column, basis_at, Counted}
 use Rattle.gram_schmidt.specs.declared.Krylov.{Krylov}
-use Rattle.gram_schmidt.specs.declared.BasisAnswer.{BasisAnswer}
-use Rattle.gram_schmidt.specs.declared.BasisAnswer.TheVariants.{Breakdown, Full}
+use Rattle.gram_schmidt.specs.declared.Broken.{Broken}
+use Rattle.gram_schmidt.specs.declared.Full.{Full}
 use Rattle.trial_steps.specs.Trials.{trials}
 use Rattle.krylov_advance.specs.Run.{applied_of, columns_of, unfinished, standing, settle, substep}
 use Rattle.trial_steps.specs.Memory.{outcome_at, columns_in}
@@ -31,30 +32,30 @@ use Rattle.checks.specs.Reasons.{refusal}
 use Rattle.checks.specs.declared.Reason.TheVariants.{LengthsRejected, NoInnerPlan}
 
 -- ---- what the answer's basis has
-columns_are : (l : Layout) (k : Krylov) (basis : BasisAnswer) (w : List Float) → columns_of (basis_at l k basis w) ≡ tabulate (columns_in k basis) (column (l.n + l.d) w)
+columns_are : (l : Layout) (k : Krylov) (basis : Result Full Broken) (w : List Float) → columns_of (basis_at l k basis w) ≡ tabulate (columns_in k basis) (column (l.n + l.d) w)
 unfolding basis_at
-columns_are l k (Breakdown applied mb hn) w = refl
-columns_are l k (Full applied avnorm) w = refl
+columns_are l k (Err e) w = refl
+columns_are l k (Ok b) w = refl
 
-applied_is : (l : Layout) (k : Krylov) (basis : BasisAnswer) (w : List Float) → applied_of (basis_at l k basis w) ≡ products basis
+applied_is : (l : Layout) (k : Krylov) (basis : Result Full Broken) (w : List Float) → applied_of (basis_at l k basis w) ≡ products basis
 unfolding basis_at
-applied_is l k (Breakdown applied mb hn) w = refl
-applied_is l k (Full applied avnorm) w = refl
+applied_is l k (Err e) w = refl
+applied_is l k (Ok b) w = refl
 
-pub columns_few : (m : ℕ) (k : Krylov) (basis : BasisAnswer) → m ≡ k.m → Counted m basis → columns_in k basis ≤ m + 1
-columns_few m k (Breakdown applied mb hn) e h = omega (arith, h.2)
-columns_few m k (Full applied avnorm) e h = omega (arith, e)
+pub columns_few : (m : ℕ) (k : Krylov) (basis : Result Full Broken) → m ≡ k.m → Counted m basis → columns_in k basis ≤ m + 1
+columns_few m k (Err x) e h = omega (arith, h.2)
+columns_few m k (Ok b) e h = omega (arith, e)
 
-pub products_few : (m : ℕ) (basis : BasisAnswer) → Counted m basis → products basis ≤ m + 1
-products_few m (Breakdown applied mb hn) h = h.0
-products_few m (Full applied avnorm) h = h
+pub products_few : (m : ℕ) (basis : Result Full Broken) → Counted m basis → products basis ≤ m + 1
+products_few m (Err e) h = h.0
+products_few m (Ok b) h = h
 
 -- m + 1 columns of n values lie before y, and so do fewer
 pub columns_within : (count m n y : ℕ) → count ≤ m + 1 → m * n + n ≤ y → count * n ≤ y
 columns_within count m n y h l = let p = mul-le-mul_right n h in omega (arith, p, add-mul m 1 n, one-mul n)
 
 -- ---- the substep
-module _ (l : Layout) (b : Coupling) (k : Krylov) (q : Csr) (vectors : List Float) (c : Control) (r : KrylovPhiReport) (basis : BasisAnswer) (w₀ w : List Float)
+module _ (l : Layout) (b : Coupling) (k : Krylov) (q : Csr) (vectors : List Float) (c : Control) (r : KrylovPhiReport) (basis : Result Full Broken) (w₀ w : List Float)
     (field : window k.y (l.n + l.d) w ≡ window k.y (l.n + l.d) w₀)
     (eb : basis_at l k basis w ≡ arnoldi (setting_at l b k q vectors) (window k.y (l.n + l.d) w₀) c.beta)
     (f : List Float) (o : Outcome)

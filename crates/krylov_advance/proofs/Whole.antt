@@ -5,6 +5,7 @@ use Prim.Native.Nat.{ℕ, ◌+◌, ◌≤◌}
 use native.Mathlib.Omega.{arith}
 use lib.ListN.{length}
 use lib.Ieee.{Float}
+use Rattle.std.specs.Prelude.{Some}
 use Rattle.lists.specs.Frame.{Kept}
 use Rattle.lists.specs.Walk.{on, walk}
 use Rattle.lists.specs.Window.{window, splice}
@@ -14,7 +15,6 @@ use Rattle.doubles.specs.F64.{◌⊗◌, +0}
 use Rattle.vectors.specs.Vectors.{scale}
 use Rattle.vectors.proofs.Laws.{length_scale}
 use Rattle.pow2.specs.declared.Scale.{Scale}
-use Rattle.pow2.specs.declared.Prescale.TheVariants.{By}
 use Rattle.general_operator.specs.Csr.{Csr}
 use Rattle.phi_action_helpers.specs.declared.Layout.{Layout}
 use Rattle.phi_action_helpers.specs.declared.Coupling.{Coupling}
@@ -64,7 +64,7 @@ module _ (l : Layout) (b : Coupling) (k : Krylov) (starts cols : List ℕ) (vals
   pub scaled_is : (x o : RunAnswer) (w₂ w₃ : List Float)
       → end_at l k x w₃ ≡ back f.up beta (end_at l k o w₂)
       → end_at l (absolute k beta) o w₂ ≡ run (setting_at l b (absolute k beta) (matrix_at l starts cols vals w₁) vectors) limit (started (setting_at l b (absolute k beta) (matrix_at l starts cols vals w₁) vectors) (window k.y (l.n + l.d) w₁))
-      → end_at l k x w₃ ≡ expv_by (operator_at l b starts cols vals vectors w₀) k.tau k.anorm k.tol k.m limit (window k.y (l.n + l.d) w₀) (By f)
+      → end_at l k x w₃ ≡ expv_by (operator_at l b starts cols vals vectors w₀) k.tau k.anorm k.tol k.m limit (window k.y (l.n + l.d) w₀) (Some f)
   unfolding expv_by
   scaled_is x o w₂ w₃ r s =
       let y : window k.y (l.n + l.d) w₁ ≡ scale f.down (window k.y (l.n + l.d) w₀) = scaled_field l k f.down w₀ w₁ room e₁ in

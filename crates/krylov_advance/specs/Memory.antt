@@ -1,5 +1,5 @@
 -- What the memory and the answers of a run's functions stand for. Definitions only.
-use Rattle.std.specs.Prelude.{List, ℕ, ◌+◌, ◌*◌, ◌≤◌, Float}
+use Rattle.std.specs.Prelude.{Result, Ok, Err, List, ℕ, ◌+◌, ◌*◌, ◌≤◌, Float}
 use Rattle.lists.specs.Loop.{tabulate}
 use Rattle.lists.specs.Walk.{Turn, on, out}
 use Rattle.lists.specs.Window.{window}
@@ -7,8 +7,8 @@ use Rattle.phi_action_helpers.specs.declared.Layout.{Layout}
 use Rattle.gram_schmidt.specs.Basis.{Setting}
 use Rattle.gram_schmidt.specs.Memory.{column}
 use Rattle.gram_schmidt.specs.declared.Krylov.{Krylov}
-use Rattle.gram_schmidt.specs.declared.BasisAnswer.{BasisAnswer}
-use Rattle.gram_schmidt.specs.declared.BasisAnswer.TheVariants.{Breakdown, Full}
+use Rattle.gram_schmidt.specs.declared.Broken.{Broken}
+use Rattle.gram_schmidt.specs.declared.Full.{Full}
 use Rattle.krylov_advance.specs.Run.{State, End, finished, refused, advance}
 use Rattle.krylov_advance.specs.declared.Control.{Control}
 use Rattle.krylov_advance.specs.declared.KrylovPhiReport.{KrylovPhiReport}
@@ -19,9 +19,9 @@ use Rattle.krylov_advance.specs.declared.RunAnswer.{RunAnswer}
 use Rattle.krylov_advance.specs.declared.RunAnswer.TheVariants as answer
 
 -- how many products with the generator it took
-abbrev pub products : BasisAnswer → ℕ
-products (Breakdown applied mb hn) = applied
-products (Full applied avnorm) = applied
+abbrev pub products : Result Full Broken → ℕ
+products (Ok b) = b.applied
+products (Err e) = e.applied
 
 -- the field stands from k.y on
 abbrev pub state_at : Layout → Krylov → Control → KrylovPhiReport → List Float → State

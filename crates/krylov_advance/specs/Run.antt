@@ -1,5 +1,5 @@
 -- The run over unit time: state, substep, limit (phi_krylov_arnoldi.rs, `substeps`, `expv`; Sidje 1998). Definitions only.
-use Rattle.std.specs.Prelude.{Bool, true, false, not, ◌&&◌, List, ℕ, suc, ◌+◌, min, eqb, ltb, length, replicate, get_or, [], Float, if◌then◌else◌}
+use Rattle.std.specs.Prelude.{Bool, true, false, not, ◌&&◌, List, ℕ, suc, ◌+◌, min, eqb, ltb, length, replicate, get_or, [], Float, if◌then◌else◌, Option, Some, None}
 use Rattle.std.specs.Float.Ieee.{eq}
 use Rattle.checks.specs.declared.Reason.{Reason}
 use Rattle.checks.specs.declared.Reason.TheVariants.{SubstepLimit, LengthsRejected, NoInnerPlan}
@@ -11,9 +11,8 @@ use Rattle.power.specs.Power.{power, root}
 use Rattle.round2.specs.Rounded.{round2}
 use Rattle.retry.specs.Retry.{retry}
 use Rattle.vectors.specs.Vectors.{axpy, scale}
+use Rattle.pow2.specs.declared.Scale.{Scale}
 use Rattle.pow2.specs.Pow2.{pow2_scale, open_pow2}
-use Rattle.pow2.specs.declared.Prescale.{Prescale}
-use Rattle.pow2.specs.declared.Prescale.TheVariants.{By, None}
 use Rattle.phi_action_helpers.specs.Augmented.{Augmented}
 use Rattle.gram_schmidt.specs.Basis.{Setting, Basis, breakdown, full, norm2, arnoldi}
 use Rattle.trial_steps.specs.Trials.{Trying, Tried, accepted, stuck, trials, open_trials}
@@ -157,9 +156,9 @@ idle y = record { control = record { time = +0; next = +0; beta = +0 }; report =
 abbrev pub setting : Augmented → Float → Float → Float → ℕ → Setting
 setting b tau anorm tol m = record { operator = b; tau = tau; anorm = anorm; tol = tol; m = m }
 
-unfoldable pub expv_by : Augmented → Float → Float → Float → ℕ → ℕ → List Float → Prescale → End
+unfoldable pub expv_by : Augmented → Float → Float → Float → ℕ → ℕ → List Float → Option Scale → End
 expv_by b tau anorm tol m limit y None = finished (idle y)
-expv_by b tau anorm tol m limit y (By f) =
+expv_by b tau anorm tol m limit y (Some f) =
     let y₀ = scale f.down y in
     let beta₀ = norm2 y₀ in
     let p = setting b tau anorm (tol ⊗ beta₀) (clamp_m m (length y)) in

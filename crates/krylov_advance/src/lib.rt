@@ -64,8 +64,8 @@ fn combine_columns(work: &mut [f64], y_at: usize, len: usize, beta: f64, count: 
     ensures { work.new ≡ splice y_at (combined beta (tabulate count (column len work.old)) (window 0 count trial.f) len) work.old }
 {
     vectors::clear_in(work, y_at, len);
-    for i in 0..count {
-        vectors::axpy_in(work, y_at, i * len, len, beta * trial.f[i]);
+    for (i, f) in trial.f[..count].iter().enumerate() {
+        vectors::axpy_in(work, y_at, i * len, len, beta * *f);
     }
 }
 
@@ -74,19 +74,17 @@ fn next_length(m: usize, tol: f64, t: f64, err: f64, time: f64) -> f64
     ensures { result ≡ if +0 ⋖ err then retry m tol t err else (1f ⊖ time) }
 {
     if 0.0 < err {
-        return retry::retry(m, tol, t, err);
+        retry::retry(m, tol, t, err)
+    } else {
+        1.0 - time
     }
-    1.0 - time
 }
 
 // A run goes on while its norm is not 0 and its time is below 1.
 fn unfinished(c: Control) -> bool
     ensures { (report : KrylovPhiReport) (y : List Float) → result ≡ unfinished (record { control = c; report = report; y = y }) }
 {
-    if c.beta == 0.0 {
-        return false;
-    }
-    c.time < 1.0
+    c.beta != 0.0 && c.time < 1.0
 }
 
 // The shortest accepted length, t among them; of none so far it is t.
@@ -94,9 +92,10 @@ fn shorter(substeps: usize, shortest: f64, t: f64) -> f64
     ensures { result ≡ shorter substeps shortest t }
 {
     if substeps == 0 {
-        return t;
+        t
+    } else {
+        float::min(shortest, t)
     }
-    float::min(shortest, t)
 }
 
 // The report after an accepted length t that took `applied` products and added err to the estimate.
@@ -142,14 +141,15 @@ pub fn advance(
     combine_columns(work, y, len, c.beta, s.count, trial);
     let time = c.time + s.t;
     let control = Control {
-        time: time,
+        time,
         next: next_length(k.m, k.tol, s.t, s.err, time),
         beta: gram_schmidt::norm2(&work[y..end]),
     };
     let err = float::max(s.err, k.anorm * EPSILON * c.beta);
     let report = counted(r, applied, s.rejections, s.t, err);
     if unfinished(control) {
-        return Progress::On(control, report);
+        Progress::On(control, report)
+    } else {
+        Progress::Finished(control, report)
     }
-    Progress::Finished(control, report)
 }

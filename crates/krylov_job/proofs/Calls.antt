@@ -8,6 +8,7 @@ use lib.Dec.{ltb}
 use lib.ListN.{length}
 use lib.Ieee.{Float}
 use borrow.Author.Tests.{ltb-false}
+use Rattle.std.specs.Prelude.{None}
 use Rattle.lists.specs.Window.{window, splice}
 use Rattle.lists.proofs.Bounds.{column_within}
 use Rattle.lists.proofs.Window.{window_splice_same}
@@ -38,7 +39,6 @@ use Rattle.krylov_job.specs.Inner.{scaling_by, scaling_of, run_job_by, checks_af
 use Rattle.krylov_job.specs.KrylovCall.{KrylovAnswer}
 use Rattle.krylov_job.specs.declared.KrylovPhiOptions.{KrylovPhiOptions}
 use Rattle.krylov_job.specs.declared.RunJob.{RunJob}
-use Rattle.krylov_job.specs.declared.Eta.TheVariants.{Own}
 use Rattle.krylov_job.proofs.Places.{clamp_twice, expv_clamped}
 use Rattle.checks.specs.Reasons.{Sound, Refused}
 use Rattle.std.specs.Prelude.{Ok, Err}
@@ -219,17 +219,17 @@ module _
   all_checks eta ls memory e = sound_on gs _ refl sound (rw (← ok.norm, rows) e)
 
   -- a job with nothing between 16 and 17, by its own eta
-  module _ (out w₀ : List Float) {j : RunJob} (ad : Admitted g tau count w (scaling_of g tau count w Own) o (length_checks (length out) g.n (length w) (count * g.n) ++ []) (length w₀) j) where
+  module _ (out w₀ : List Float) {j : RunJob} (ad : Admitted g tau count w (scaling_of g tau count w None) o (length_checks (length out) g.n (length w) (count * g.n) ++ []) (length w₀) j) where
     pub job_told : j.checked ≡ first (krylov_checks generator tau count w o (length out) (length w₀))
     unfolding krylov_checks length_checks scaling_by eta_of quotients
-    job_told = rw rows (all_checks (scaling_of g tau count w Own).eta (length_checks (length out) g.n (length w) (count * g.n)) (length w₀) ad.told)
+    job_told = rw rows (all_checks (scaling_of g tau count w None).eta (length_checks (length out) g.n (length w) (count * g.n)) (length w₀) ad.told)
 
     pub refused_run : {k : Reason} {x : Float} → j.checked ≡ Refused k x → ends (Refused k x) out w₀ ≡ phi_combination_krylov generator tau count w o out w₀
     unfolding phi_combination_krylov
     refused_run e = refused_by Refused _ out w₀ _ e job_told
 
     module _ (e : j.checked ≡ Sound) where
-      k : Known g tau count w (scaling_of g tau count w Own) o (length out) [] (length w₀) j
+      k : Known g tau count w (scaling_of g tau count w None) o (length out) [] (length w₀) j
       k = known ad e
 
       pub start_fits : (g.n ≤ length w) × (j.k.y + (g.n + j.d) ≤ length w₀)
@@ -248,7 +248,7 @@ module _
           let d = count - 1 in
           let f = further g.n w in
           let M = dimension g.n d o.m in
-          let J = run_job_by g tau d f (scaling_of g tau count w Own) o M (length w₀) in
+          let J = run_job_by g tau d f (scaling_of g tau count w None) o M (length w₀) in
           let q = generator.matrix in
           let y = combination_start g.n w d J.eta.inv in
           let ly = length_start g.n w d J.eta.inv (first_within k.vectors) in

@@ -1,67 +1,45 @@
 -- The Krylov dimension, and the places of a Krylov call in the lent memory. Assumes nothing.
-use mathlib.Core.Path.{◌≡◌, refl, sym, ◌∙◌}
+use mathlib.Core.Path.{◌≡◌, refl}
+use mathlib.Core.Bool.{Bool, true, false}
 use mathlib.Core.List.{List}
-use mathlib.Core.Logic.{⊎_elim}
-use Prim.Native.Nat.{ℕ, ◌+◌, ◌*◌, ◌≤◌, ◌<◌}
+use Prim.Native.Nat.{ℕ, ◌+◌, ◌*◌, ◌≤◌, min, max}
 use native.Mathlib.Omega.{arith}
+use lib.Dec.{ltb}
 use lib.ListN.{length}
 use lib.Ieee.{Float}
-use borrow.Author.Tests.{lt-ltb, le-ltb}
-use Rattle.lists.proofs.Bounds.{product_within, lt_or_le}
+use borrow.Author.Tests.{ltb-true, ltb-false}
+use Rattle.std.specs.Prelude.{if◌then◌else◌, Option, Some, None}
+use Rattle.lists.proofs.Bounds.{product_within}
+use Rattle.pow2.specs.declared.Scale.{Scale}
 use Rattle.pow2.specs.Pow2.{pow2_scale}
-use Rattle.pow2.specs.declared.Prescale.{Prescale}
-use Rattle.pow2.specs.declared.Prescale.TheVariants.{By, None}
 use Rattle.phi_action_helpers.specs.Augmented.{Augmented}
 use Rattle.krylov_advance.specs.Run.{clamp_m, expv_by, expv}
 
 -- ---- M
-module _ (m len : ℕ) where
-  pub clamp_low : m < 2 → 2 ≡ clamp_m m len
-  unfolding clamp_m
-  clamp_low h = rw (lt-ltb m 2 h) refl
-
-  pub clamp_short : 2 ≤ m → len < 2 → 2 ≡ clamp_m m len
-  unfolding clamp_m
-  clamp_short h l = rw (le-ltb m 2 h, lt-ltb len 2 l) (omega arith)
-
-  pub clamp_in : 2 ≤ m → 2 ≤ len → m < len → m ≡ clamp_m m len
-  unfolding clamp_m
-  clamp_in h l k = rw (le-ltb m 2 h, le-ltb len 2 l) (omega arith)
-
-  pub clamp_high : 2 ≤ m → 2 ≤ len → len ≤ m → len ≡ clamp_m m len
-  unfolding clamp_m
-  clamp_high h l k = rw (le-ltb m 2 h, le-ltb len 2 l) (omega arith)
-
-two_is : (len : ℕ) → 2 ≡ clamp_m 2 len
-two_is len =
-    ⊎_elim
-    (λ (l : len < 2). clamp_short 2 len (omega arith) l)
-    (λ (l : 2 ≤ len). ⊎_elim (λ (k : 2 < len). clamp_in 2 len (omega arith) l k) (λ (k : len ≤ 2). let e : 2 ≡ len = omega arith in e ∙ clamp_high 2 len (omega arith) l k) (lt_or_le 2 len))
-    (lt_or_le len 2)
+pub clamp_is : (m len : ℕ) → max 2 (min m (max len 2)) ≡ clamp_m m len
+unfolding clamp_m
+clamp_is m len = go (ltb m 2) (ltb len 2) refl refl
+  where
+    go : (s t : Bool) → ltb m 2 ≡ s → ltb len 2 ≡ t → max 2 (min m (max len 2)) ≡ (if s then 2 else min m (if t then 2 else len))
+    go true t p q = omega (arith, ltb-true m 2 p)
+    go false true p q = omega (arith, ltb-false m 2 p, ltb-true len 2 q)
+    go false false p q = omega (arith, ltb-false m 2 p, ltb-false len 2 q)
 
 -- a clamped number stays
 pub clamp_twice : (m len : ℕ) → clamp_m (clamp_m m len) len ≡ clamp_m m len
 clamp_twice m len =
-    ⊎_elim
-    (λ (h : m < 2). same 2 (clamp_low m len h) (two_is len))
-    (λ (h : 2 ≤ m).
-    ⊎_elim
-    (λ (l : len < 2). same 2 (clamp_short m len h l) (two_is len))
-    (λ (l : 2 ≤ len). ⊎_elim (λ (k : m < len). same m (clamp_in m len h l k) (clamp_in m len h l k)) (λ (k : len ≤ m). same len (clamp_high m len h l k) (clamp_high len len l l (omega arith))) (lt_or_le m len))
-    (lt_or_le len 2))
-    (lt_or_le m 2)
-  where
-    same : (x : ℕ) → x ≡ clamp_m m len → x ≡ clamp_m x len → clamp_m (clamp_m m len) len ≡ clamp_m m len
-    same x e f = rw (← e) (sym f)
+    let once = clamp_is m len in
+    let twice = clamp_is (clamp_m m len) len in
+    omega (arith, once, twice)
 
 -- a run clamps its dimension: a clamped one makes the same run
 pub expv_clamped : (b : Augmented) (tau anorm tol : Float) (m limit : ℕ) (y : List Float) → expv b tau anorm tol (clamp_m m (length y)) limit y ≡ expv b tau anorm tol m limit y
 unfolding expv expv_by
 expv_clamped b tau anorm tol m limit y = go (pow2_scale y)
   where
-    go : (s : Prescale) → expv_by b tau anorm tol (clamp_m m (length y)) limit y s ≡ expv_by b tau anorm tol m limit y s
+    go : (s : Option Scale) → expv_by b tau anorm tol (clamp_m m (length y)) limit y s ≡ expv_by b tau anorm tol m limit y s
     go None = refl
-    go (By f) = rw (clamp_twice m (length y)) refl
+    go (Some f) = rw (clamp_twice m (length y)) refl
 
 -- ---- the places are numbers of a machine
 pub record Within (n d m : ℕ) : Type 0 where

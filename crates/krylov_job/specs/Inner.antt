@@ -1,6 +1,6 @@
 -- What the checks of a run hand back beside their answer, and what the run takes from them: cited by contracts of inner functions, and by no
 -- definition of a call. Definitions only.
-use Rattle.std.specs.Prelude.{List, ◌++◌, ◌≡◌, ℕ, ◌+◌, ◌-◌, ◌≤◌, Float}
+use Rattle.std.specs.Prelude.{List, ◌++◌, ◌≡◌, ℕ, ◌+◌, ◌-◌, ◌≤◌, Option, Some, None, Float}
 use Rattle.doubles.specs.F64.{1f}
 use Rattle.checks.specs.First.{Check, first}
 use Rattle.general_operator.specs.Csr.{Csr, csr}
@@ -23,7 +23,7 @@ use Rattle.krylov_job.specs.declared.KrylovPhiOptions.{KrylovPhiOptions}
 use Rattle.krylov_job.specs.KrylovCall.{KrylovAnswer}
 use Rattle.krylov_job.specs.declared.RunJob.{RunJob}
 use Rattle.krylov_job.specs.declared.Eta.{Eta}
-use Rattle.krylov_job.specs.declared.Eta.TheVariants.{Own, Began}
+use Rattle.krylov_job.specs.declared.Eta.TheVariants.{None, Some}
 use Rattle.checks.specs.Reasons.{Sound}
 use Rattle.std.specs.Prelude.{Ok, Err}
 
@@ -42,11 +42,11 @@ run_job_by g tau d f eta o M memory =
     }
 
 -- eta of the sum of a job's shares, or what a run began with
-unfoldable pub scaling_by : Eta → Float → Scaling
-scaling_by Own sum = eta_scaling sum
-scaling_by (Began x) sum = record { eta = x; inv = 1f }
+unfoldable pub scaling_by : Option Float → Float → Scaling
+scaling_by None sum = eta_scaling sum
+scaling_by (Some x) sum = record { eta = x; inv = 1f }
 
-abbrev pub scaling_of : Shape → Float → ℕ → List Float → Eta → Scaling
+abbrev pub scaling_of : Shape → Float → ℕ → List Float → Option Float → Scaling
 scaling_of g tau count w eta = scaling_by eta (magnitude g.n (further g.n w) tau (count - 1))
 
 -- 12 to 22, 24 and 26 over a generator with the numbers g

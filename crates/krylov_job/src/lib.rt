@@ -33,16 +33,7 @@ pub struct KrylovPhiOptions {
 pub fn clamp_m(m: usize, len: usize) -> usize
     ensures { result ≡ clamp_m m len }
 {
-    if m < 2 {
-        return 2;
-    }
-    if len < 2 {
-        return 2;
-    }
-    if m < len {
-        return m;
-    }
-    len
+    m.clamp(2, len.max(2))
 }
 
 fn in_unit(x: f64) -> bool
@@ -143,12 +134,12 @@ pub fn layout(n: usize, d: usize, m: usize, mass: bool) -> Layout
 {
     let av = (m + 3) * (n + d) + (m + 2) * (m + 2);
     Layout {
-        n: n,
-        d: d,
+        n,
+        d,
         w: (m + 1) * (n + d),
-        av: av,
+        av,
         q: av + n,
-        mass: mass,
+        mass,
     }
 }
 
@@ -158,12 +149,12 @@ pub fn krylov(n: usize, d: usize, m: usize, tau: f64, anorm: f64, tol: f64) -> K
 {
     let h = (m + 2) * (n + d);
     Krylov {
-        m: m,
-        h: h,
+        m,
+        h,
         y: h + (m + 2) * (m + 2),
-        tau: tau,
-        anorm: anorm,
-        tol: tol,
+        tau,
+        anorm,
+        tol,
     }
 }
 
@@ -180,20 +171,13 @@ pub struct RunJob {
     pub limit: usize,
 }
 
-// What scales the gains: the job's own eta, or the one that a run began with.
-#[derive(Clone, Copy)]
-pub enum Eta {
-    Own,
-    Began(f64),
-}
-
-// Of the sum of all shares; 1 / eta is of use to a job's own alone.
-fn scaling_by(eta: Eta, sum: f64) -> Scaling
-    ensures { result ≡ scaling_by eta sum }
+// What scales the gains: the eta that a run began with, or the job's own, of the sum of all shares; 1 / eta is of use to a job's own alone.
+fn scaling_by(began: Option<f64>, sum: f64) -> Scaling
+    ensures { result ≡ scaling_by began sum }
 {
-    match eta {
-        Eta::Own => pow2::eta_scaling(sum),
-        Eta::Began(x) => Scaling { eta: x, inv: 1.0 },
+    match began {
+        None => pow2::eta_scaling(sum),
+        Some(eta) => Scaling { eta, inv: 1.0 },
     }
 }
 
@@ -217,11 +201,11 @@ fn admit_weighed(
     let need = krylov_need(g.n, d, m, g.stored);
     RunJob {
         checked: check_run(weighed, anorm, memory, need),
-        g: g,
-        d: d,
-        need: need,
-        eta: eta,
-        b: b,
+        g,
+        d,
+        need,
+        eta,
+        b,
         k: krylov(g.n, d, m, tau, anorm, o.tol),
         limit: o.max_substeps,
     }
@@ -233,16 +217,16 @@ pub fn admit_run(
     tau: f64,
     d: usize,
     further: &[f64],
-    eta: Eta,
+    began: Option<f64>,
     o: KrylovPhiOptions,
     m: usize,
     memory: usize,
 ) -> RunJob
     requires { (d * g.n ≤ length further.now) × (g.n ≤ 1000000) × (d ≤ 3) × (m ≤ 128) × (g.stored ≤ 16777216) }
-    ensures { result ≡ run_job_by g tau d further.now (scaling_by eta (magnitude g.n further.now tau d)) o m memory }
+    ensures { result ≡ run_job_by g tau d further.now (scaling_by began (magnitude g.n further.now tau d)) o m memory }
 {
     let p = weighted_columns::powers_of(g.n, further, tau, d);
-    let scaling = scaling_by(eta, p.sum);
+    let scaling = scaling_by(began, p.sum);
     let weights = weighted_columns::weigh_by(g.n, d, p, scaling);
     admit_weighed(g, tau, d, scaling, weights, o, m, memory)
 }
@@ -257,12 +241,12 @@ fn refused_job(checked: Checked, g: Shape) -> RunJob
         count: 0,
     };
     RunJob {
-        checked: checked,
-        g: g,
+        checked,
+        g,
         d: 0,
         need: 0,
         eta: Scaling { eta: 1.0, inv: 1.0 },
-        b: b,
+        b,
         k: krylov(0, 0, 2, 0.0, 0.0, 0.0),
         limit: 0,
     }
@@ -274,14 +258,14 @@ pub fn admit_job(
     tau: f64,
     count: usize,
     w: &[f64],
-    eta: Eta,
+    began: Option<f64>,
     o: KrylovPhiOptions,
     output: usize,
     others: Checked,
     memory: usize,
 ) -> RunJob
     requires { (g.n ≤ 1000000) × (g.stored ≤ 16777216) }
-    ensures { (os : List Check) → others ≡ first os → Admitted g tau count w.now (scaling_of g tau count w.now eta) o (length_checks output g.n (length w.now) (count * g.n) ++ os) memory result }
+    ensures { (os : List Check) → others ≡ first os → Admitted g tau count w.now (scaling_of g tau count w.now began) o (length_checks output g.n (length w.now) (count * g.n) ++ os) memory result }
 {
     let n = g.n;
     let early = check_job(n, tau, count, w, o, output, others);
@@ -290,5 +274,5 @@ pub fn admit_job(
     };
     let d = count - 1;
     let m = clamp_m(o.m, n + d);
-    admit_run(g, tau, d, &w[n..], eta, o, m, memory)
+    admit_run(g, tau, d, &w[n..], began, o, m, memory)
 }

@@ -3,3 +3,4 @@ pub mod Over
 pub mod Unchanged
 pub mod Counts
 pub mod Fronts
+pub mod Written

@@ -6,18 +6,13 @@ ghost use Rattle.std.specs.Float.{binary64};
 ghost use Rattle.std.specs.Float.Ieee.{of_bits};
 ghost use Rattle.le_bytes.specs.Bytes.{half, word, double_at, numbers_of, doubles_of, words_of};
 
-fn byte(b: &[u8], k: usize) -> u64
-    requires { k < length b.now }
-    ensures { (result ≡ get_or b.now k 0) × (result < 256) }
-{
-    b[k] as u64
-}
-
+#[tactic(auto, unfolding(crate::specs::Bytes::half))]
 pub fn half_at(b: &[u8], k: usize) -> u64
     requires { k + 4 ≤ length b.now }
     ensures { (result ≡ half b.now k) × (result < 4294967296) }
 {
-    byte(b, k) + 256 * byte(b, k + 1) + 65536 * byte(b, k + 2) + 16777216 * byte(b, k + 3)
+    let bytes = [b[k], b[k + 1], b[k + 2], b[k + 3]];
+    u64::from(u32::from_le_bytes(bytes))
 }
 
 // The double of a pattern: of every NaN pattern, the one NaN.
@@ -48,8 +43,8 @@ pub fn unpack_numbers(src: &[u8], dst: &mut [u32])
     requires { length dst.old ≡ length src.now / 4 }
     ensures { dst.new ≡ numbers_of src.now }
 {
-    for k in 0..dst.len() {
-        dst[k] = half_at(src, 4 * k) as u32;
+    for (k, x) in dst.iter_mut().enumerate() {
+        *x = half_at(src, 4 * k) as u32;
     }
 }
 
@@ -57,8 +52,8 @@ pub fn unpack_doubles(src: &[u8], dst: &mut [f64])
     requires { length dst.old ≡ length src.now / 8 }
     ensures { dst.new ≡ doubles_of src.now }
 {
-    for k in 0..dst.len() {
-        dst[k] = double_at(src, 8 * k);
+    for (k, x) in dst.iter_mut().enumerate() {
+        *x = double_at(src, 8 * k);
     }
 }
 
@@ -66,7 +61,7 @@ pub fn unpack_words(src: &[u8], dst: &mut [usize])
     requires { length dst.old ≡ length src.now / 8 }
     ensures { dst.new ≡ words_of src.now }
 {
-    for k in 0..dst.len() {
-        dst[k] = word_at(src, 8 * k) as usize;
+    for (k, x) in dst.iter_mut().enumerate() {
+        *x = word_at(src, 8 * k) as usize;
     }
 }

@@ -4,6 +4,7 @@ pub mod Window
 pub mod Frame
 pub mod Bounds
 pub mod Find
+pub mod Positions
 pub mod Places
 pub mod Greatest
 pub mod Walk

@@ -33,8 +33,8 @@ pub fn pack_numbers(src: &[u32], dst: &mut [u8])
     requires { 4 * length src.now ≤ length dst.old }
     ensures { dst.new ≡ numbers_over src.now dst.old }
 {
-    for i in 0..4 * src.len() {
-        dst[i] = ((src[i / 4] >> (8 * (i % 4))) % 256) as u8;
+    for (k, x) in src.iter().enumerate() {
+        dst[4 * k..4 * k + 4].copy_from_slice(&x.to_le_bytes());
     }
 }
 
@@ -42,8 +42,8 @@ pub fn pack_words(src: &[usize], dst: &mut [u8])
     requires { 8 * length src.now ≤ length dst.old }
     ensures { dst.new ≡ words_over src.now dst.old }
 {
-    for i in 0..8 * src.len() {
-        dst[i] = ((src[i / 8] >> (8 * (i % 8))) % 256) as u8;
+    for (k, x) in src.iter().enumerate() {
+        dst[8 * k..8 * k + 8].copy_from_slice(&x.to_le_bytes());
     }
 }
 
@@ -55,16 +55,14 @@ fn put(x: f64, dst: &mut [u8], p: usize)
         return;
     }
     let w = pattern(x);
-    for j in 0..8usize {
-        dst[p + j] = ((w >> (8 * j)) % 256) as u8;
-    }
+    dst[p..p + 8].copy_from_slice(&w.to_le_bytes());
 }
 
 pub fn pack_doubles(src: &[f64], dst: &mut [u8])
     requires { 8 * length src.now ≤ length dst.old }
     ensures { dst.new ≡ written_over src.now dst.old }
 {
-    for k in 0..src.len() {
-        put(src[k], dst, 8 * k);
+    for (k, x) in src.iter().enumerate() {
+        put(*x, dst, 8 * k);
     }
 }

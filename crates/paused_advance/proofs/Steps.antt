@@ -8,6 +8,7 @@ use lib.Dec.{ltb, leb}
 use lib.ListN.{length, replicate}
 use lib.Ieee.{Float, nan}
 use borrow.Author.Tests.{ltb-false, leb-false}
+use Rattle.std.specs.Prelude.{Option, Some}
 use Rattle.lists.specs.Window.{window, splice}
 use Rattle.lists.specs.Walk.{Turn}
 use Rattle.lists.specs.Frame.{Kept}
@@ -46,7 +47,6 @@ use Rattle.krylov_job.proofs.Calls.{Known, known, allowed, all_checks, field_nee
 use Rattle.krylov_job.proofs.Runs.{store_fits, room, operator_is, field_is, spared}
 use Rattle.krylov_job.specs.declared.KrylovPhiOptions.{KrylovPhiOptions}
 use Rattle.krylov_job.specs.declared.RunJob.{RunJob}
-use Rattle.krylov_job.specs.declared.Eta.TheVariants.{Began}
 use Rattle.paused_run.specs.Paused.{Job, Input, PausedCall, leaves, rows, field_checks, setting_of, tol_in, options_in, over, other_checks, step_checks, resumed, verdict, field_after, substep_of, after_substep, step_unless, step}
 use Rattle.paused_run.specs.Inner.{job_over, other_checks_by, setting_for, turned, after_of}
 use Rattle.paused_run.specs.declared.PausedRun.{PausedRun}
@@ -151,7 +151,7 @@ advanced s tol j output w₀ o {t} {r} {y} {out₁} w₁ {w₂} et er eo lo ew e
     λ i. leaves (er' i) (eo' i) (ew' i) (ey i)
 
 -- the options of a step are the run's, with the tol in force
-pub own_options : {g : Shape} {tau : Float} {count : ℕ} {w : List Float} {eta : Scaling} {ls : List Check} {memory : ℕ} {j : RunJob} (s : PausedRun) (tolerance : Tolerance) {tol : Float} {o : KrylovPhiOptions} → tol ≡ tol_in tolerance s
+pub own_options : {g : Shape} {tau : Float} {count : ℕ} {w : List Float} {eta : Scaling} {ls : List Check} {memory : ℕ} {j : RunJob} (s : PausedRun) (tolerance : Option Float) {tol : Float} {o : KrylovPhiOptions} → tol ≡ tol_in tolerance s
     → o ≡ options_in s tol
     → Admitted g tau count w eta o ls memory j
     → Admitted g tau count w eta (options_in s (tol_in tolerance s)) ls memory j
@@ -212,12 +212,12 @@ module _
     (sound : Sound ≡ first gs)
     (s : PausedRun)
     (going : over s ≡ false)
-    (tolerance : Tolerance)
+    (tolerance : Option Float)
     (tau : Float)
     (count : ℕ)
     (w out w₀ field : List Float)
     {j : RunJob}
-    (ad : Admitted g tau count w (scaling_of g tau count w (Began s.eta)) (options_in s (tol_in tolerance s)) (length_checks (length out) g.n (length w) (count * g.n) ++ other_checks_by s g.n count (length w)) (length w₀) j) where
+    (ad : Admitted g tau count w (scaling_of g tau count w (Some s.eta)) (options_in s (tol_in tolerance s)) (length_checks (length out) g.n (length w) (count * g.n) ++ other_checks_by s g.n count (length w)) (length w₀) j) where
   abbrev job : Job
   job = job_over gs g starts cols vals mass tau count w
 
@@ -236,7 +236,7 @@ module _
   refused_job e = step_refused s field input (sym e ∙ passes RunEnded nan _ going (refused_up _ _ e told))
 
   module _ (e : j.checked ≡ Sound) where
-    k : Known g tau count w (scaling_of g tau count w (Began s.eta)) (options_in s (tol_in tolerance s)) (length out) (other_checks_by s g.n count (length w)) (length w₀) j
+    k : Known g tau count w (scaling_of g tau count w (Some s.eta)) (options_in s (tol_in tolerance s)) (length out) (other_checks_by s g.n count (length w)) (length w₀) j
     k = known ad e
 
     pub n_is : j.g.n ≡ g.n

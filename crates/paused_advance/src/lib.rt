@@ -36,12 +36,8 @@ fn substep_on(
     vectors::copy_from(work, j.k.y, field, 0, len);
     stored_quotients::store_quotients(j.g.n, starts, cols, vals, j.g.with_mass, mass, work, l.q);
     let k = Krylov {
-        m: j.k.m,
-        h: j.k.h,
-        y: j.k.y,
-        tau: j.k.tau,
-        anorm: j.k.anorm,
         tol: j.k.tol * run.norm,
+        ..j.k
     };
     let c = Control {
         time: run.time,

@@ -49,20 +49,14 @@ fn solve(
                 n, starts, cols, vals, with_mass, mass, tau, count, w, tol, m, limit, out, work,
                 field, numbers, counts, &mut value,
             );
-            Reported {
-                number: number,
-                value: value,
-            }
+            Reported { number, value }
         }
         RunCall::Step(with_tol, tol) => {
             let number = exports_paused::hazhendu_krylov_step(
                 n, starts, cols, vals, with_mass, mass, tau, count, w, with_tol, tol, out, work,
                 field, numbers, counts, &mut value,
             );
-            Reported {
-                number: number,
-                value: value,
-            }
+            Reported { number, value }
         }
     }
 }

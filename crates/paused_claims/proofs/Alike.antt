@@ -1,5 +1,5 @@
 -- Steps that give the same. Assumes nothing.
-use Rattle.std.specs.Prelude.{if◌then◌else◌}
+use Rattle.std.specs.Prelude.{if◌then◌else◌, Some, None}
 use mathlib.Core.Path.{◌≡◌, refl, subst}
 use mathlib.Core.Bool.{Bool, true, false}
 use mathlib.Core.List.{List}
@@ -11,7 +11,6 @@ use Rattle.checks.specs.First.{first, Checked}
 use Rattle.krylov_advance.specs.Run.{State, End, finished, refused}
 use Rattle.paused_run.specs.Paused.{StepAnswer, StepRefused, Input, moved, over, other_checks, step_checks, resumed, verdict, substep_of, after_substep, step_unless, step}
 use Rattle.paused_run.specs.declared.PausedRun.{PausedRun}
-use Rattle.paused_run.specs.declared.Tolerance.TheVariants.{Same, New}
 use Rattle.paused_claims.specs.History.{run_in}
 use Rattle.paused_claims.specs.Alike.{SameStep, Blind, number_in, double_in, run_with_tol, bringing, SameButTol, NewTol}
 use Rattle.checks.specs.Reasons.{Sound}
@@ -49,20 +48,20 @@ module _ (s : PausedRun) (y : List Float) (i : Input) (tol : Float) where
   verdict_same (out (finished t)) = (refl, refl, refl)
   verdict_same (out (refused k x t)) = (refl, refl, refl)
 
-  same_by : (c : Checked) → SameButTol tol (step_unless c s y (bringing (New tol) i)) (step_unless c s₁ y (bringing Same i))
+  same_by : (c : Checked) → SameButTol tol (step_unless c s y (bringing (Some tol) i)) (step_unless c s₁ y (bringing None i))
   unfolding step_unless after_substep resumed
   same_by (Err r) = record { number = refl; double = refl; run = refl; output = refl; memory = refl; field = refl }
   same_by (Ok _) =
       let v = verdict_same (substep_of s y (bringing (New tol) i)) in
       record { number = v.0; double = v.1; run = v.2; output = refl; memory = refl; field = refl }
 
-  same_checks : first (step_checks s (length y) (bringing (New tol) i)) ≡ first (step_checks s₁ (length y) (bringing Same i))
+  same_checks : first (step_checks s (length y) (bringing (Some tol) i)) ≡ first (step_checks s₁ (length y) (bringing None i))
   unfolding step_checks over other_checks
   same_checks = refl
 
-  same_step : SameButTol tol (step s y (bringing (New tol) i)) (step s₁ y (bringing Same i))
+  same_step : SameButTol tol (step s y (bringing (Some tol) i)) (step s₁ y (bringing None i))
   unfolding step
-  same_step = subst (λ (c : Checked). SameButTol tol (step s y (bringing (New tol) i)) (step_unless c s₁ y (bringing Same i))) same_checks (same_by (first (step_checks s (length y) (bringing (New tol) i))))
+  same_step = subst (λ (c : Checked). SameButTol tol (step s y (bringing (Some tol) i)) (step_unless c s₁ y (bringing None i))) same_checks (same_by (first (step_checks s (length y) (bringing (Some tol) i))))
 
 pub new_tol : (s : PausedRun) (y : List Float) → NewTol s y
 new_tol s y i tol = same_step s y i tol

@@ -1,5 +1,5 @@
 -- When a step on a run as it was left is refused early (document 02, N5). Assumes nothing.
-use Rattle.std.specs.Prelude.{if◌then◌else◌}
+use Rattle.std.specs.Prelude.{if◌then◌else◌, Option, Some, None}
 use mathlib.Core.Path.{◌≡◌, refl, sym, ap, ◌∙◌, subst}
 use mathlib.Core.Logic.{◌⊎◌, inl, inr}
 use mathlib.Core.Bool.{Bool, true, false, not, ◌||◌, ◌&&◌, true≢false}
@@ -20,8 +20,6 @@ use Rattle.power.specs.Power.{power}
 use Rattle.pow2.specs.Pow2.{sup, eta_scaling, pow2_scale}
 use Rattle.pow2.specs.Pow2 as pow2
 use Rattle.pow2.specs.declared.Scale.{Scale}
-use Rattle.pow2.specs.declared.Prescale.{Prescale}
-use Rattle.pow2.specs.declared.Prescale.TheVariants.{By, None}
 use Rattle.vectors.proofs.Laws.{length_scale}
 use Rattle.checks.specs.First.{Check, refuse, first, Checked, unless_named, same as same_number, before}
 use Rattle.checks.proofs.First.{and_then, unless, first_cons, first_append, never_holds, stops}
@@ -80,10 +78,10 @@ over_left {o} {j} {p} l = elim (left_stands l) [
   | inr h ↦ (let s = left_sound l in over_standing o j (length s.0) (length s.1) s.2 h.factors h.stood)
 ]
 
-scaled_long : (y : List Float) (f : Prescale) → length (scaled y f) ≡ length y
+scaled_long : (y : List Float) (f : Option Scale) → length (scaled y f) ≡ length y
 unfolding scaled
 scaled_long y None = refl
-scaled_long y (By f) = length_scale f.down y
+scaled_long y (Some f) = length_scale f.down y
 
 whole_long : (o : KrylovPhiOptions) (j : Job) → length (whole o j).field ≡ length (values_of j)
 unfolding run_of run_by

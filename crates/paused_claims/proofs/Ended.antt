@@ -8,11 +8,12 @@ use native.Mathlib.Omega.{arith}
 use lib.Dec.{T}
 use lib.ListN.{length}
 use lib.Ieee.{Float, lt, eq, of_bits, nan}
+use Rattle.std.specs.Prelude.{Option, None}
+use Rattle.std.specs.declared.option.Option.TheVariants as option
 use Rattle.lists.specs.Walk.{Turn, on, out}
 use Rattle.doubles.specs.F64.{◌⋖◌, +0, 1f}
+use Rattle.pow2.specs.declared.Scale.{Scale}
 use Rattle.pow2.specs.Pow2.{pow2_scale}
-use Rattle.pow2.specs.declared.Prescale.{Prescale}
-use Rattle.pow2.specs.declared.Prescale.TheVariants.{By, None}
 use Rattle.checks.specs.First.{first, Checked}
 use Rattle.krylov_advance.specs.Run.{State, End}
 use Rattle.combination.specs.Combination.{further}
@@ -121,9 +122,9 @@ only_causes {o} {j} (history.started output memory field {s} e) h = go (pow2_sca
     claim : StartClaim o j output memory field (start o j output memory field)
     claim = the_start o j output memory field
 
-    go : (f : Prescale) → pow2_scale (values_of j) ≡ f → Causes j (at_start o s (start o j output memory field).field)
+    go : (f : Option Scale) → pow2_scale (values_of j) ≡ f → Causes j (at_start o s (start o j output memory field).field)
     go None q = inr (inr (inl (none_zeros (values_of j) (finite o j (length output) (length memory) (claim.only_accepted e).0) q)))
-    go (By f) q = absurd (true≢false (sym h ∙ (claim.ready e (by_not_zeros (values_of j) f q)).ended))
+    go (option.Some f) q = absurd (true≢false (sym h ∙ (claim.ready e (by_not_zeros (values_of j) f q)).ended))
 only_causes {o} {j} (history.stepped {p} l i) h = go (λ k. only_causes l k) (checked p i) refl
   where
     go : (p.run.ended ≡ true → Causes j p) → (c : Checked) → checked p i ≡ c → Causes j (next o j p i)

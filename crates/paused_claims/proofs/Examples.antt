@@ -6,6 +6,7 @@ use mathlib.Core.Option.{none}
 use Prim.Native.Nat.{ℕ, ◌+◌}
 use lib.ListN.{replicate}
 use lib.Ieee.{Float, nan}
+use Rattle.std.specs.Prelude.{Option, Some, None}
 use Rattle.doubles.specs.F64.{bits, nat, 1f, +0}
 use Rattle.general_operator.specs.Csr.{Csr, csr}
 use Rattle.generator_action.specs.Generator.{forward}
@@ -14,8 +15,6 @@ use Rattle.checks.specs.First.{first}
 use Rattle.krylov_advance.specs.declared.KrylovPhiReport.{KrylovPhiReport}
 use Rattle.paused_run.specs.Paused.{Job, PausedCall, leaves, StartAnswer, start_checks, start, StepAnswer, StepRefused, Input, step, open_paused}
 use Rattle.paused_run.specs.declared.PausedRun.{PausedRun}
-use Rattle.paused_run.specs.declared.Tolerance.{Tolerance}
-use Rattle.paused_run.specs.declared.Tolerance.TheVariants.{Same, New}
 use Rattle.paused_claims.specs.History.{run_in}
 use Rattle.paused_claims.specs.Alike.{number_in, double_in}
 use Rattle.checks.specs.Reasons.{Sound}
@@ -57,14 +56,14 @@ tenth = bits 0x3ddb_7cdf_d9d7_bdbb
 abbrev job : Csr → Float → ℕ → List Float → Job
 job a tau count w = record { g = forward a none; tau = tau; count = count; w = w }
 
-abbrev input : Tolerance → Job → List Float → List Float → Input
+abbrev input : Option Float → Job → List Float → List Float → Input
 input t j output memory = record { tolerance = t; job = j; output = output; memory = memory }
 
 abbrev empty : Csr
 empty = csr 1 (0 ∷ 0 ∷ []) [] []
 
 -- ---- the start's eta stays in the gains: with its own the step would hand out 1
-own_gain : first_step (start (options tenth 30 100000) (job empty 1f 2 (+0 ∷ 1f ∷ [])) (nat 7 ∷ []) (replicate 27 (nat 9)) (replicate 2 (nat 9))) (input Same (job empty 1f 2 (+0 ∷ nat 4 ∷ [])) (nat 7 ∷ []) (replicate 28 (nat 9)))
+own_gain : first_step (start (options tenth 30 100000) (job empty 1f 2 (+0 ∷ 1f ∷ [])) (nat 7 ∷ []) (replicate 27 (nat 9)) (replicate 2 (nat 9))) (input None (job empty 1f 2 (+0 ∷ nat 4 ∷ [])) (nat 7 ∷ []) (replicate 28 (nat 9)))
     ≡ leaves
     (Ok (record {
       time = 1f;
@@ -93,7 +92,7 @@ tiny = bits 0x009c_16c5_c525_3575
 abbrev long_time : Float
 long_time = bits 0x4202_a05f_2000_0000
 
-own_22 : number_in (first_step (start (options tenth 30 100000) (job empty 1f 2 (+0 ∷ tiny ∷ [])) (nat 7 ∷ []) (replicate 27 (nat 9)) (replicate 2 (nat 9))) (input Same (job empty long_time 2 (+0 ∷ tiny ∷ [])) (nat 7 ∷ []) (replicate 28 (nat 9)))).answer ≡ 22
+own_22 : number_in (first_step (start (options tenth 30 100000) (job empty 1f 2 (+0 ∷ tiny ∷ [])) (nat 7 ∷ []) (replicate 27 (nat 9)) (replicate 2 (nat 9))) (input None (job empty long_time 2 (+0 ∷ tiny ∷ [])) (nat 7 ∷ []) (replicate 28 (nat 9)))).answer ≡ 22
 unfolding open_paused
 own_22 = refl
 
@@ -109,7 +108,7 @@ abbrev three_alone : PausedCall StartAnswer
 three_alone = start (options tenth 2 9) (job (zero_rows 3) 1f 1 (1f ∷ 1f ∷ 1f ∷ [])) (replicate 3 (nat 7)) (replicate 34 (nat 9)) (replicate 3 (nat 9))
 
 abbrev two_by_two : List Float → Input
-two_by_two output = input Same (job (zero_rows 2) 1f 2 (1f ∷ 1f ∷ 1f ∷ 1f ∷ [])) output (replicate 34 (nat 9))
+two_by_two output = input None (job (zero_rows 2) 1f 2 (1f ∷ 1f ∷ 1f ∷ 1f ∷ [])) output (replicate 34 (nat 9))
 
 other_16 : let a = (first_step three_alone (two_by_two (replicate 2 (nat 7)))).answer in (number_in a ≡ 16) × (double_in a ≡ nat 4)
 unfolding open_paused
@@ -165,7 +164,7 @@ thousandth = bits 0x3f50_624d_d2f1_a9fc
 abbrev ring_begun : PausedCall StartAnswer
 ring_begun = start (options hundredth 2 9) ring (replicate 3 (nat 7)) (replicate 34 (nat 9)) (replicate 3 (nat 9))
 
-abbrev on_ring : Tolerance → Input
+abbrev on_ring : Option Float → Input
 on_ring t = input t ring (replicate 3 (nat 7)) (replicate 34 (nat 9))
 
 abbrev ring_run : Float → Float → KrylovPhiReport → Float → Bool → PausedRun
@@ -185,7 +184,7 @@ ring_run time next report tol ended =
       ended = ended;
     }
 
-tightened : then_step (first_step ring_begun (on_ring Same)) (on_ring (New thousandth))
+tightened : then_step (first_step ring_begun (on_ring None)) (on_ring (Some thousandth))
     ≡ (let y = bits 0x3fee_f740_b4a3_7480 ∷ bits 0x3fdd_9212_b86d_25ba ∷ bits 0x3fd4_3767_1ac2_648d ∷ [] in
     leaves
     (Ok
@@ -210,7 +209,7 @@ abbrev short : Job
 short = record { g = ring.g; tau = bits 0x3fd0_0000_0000_0000; count = 1; w = ring.w }
 
 abbrev short_step : Input
-short_step = input Same short (replicate 3 (nat 7)) (replicate 34 (nat 9))
+short_step = input None short (replicate 3 (nat 7)) (replicate 34 (nat 9))
 
 abbrev short_first : PausedCall StepAnswer
 short_first = first_step (start (options hundredth 2 9) short (replicate 3 (nat 7)) (replicate 34 (nat 9)) (replicate 3 (nat 9))) short_step
@@ -232,7 +231,7 @@ unfolding open_paused
 finished = refl
 
 -- ---- the smallest tol of all: 29 tells NaN, and hands back the last accepted state, its tol the one before, marked as ended
-met_29 : first_step ring_begun (on_ring (New (bits 0x1)))
+met_29 : first_step ring_begun (on_ring (Some (bits 0x1)))
     ≡ (let y = 1f ∷ bits 0x3fe0_0000_0000_0000 ∷ bits 0x3fd0_0000_0000_0000 ∷ [] in
     leaves
     (StepRefused NoInnerPlan nan

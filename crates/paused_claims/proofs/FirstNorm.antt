@@ -1,5 +1,5 @@
 -- The norm of a start that is not all zeros is not 0: its largest value, scaled, is at least 2 ^ -52. Its values are doubles. Assumes nothing.
-use Rattle.std.specs.Prelude.{if◌then◌else◌}
+use Rattle.std.specs.Prelude.{if◌then◌else◌, Some, None}
 use mathlib.Core.Path.{◌≡◌, refl, sym, ap, ◌∙◌, subst}
 use mathlib.Core.Logic.{◌⊎◌, inl, inr}
 use mathlib.Core.Bool.{Bool, true, false, not, ◌||◌, true≢false}
@@ -34,7 +34,6 @@ use Rattle.doubles.proofs.Compare.{zero_equal}
 use Rattle.doubles.proofs.Magnitude.{abs_fits}
 use Rattle.pow2.specs.Pow2.{sup, clamp, exponent, scale_of, pow2_scale}
 use Rattle.pow2.specs.declared.Scale.{Scale}
-use Rattle.pow2.specs.declared.Prescale.TheVariants.{By, None}
 use Rattle.pow2.proofs.Leading.{exponent_mag}
 use Rattle.pow2.proofs.Rounded.{pow2_product, pow2_exact}
 use Rattle.vectors.specs.Vectors.{scale}
@@ -317,18 +316,18 @@ zero_is : eq +0 +0 ≡ true
 unfolding eq of_bits
 zero_is = refl
 
-factors_are : (y : List Float) (f : Scale) → pow2_scale y ≡ By f → (eq (sup y) +0 ≡ false) × (scale_of (clamp (exponent (sup y)) (negsuc 1022) (pos 1023)) ≡ f)
+factors_are : (y : List Float) (f : Scale) → pow2_scale y ≡ Some f → (eq (sup y) +0 ≡ false) × (scale_of (clamp (exponent (sup y)) (negsuc 1022) (pos 1023)) ≡ f)
 unfolding pow2_scale
 factors_are y f e = go (eq (sup y) +0) _ e
   where
-    go : (b : Bool) (s : Scale) → (if b then None else By s) ≡ By f → (b ≡ false) × (s ≡ f)
+    go : (b : Bool) (s : Scale) → (if b then None else Some s) ≡ Some f → (b ≡ false) × (s ≡ f)
     go true s e = let z : zero ≡ 1 = cc in absurd (omega (arith, z))
     go false s e = (refl, same e)
       where
-        same : {s t : Scale} → By s ≡ By t → s ≡ t
+        same : {s t : Scale} → Some s ≡ Some t → s ≡ t
         same e = cc
 
-pub first_norm_left : (y : List Float) (f : Scale) → ((i : ℕ) → i < length y → T (fits binary64 (at y i))) → Finite y → pow2_scale y ≡ By f → eq (norm2 (scale f.down y)) +0 ≡ false
+pub first_norm_left : (y : List Float) (f : Scale) → ((i : ℕ) → i < length y → T (fits binary64 (at y i))) → Finite y → pow2_scale y ≡ Some f → eq (norm2 (scale f.down y)) +0 ≡ false
 unfolding norm2
 first_norm_left y f doubles finite e =
     let a = factors_are y f e in

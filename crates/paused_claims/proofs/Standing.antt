@@ -1,5 +1,5 @@
 -- A paused run as it was left is where its substeps so far stand, each with its own setting. Assumes nothing.
-use Rattle.std.specs.Prelude.{if◌then◌else◌}
+use Rattle.std.specs.Prelude.{if◌then◌else◌, Option, Some, None}
 use mathlib.Core.Path.{◌≡◌, refl, sym, ap, ◌∙◌, subst}
 use mathlib.Core.Logic.{◌⊎◌, inl, inr}
 use mathlib.Core.Bool.{Bool, true, false, not, true≢false}
@@ -16,8 +16,6 @@ use Rattle.doubles.specs.F64.{◌⊗◌, +0}
 use Rattle.vectors.specs.Vectors.{scale}
 use Rattle.pow2.specs.Pow2.{pow2_scale}
 use Rattle.pow2.specs.declared.Scale.{Scale}
-use Rattle.pow2.specs.declared.Prescale.{Prescale}
-use Rattle.pow2.specs.declared.Prescale.TheVariants.{By, None}
 use Rattle.checks.specs.First.{first, Checked, same}
 use Rattle.checks.proofs.First.{ok_is, sound_cons, sound_append}
 use Rattle.general_operator.proofs.Sound.{or_false}
@@ -33,8 +31,6 @@ use Rattle.krylov_job.specs.KrylovCall.{bound, dimension, krylov_checks_by, kryl
 use Rattle.krylov_job.specs.declared.KrylovPhiOptions.{KrylovPhiOptions}
 use Rattle.paused_run.specs.Paused.{Job, rows, degree, PausedCall, setting_of, need_of, idle_run, first_run, StartAnswer, begun, start, StepAnswer, StepRefused, Input, tol_in, over, other_checks, step_checks, resumed, moved, verdict, field_after, substep_of, after_substep, step_unless, step}
 use Rattle.paused_run.specs.declared.PausedRun.{PausedRun}
-use Rattle.paused_run.specs.declared.Tolerance.{Tolerance}
-use Rattle.paused_run.specs.declared.Tolerance.TheVariants.{Same, New}
 use Rattle.demand_3.specs.Trace.{Run, runs, scaled, allowed, run_by, run_of, status_of}
 use Rattle.demand_3.specs.Krylov.{Each, euclidean}
 use Rattle.demand_3.specs.Demand3.{operator_of}
@@ -81,9 +77,9 @@ pub substep_refuses : (p : Setting) (s : State) → Refuses s (substep p s)
 unfolding substep
 substep_refuses p s = settle_refuses p s (basis_of p s) (trials_of p s)
 
-pub tol_is : (t : Tolerance) (s : PausedRun) → tol_in t s ≡ in_force t s.tol
-tol_is Same s = refl
-tol_is (New x) s = refl
+pub tol_is : (t : Option Float) (s : PausedRun) → tol_in t s ≡ in_force t s.tol
+tol_is None s = refl
+tol_is (Some x) s = refl
 
 pub each_one : (P : Setting → Type 0) (ps : List Setting) (p : Setting) → Each P ps → P p → Each P (ps ++ (p ∷ []))
 each_one P ps p h i = each_append P ps (p ∷ []) h (i, tt)
@@ -264,10 +260,10 @@ module _ (o : KrylovPhiOptions) (j : Job) (f : Scale) where
       }))
 
   -- ---- the start
-  pub whole_is : pow2_scale (values_of j) ≡ By f
+  pub whole_is : pow2_scale (values_of j) ≡ Some f
       → whole o j ≡ (let y = scale f.down (values_of j) in
       let p = setting (operator_of j.g j.tau j.count j.w) j.tau (bound j.tau (row_sum_norm j.g.matrix)) (o.tol ⊗ norm2 y) (clamp_m o.m (length (values_of j))) in
-      record { first = p; settings = replicate o.max_substeps p; field = y; prescale = By f })
+      record { first = p; settings = replicate o.max_substeps p; field = y; prescale = Some f })
   unfolding run_of run_by scaled allowed
   whole_is e = rw e refl
 
@@ -293,7 +289,7 @@ module _ (o : KrylovPhiOptions) (j : Job) (f : Scale) where
   unfolding runs started norm2
   start_is = refl
 
-  pub start_stands : (output memory : ℕ) → Sound ≡ first (krylov_checks j.g j.tau j.count j.w o output memory) → pow2_scale (values_of j) ≡ By f
+  pub start_stands : (output memory : ℕ) → Sound ≡ first (krylov_checks j.g j.tau j.count j.w o output memory) → pow2_scale (values_of j) ≡ Some f
       → Stood (first_run o j f (norm2 (scale f.down (values_of j)))) (scale f.down (values_of j)) o.tol []
   start_stands output memory sound e =
       let w = whole_is e in
@@ -317,7 +313,7 @@ pub record Resting (o : KrylovPhiOptions) (j : Job) (p : Past) : Type 0 where
 -- any other
 pub record Moving (o : KrylovPhiOptions) (j : Job) (p : Past) : Type 0 where
   pub factors : Scale
-  pub by : pow2_scale (values_of j) ≡ By factors
+  pub by : pow2_scale (values_of j) ≡ Some factors
   pub stood : Stood o j factors p.run p.field p.tol p.settings
 
 -- its start passed every check
@@ -328,13 +324,13 @@ left_sound (history.stepped l i) = left_sound l
 pub same_run : {s t : PausedRun} → ◌≡◌ {A = StartAnswer} (Ok s) (Ok t) → s ≡ t
 same_run e = ok_is e
 
-at_start_stands : (o : KrylovPhiOptions) (j : Job) (output memory field : List Float) {s : PausedRun} → (start o j output memory field).answer ≡ Ok s → (f : Prescale) → pow2_scale (values_of j) ≡ f
+at_start_stands : (o : KrylovPhiOptions) (j : Job) (output memory field : List Float) {s : PausedRun} → (start o j output memory field).answer ≡ Ok s → (f : Option Scale) → pow2_scale (values_of j) ≡ f
     → Resting o j (at_start o s (start o j output memory field).field) ⊎ Moving o j (at_start o s (start o j output memory field).field)
 unfolding begun
 at_start_stands o j output memory field {s} e None h =
     let c = started_is o j output memory field e ∙ ap (begun o j (values_of j) (cleared (need_of j o.m) memory)) h in
     inl (record { none = h; run = same_run (sym e ∙ ap (λ (x : PausedCall StartAnswer). x.answer) c); field = ap (λ (x : PausedCall StartAnswer). x.field) c; tol = refl; settings = refl })
-at_start_stands o j output memory field {s} e (By f) h =
+at_start_stands o j output memory field {s} e (Some f) h =
     let c = started_is o j output memory field e ∙ ap (begun o j (values_of j) (cleared (need_of j o.m) memory)) h in
     let r = same_run (sym e ∙ ap (λ (x : PausedCall StartAnswer). x.answer) c) in
     let y = ap (λ (x : PausedCall StartAnswer). x.field) c in

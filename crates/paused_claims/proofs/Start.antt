@@ -9,11 +9,10 @@ use borrow.Author.Tests.{eqb-true, eqb-false, eq-eqb, ne_eqb, not-false}
 use lib.Dec.{eqb}
 use lib.ListN.{length}
 use lib.Ieee.{Float, nan}
+use Rattle.std.specs.Prelude.{Option, Some, None}
 use Rattle.vectors.specs.Vectors.{scale}
 use Rattle.pow2.specs.Pow2.{pow2_scale}
 use Rattle.pow2.specs.declared.Scale.{Scale}
-use Rattle.pow2.specs.declared.Prescale.{Prescale}
-use Rattle.pow2.specs.declared.Prescale.TheVariants.{By, None}
 use Rattle.checks.specs.First.{first, Checked}
 use Rattle.checks.proofs.First.{and_then, unless, first_cons, first_none, first_append, err_is, ok_is, same_reason, same_double, sound_cons, sound_append}
 use Rattle.combination.specs.Call.{cleared}
@@ -65,9 +64,9 @@ module _ (o : KrylovPhiOptions) (j : Job) (output memory field : List Float) whe
   unfolding start start_unless begun and_then
   only_refused k x e = go (first (job_checks o j output memory)) (eqb (length field) (values_in j)) refl refl all (split ∙ ap (and_then (first (job_checks o j output memory))) (field_told (length field) (values_in j))) e
     where
-      not_started : (f : Prescale) (y m : List Float) → (begun o j y m f).answer ≡ Refused k x → ⊥
+      not_started : (f : Option Scale) (y m : List Float) → (begun o j y m f).answer ≡ Refused k x → ⊥
       not_started None y m g = let z : zero ≡ 1 = cc in omega (arith, z)
-      not_started (By f) y m g = let z : zero ≡ 1 = cc in omega (arith, z)
+      not_started (Some f) y m g = let z : zero ≡ 1 = cc in omega (arith, z)
 
       same : {d e : Refusal} → ◌≡◌ {A = StartAnswer} (Err d) (Err e) → ◌≡◌ {A = Checked} (Err e) (Err d)
       same g = ap Err (sym (err_is g))
@@ -114,15 +113,15 @@ module _ (o : KrylovPhiOptions) (j : Job) (output memory field : List Float) whe
   unfolding start start_unless begun
   if_accepted e l = subst (λ (r : Checked). (s : PausedRun) × ((start_unless r o j output memory field).answer ≡ Ok s)) (all_sound e l) (go (pow2_scale (values_of j)))
     where
-      go : (f : Prescale) → (s : PausedRun) × ((begun o j (values_of j) (cleared (need_of j o.m) memory) f).answer ≡ Ok s)
+      go : (f : Option Scale) → (s : PausedRun) × ((begun o j (values_of j) (cleared (need_of j o.m) memory) f).answer ≡ Ok s)
       go None = (_, refl)
-      go (By f) = (_, refl)
+      go (Some f) = (_, refl)
 
   -- ---- every field of what it hands back
   same_run : {s t : PausedRun} → ◌≡◌ {A = StartAnswer} (Ok s) (Ok t) → s ≡ t
   same_run e = ok_is e
 
-  abbrev left : Prescale → PausedCall StartAnswer
+  abbrev left : Option Scale → PausedCall StartAnswer
   left = begun o j (values_of j) (cleared (need_of j o.m) memory)
 
   no_substep : (f : Scale) (norm next : Float) (ended : Bool) → Unstepped o j (fresh o j f norm next ended)
@@ -132,7 +131,7 @@ module _ (o : KrylovPhiOptions) (j : Job) (output memory field : List Float) whe
   unfolding begun dimension clamp_m
   idle_is = record { unstepped = no_substep _ _ _ _; down = refl; up = refl; norm = refl; next = refl; ended = refl; field = refl; output = refl; cleared_memory = refl }
 
-  ready_is : (f : Scale) → pow2_scale (values_of j) ≡ By f → Ready o j (first_run o j f (norm2 (scale f.down (values_of j)))) (left (By f)) memory
+  ready_is : (f : Scale) → pow2_scale (values_of j) ≡ Some f → Ready o j (first_run o j f (norm2 (scale f.down (values_of j)))) (left (Some f)) memory
   unfolding begun dimension clamp_m norm2
   ready_is f e = record { unstepped = no_substep _ _ _ _; factors = e; field = refl; norm = refl; next = refl; ended = refl; output = refl; cleared_memory = refl }
 
@@ -147,12 +146,12 @@ module _ (o : KrylovPhiOptions) (j : Job) (output memory field : List Float) whe
   unfolding begun
   ready {s} e n = go (pow2_scale (values_of j)) refl
     where
-      go : (f : Prescale) → pow2_scale (values_of j) ≡ f → Ready o j s c memory
+      go : (f : Option Scale) → pow2_scale (values_of j) ≡ f → Ready o j s c memory
       go None h = absurd (n (none_zeros (values_of j) (finite o j (length output) (length memory) (only_accepted e).0) h))
-      go (By f) h =
-          let i : c ≡ left (By f) = started_is e ∙ ap left h in
+      go (Some f) h =
+          let i : c ≡ left (Some f) = started_is e ∙ ap left h in
           let r : first_run o j f (norm2 (scale f.down (values_of j))) ≡ s = same_run (sym (ap (λ (x : PausedCall StartAnswer). x.answer) i) ∙ e) in
-          subst (λ (x : PausedCall StartAnswer). Ready o j s x memory) (sym i) (subst (λ (x : PausedRun). Ready o j x (left (By f)) memory) r (ready_is f h))
+          subst (λ (x : PausedCall StartAnswer). Ready o j s x memory) (sym i) (subst (λ (x : PausedRun). Ready o j x (left (Some f)) memory) r (ready_is f h))
 
   pub the_start : StartClaim o j output memory field c
   the_start = record { only_refused = only_refused; if_refused = if_refused; if_accepted = if_accepted; only_accepted = only_accepted; idle = idle; ready = ready }

@@ -1,5 +1,5 @@
 -- A run whose matrix, tau, vectors and tol never change ends as the undivided one (document 02, N5). Assumes nothing.
-use Rattle.std.specs.Prelude.{if◌then◌else◌}
+use Rattle.std.specs.Prelude.{if◌then◌else◌, Some}
 use mathlib.Core.Path.{◌≡◌, refl, sym, ap, ◌∙◌, subst}
 use mathlib.Core.Logic.{inl, inr}
 use mathlib.Core.Bool.{Bool, true, false, not, true≢false}
@@ -18,7 +18,6 @@ use Rattle.doubles.specs.F64.{◌⊗◌}
 use Rattle.vectors.specs.Vectors.{scale}
 use Rattle.pow2.specs.Pow2.{pow2_scale}
 use Rattle.pow2.specs.declared.Scale.{Scale}
-use Rattle.pow2.specs.declared.Prescale.TheVariants.{By}
 use Rattle.checks.specs.First.{first, Checked, same as same_number}
 use Rattle.general_operator.specs.Csr.{row_sum_norm}
 use Rattle.combination.specs.Call.{Call, ends, unless_refused, cleared}
@@ -109,7 +108,7 @@ one_setting (same.started output memory field e) = (refl, refl)
 one_setting {o} {j} (same.stepped {p} l i h) = one_next o j p i (one_setting l) h
 
 -- ---- the whole call of a job that is not all zeros
-module _ (o : KrylovPhiOptions) (j : Job) (f : Scale) (by : pow2_scale (values_of j) ≡ By f) where
+module _ (o : KrylovPhiOptions) (j : Job) (f : Scale) (by : pow2_scale (values_of j) ≡ Some f) where
   abbrev y₀ : List Float
   y₀ = (whole o j).field
 

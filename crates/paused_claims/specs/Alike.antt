@@ -1,11 +1,9 @@
 -- Steps that give the same: what a step's answer does not depend on, and a new tol (document 02, N5 and, of many runs, N6). Of any state. Definitions only.
-use Rattle.std.specs.Prelude.{◌≡◌, List, ℕ, length, Float}
+use Rattle.std.specs.Prelude.{◌≡◌, List, ℕ, length, Option, Some, None, Float}
 use Rattle.doubles.specs.F64.{+0}
 use Rattle.checks.specs.First.{first}
 use Rattle.paused_run.specs.Paused.{PausedCall, Input, StepAnswer, step_checks, step}
 use Rattle.paused_run.specs.declared.PausedRun.{PausedRun}
-use Rattle.paused_run.specs.declared.Tolerance.{Tolerance}
-use Rattle.paused_run.specs.declared.Tolerance.TheVariants.{Same, New}
 use Rattle.paused_claims.specs.History.{run_in}
 use Rattle.checks.specs.Reasons.{number as numbered, Sound}
 use Rattle.std.specs.Prelude.{Ok, Err}
@@ -46,7 +44,7 @@ run_with_tol tol s =
       ended = s.ended;
     }
 
-abbrev pub bringing : Tolerance → Input → Input
+abbrev pub bringing : Option Float → Input → Input
 bringing t i = record { tolerance = t; job = i.job; output = i.output; memory = i.memory }
 
 -- c is d, the runs handed back but for their tol
@@ -60,4 +58,4 @@ pub record SameButTol (tol : Float) (c d : PausedCall StepAnswer) : Type 0 where
 
 -- a step with a new tol is the step, with none, of the run that has it
 abbrev pub NewTol : PausedRun → List Float → Type 0
-NewTol s y = (i : Input) (tol : Float) → SameButTol tol (step s y (bringing (New tol) i)) (step (run_with_tol tol s) y (bringing Same i))
+NewTol s y = (i : Input) (tol : Float) → SameButTol tol (step s y (bringing (Some tol) i)) (step (run_with_tol tol s) y (bringing None i))

@@ -1,6 +1,6 @@
 -- Paused runs as the last call left them, and what each substep so far was made with (document 02, N5: 'State and field come back at each step as the last one
 -- left them: what is claimed here and in N6 is claimed of such runs'). Definitions only.
-use Rattle.std.specs.Prelude.{◌≡◌, List, [], ◌∷◌, ◌++◌, ℕ, ◌+◌, ◌-◌, length, Float, if◌then◌else◌}
+use Rattle.std.specs.Prelude.{◌≡◌, List, [], ◌∷◌, ◌++◌, ℕ, ◌+◌, ◌-◌, length, Float, if◌then◌else◌, Option, Some, None}
 use Rattle.doubles.specs.F64.{◌⊗◌}
 use Rattle.checks.specs.First.{first, Checked, same}
 use Rattle.general_operator.specs.Csr.{row_sum_norm}
@@ -11,8 +11,6 @@ use Rattle.krylov_job.specs.KrylovCall.{bound}
 use Rattle.krylov_job.specs.declared.KrylovPhiOptions.{KrylovPhiOptions}
 use Rattle.paused_run.specs.Paused.{Job, PausedCall, start, StepAnswer, Input, step_checks, step}
 use Rattle.paused_run.specs.declared.PausedRun.{PausedRun}
-use Rattle.paused_run.specs.declared.Tolerance.{Tolerance}
-use Rattle.paused_run.specs.declared.Tolerance.TheVariants.{Same, New}
 use Rattle.demand_3.specs.Trace.{Run}
 use Rattle.demand_3.specs.Krylov.{euclidean}
 use Rattle.demand_3.specs.Demand3.{krylov_run, clamped}
@@ -72,9 +70,9 @@ run_in (Err r) = r.run
 run_in (Ok s) = s
 
 -- the tol in force at a step: 'a new tol for itself and the later ones'
-abbrev pub in_force : Tolerance → Float → Float
-in_force Same tol = tol
-in_force (New x) tol = x
+abbrev pub in_force : Option Float → Float → Float
+in_force None tol = tol
+in_force (Some x) tol = x
 
 -- the tol after it: an early refusal, 28 and 29 leave the one before
 abbrev pub tol_kept : Checked → StepAnswer → Float → Float → Float

@@ -1,11 +1,10 @@
 -- The start of a paused run (document 02, N5: 'The run becomes a state handed back by the start, which makes every check and no substep'). Definitions only.
-use Rattle.std.specs.Prelude.{◌≡◌, ◌⊎◌, true, false, List, ℕ, ◌-◌, length, Float}
+use Rattle.std.specs.Prelude.{◌≡◌, ◌⊎◌, true, false, List, ℕ, ◌-◌, length, Some, Float}
 use Rattle.std.specs.Float.{nan}
 use Rattle.lists.specs.Window.{window}
 use Rattle.doubles.specs.F64.{◌⊗◌, +0, 1f}
 use Rattle.vectors.specs.Vectors.{scale}
 use Rattle.pow2.specs.Pow2.{pow2_scale}
-use Rattle.pow2.specs.declared.Prescale.TheVariants.{By}
 use Rattle.checks.specs.First.{Check, first}
 use Rattle.general_operator.specs.Csr.{row_sum_norm}
 use Rattle.combination.specs.Call.{cleared}
@@ -65,7 +64,7 @@ pub record Idle (o : KrylovPhiOptions) (j : Job) (s : PausedRun) (c : PausedCall
 -- any other: the values scaled by a power of two, their norm, and the step that the whole call proposes first
 pub record Ready (o : KrylovPhiOptions) (j : Job) (s : PausedRun) (c : PausedCall StartAnswer) (memory : List Float) : Type 0 where
   pub unstepped : Unstepped o j s
-  pub factors : pow2_scale (values_of j) ≡ By s.factors
+  pub factors : pow2_scale (values_of j) ≡ Some s.factors
   pub field : c.field ≡ scale s.factors.down (values_of j)
   pub norm : s.norm ≡ euclidean c.field
   pub next : s.next ≡ first_length (dimension_in o j) (bound j.tau (row_sum_norm j.g.matrix)) (o.tol ⊗ euclidean c.field) (euclidean c.field)

@@ -1,12 +1,10 @@
 -- A start and a step over a job that passed its checks: cited by contracts of inner functions, and by no definition of a call. Definitions only.
-use Rattle.std.specs.Prelude.{Bool, true, false, not, ◌||◌, List, [], ◌∷◌, ℕ, ◌+◌, eqb, Float}
+use Rattle.std.specs.Prelude.{Bool, true, false, not, ◌||◌, List, [], ◌∷◌, ℕ, ◌+◌, eqb, Option, Some, None, Float}
 use Rattle.lists.specs.Walk.{Turn, on, out}
 use Rattle.lists.specs.Window.{window}
 use Rattle.doubles.specs.F64.{◌⊗◌, +0, 1f, nat}
 use Rattle.vectors.specs.Vectors.{scale}
 use Rattle.pow2.specs.declared.Scale.{Scale}
-use Rattle.pow2.specs.declared.Prescale.{Prescale}
-use Rattle.pow2.specs.declared.Prescale.TheVariants.{By, None}
 use Rattle.checks.specs.First.{Check, refuse}
 use Rattle.general_operator.specs.Csr.{Csr, csr}
 use Rattle.generator_action.specs.Mass.{given}
@@ -59,9 +57,9 @@ fresh_of o j f norm next ended =
 abbrev pub first_of : KrylovPhiOptions → RunJob → Scale → List Float → PausedRun
 first_of o j f y = fresh_of o j f (norm2 y) (first_length j.k.m j.k.anorm (o.tol ⊗ norm2 y) (norm2 y)) false
 
-unfoldable pub begun_of : KrylovPhiOptions → RunJob → List Float → List Float → Prescale → PausedCall StartAnswer
+unfoldable pub begun_of : KrylovPhiOptions → RunJob → List Float → List Float → Option Scale → PausedCall StartAnswer
 begun_of o j y memory None = leaves (Ok (fresh_of o j (record { down = 1f; up = 1f }) +0 +0 true)) (window 0 j.g.n y) memory y
-begun_of o j y memory (By f) =
+begun_of o j y memory (Some f) =
     let y₀ = scale f.down y in
     leaves (Ok (first_of o j f y₀)) (window 0 j.g.n (scale f.up y₀)) memory y₀
 

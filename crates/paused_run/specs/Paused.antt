@@ -1,5 +1,5 @@
 -- A Krylov run as a state that is handed back by its start and after each substep (document 02, N5). Definitions only.
-use Rattle.std.specs.Prelude.{Bool, true, false, not, ◌||◌, List, [], ◌∷◌, ◌++◌, ℕ, ◌+◌, ◌-◌, ◌*◌, ltb, leb, eqb, length, Float, if◌then◌else◌}
+use Rattle.std.specs.Prelude.{Bool, true, false, not, ◌||◌, List, [], ◌∷◌, ◌++◌, ℕ, ◌+◌, ◌-◌, ◌*◌, ltb, leb, eqb, length, Float, if◌then◌else◌, Option, Some, None}
 use Rattle.std.specs.Float.{nan}
 use Rattle.lists.specs.Walk.{Turn, on, out}
 use Rattle.lists.specs.Window.{window}
@@ -8,8 +8,6 @@ use Rattle.vectors.specs.Vectors.{scale}
 use Rattle.pow2.specs.Pow2.{pow2_scale}
 use Rattle.pow2.specs.declared.Scale.{Scale}
 use Rattle.pow2.specs.declared.Scaling.{Scaling}
-use Rattle.pow2.specs.declared.Prescale.{Prescale}
-use Rattle.pow2.specs.declared.Prescale.TheVariants.{By, None}
 use Rattle.checks.specs.First.{Check, refuse, first}
 use Rattle.checks.specs.First.{Checked}
 use Rattle.general_operator.specs.Csr.{row_sum_norm}
@@ -121,9 +119,9 @@ abbrev pub first_run : KrylovPhiOptions → Job → Scale → Float → PausedRu
 first_run o j f norm = fresh o j f norm (first_length (dimension (rows j) (degree j) o.m) (bound j.tau (row_sum_norm j.g.matrix)) (o.tol ⊗ norm) norm) false
 
 -- no substep: the output holds the scaled start scaled back, the working memory is cleared, the field holds the scaled start
-unfoldable pub begun : KrylovPhiOptions → Job → List Float → List Float → Prescale → PausedCall StartAnswer
+unfoldable pub begun : KrylovPhiOptions → Job → List Float → List Float → Option Scale → PausedCall StartAnswer
 begun o j y memory None = leaves (Ok (idle_run o j)) (window 0 (rows j) y) memory y
-begun o j y memory (By f) =
+begun o j y memory (Some f) =
     let y₀ = scale f.down y in
     leaves (Ok (first_run o j f (norm2 y₀))) (window 0 (rows j) (scale f.up y₀)) memory y₀
 
@@ -138,15 +136,15 @@ start o j output memory field = start_unless (first (start_checks o j (length ou
 -- ---- a step
 -- what it brings beside the run and its field: a new tol or none, the job, and the lent output and working memory
 pub record Input : Type 0 where
-  pub tolerance : Tolerance
+  pub tolerance : Option Float
   pub job : Job
   pub output : List Float
   pub memory : List Float
 
 -- the tol in force
-abbrev pub tol_in : Tolerance → PausedRun → Float
-tol_in Same s = s.tol
-tol_in (New tol) s = tol
+abbrev pub tol_in : Option Float → PausedRun → Float
+tol_in None s = s.tol
+tol_in (Some tol) s = tol
 
 -- the run's options with it; m and the limit stay
 abbrev pub options_in : PausedRun → Float → KrylovPhiOptions

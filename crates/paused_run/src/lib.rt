@@ -33,7 +33,7 @@ pub struct PausedRun {
 
 // Whether a step brings a new tolerance.
 #[derive(Clone, Copy)]
-pub enum Tolerance {
+pub enum Option Float {
     Same,
     New(f64),
 }
@@ -69,7 +69,7 @@ pub fn fresh(
 {
     PausedRun {
         time: 0.0,
-        next: next,
+        next,
         report: KrylovPhiReport {
             matvecs: 0,
             substeps: 0,
@@ -80,24 +80,21 @@ pub fn fresh(
         },
         eta: j.eta.eta,
         factors: f,
-        norm: norm,
+        norm,
         tol: o.tol,
         m: o.m,
         limit: o.max_substeps,
         n: j.g.n,
         count: j.d + 1,
-        ended: ended,
+        ended,
     }
 }
 
-// The tolerance in force.
-pub fn tol_in(tolerance: Tolerance, run: PausedRun) -> f64
+// The tolerance in force: the one that a step brings, or the run's own.
+pub fn tol_in(tolerance: Option<f64>, run: PausedRun) -> f64
     ensures { result ≡ tol_in tolerance run }
 {
-    match tolerance {
-        Tolerance::Same => run.tol,
-        Tolerance::New(tol) => tol,
-    }
+    tolerance.unwrap_or(run.tol)
 }
 
 // The run's options with it.
@@ -105,32 +102,27 @@ pub fn options_in(run: PausedRun, tol: f64) -> KrylovPhiOptions
     ensures { result ≡ options_in run tol }
 {
     KrylovPhiOptions {
-        tol: tol,
+        tol,
         m: run.m,
         max_substeps: run.limit,
     }
 }
 
 // 31: ended, or with counts that no unfinished run has.
+#[tactic(auto, unfolding(crate::specs::Paused::over))]
 pub fn over(run: PausedRun) -> bool
     ensures { result ≡ over run }
 {
-    if run.ended {
-        return true;
-    }
-    if run.limit <= run.report.substeps {
-        return true;
-    }
-    run.report.matvecs > 129000000 || run.report.rejected > 10000000
+    run.ended
+        || run.limit <= run.report.substeps
+        || run.report.matvecs > 129000000
+        || run.report.rejected > 10000000
 }
 
 fn is_other(run: PausedRun, n: usize, count: usize) -> bool
     ensures { result ≡ (not (eqb n run.n) || not (eqb count run.count)) }
 {
-    if n != run.n {
-        return true;
-    }
-    count != run.count
+    n != run.n || count != run.count
 }
 
 // 16: another n or count than the start's.
@@ -150,20 +142,13 @@ pub fn check_other(run: PausedRun, n: usize, count: usize, long: usize) -> Check
 fn moved(run: PausedRun, tol: f64, c: Control, report: KrylovPhiReport, ended: bool) -> PausedRun
     ensures { (before : KrylovPhiReport) (y : List Float) → result ≡ moved run tol (state c before y) report ended }
 {
-    let factors = run.factors;
     PausedRun {
         time: c.time,
         next: c.next,
-        report: report,
-        eta: run.eta,
-        factors: factors,
-        norm: run.norm,
-        tol: tol,
-        m: run.m,
-        limit: run.limit,
-        n: run.n,
-        count: run.count,
-        ended: ended,
+        report,
+        tol,
+        ended,
+        ..run
     }
 }
 
@@ -171,22 +156,7 @@ fn moved(run: PausedRun, tol: f64, c: Control, report: KrylovPhiReport, ended: b
 fn stopped(run: PausedRun) -> PausedRun
     ensures { result ≡ stopped run }
 {
-    let report = run.report;
-    let factors = run.factors;
-    PausedRun {
-        time: run.time,
-        next: run.next,
-        report: report,
-        eta: run.eta,
-        factors: factors,
-        norm: run.norm,
-        tol: run.tol,
-        m: run.m,
-        limit: run.limit,
-        n: run.n,
-        count: run.count,
-        ended: true,
-    }
+    PausedRun { ended: true, ..run }
 }
 
 // The answer to a substep: refused with the limit's last one, unless it ends the run with a result.

@@ -6,6 +6,7 @@ use Prim.Native.Nat.{ℕ, ◌+◌, ◌-◌, ◌*◌, ◌≤◌}
 use native.Mathlib.Omega.{arith}
 use lib.ListN.{length, replicate}
 use lib.Ieee.{Float, nan}
+use Rattle.std.specs.Prelude.{Option, Some, None}
 use Rattle.lists.specs.Window.{window, splice}
 use Rattle.lists.proofs.Window.{length_window, splice_whole}
 use Rattle.doubles.specs.F64.{◌⊗◌, +0, 1f}
@@ -13,8 +14,6 @@ use Rattle.vectors.specs.Vectors.{scale}
 use Rattle.pow2.specs.Pow2.{pow2_scale}
 use Rattle.pow2.specs.declared.Scale.{Scale}
 use Rattle.pow2.specs.declared.Scaling.{Scaling}
-use Rattle.pow2.specs.declared.Prescale.{Prescale}
-use Rattle.pow2.specs.declared.Prescale.TheVariants.{By, None}
 use Rattle.checks.specs.First.{Check, first}
 use Rattle.checks.proofs.First.{refused_up, sound_on, stops, passes, ends_sound, not_eq, not_ne}
 use Rattle.general_operator.specs.Csr.{csr}
@@ -33,7 +32,6 @@ use Rattle.krylov_job.specs.Inner.{scaling_by, scaling_of, run_job_by, Admitted}
 use Rattle.krylov_job.proofs.Calls.{Known, known, job_told}
 use Rattle.krylov_job.specs.declared.KrylovPhiOptions.{KrylovPhiOptions}
 use Rattle.krylov_job.specs.declared.RunJob.{RunJob}
-use Rattle.krylov_job.specs.declared.Eta.TheVariants.{Own}
 use Rattle.paused_run.specs.Paused.{Job, PausedCall, leaves, rows, field_checks, start_checks, first_field, need_of, begun, start_unless, start}
 use Rattle.paused_run.specs.Inner.{job_over, fresh_of, first_of, begun_of}
 use Rattle.paused_run.specs.declared.PausedRun.{PausedRun}
@@ -52,7 +50,7 @@ module _ (o : KrylovPhiOptions) (j : RunJob) where
   first_is f y e en ex er = er ∙ rw (ex, en, e) refl
 
   -- y is written over the whole field, and the working memory cleared
-  module _ (y w₀ out field : List Float) {field₁ w₁ : List Float} {s : Prescale} (ly : length y ≡ length field) (lo : length out ≡ j.g.n) (fits : j.g.n ≤ length field) (e : field₁ ≡ splice 0 y field)
+  module _ (y w₀ out field : List Float) {field₁ w₁ : List Float} {s : Option Scale} (ly : length y ≡ length field) (lo : length out ≡ j.g.n) (fits : j.g.n ≤ length field) (e : field₁ ≡ splice 0 y field)
       (ew : w₁ ≡ splice 0 (replicate j.need +0) w₀) (es : s ≡ pow2_scale field₁) where
     field_is : field₁ ≡ y
     field_is = e ∙ splice_whole y field ly
@@ -70,7 +68,7 @@ module _ (o : KrylovPhiOptions) (j : RunJob) where
         let eo' : out₁ ≡ window 0 j.g.n y = eo ∙ ap (λ (x : List Float). splice 0 (window 0 j.g.n x) out) field_is ∙ splice_whole _ out (length_window 0 j.g.n y (omega (arith, ly, fits)) ∙ sym lo) in
         rw (scale_is ∙ en) (λ i. leaves (Ok (er i)) (eo' i) (ew i) (field_is i))
 
-    pub begun_first : (f : Scale) {out₁ y₁ : List Float} {r : PausedRun} → s ≡ By f → r ≡ first_of o j f (scale f.down field₁) → y₁ ≡ scale f.down field₁
+    pub begun_first : (f : Scale) {out₁ y₁ : List Float} {r : PausedRun} → s ≡ Some f → r ≡ first_of o j f (scale f.down field₁) → y₁ ≡ scale f.down field₁
         → out₁ ≡ window 0 (length out) (scale f.up (scale f.down field₁))
         → leaves (Ok r) out₁ w₁ y₁ ≡ begun_of o j y (cleared j.need w₀) (pow2_scale y)
     unfolding begun_of cleared
@@ -123,7 +121,7 @@ module _
     (o : KrylovPhiOptions)
     (out w₀ field : List Float)
     {j : RunJob}
-    (ad : Admitted g tau count w (scaling_of g tau count w Own) o (length_checks (length out) g.n (length w) (count * g.n) ++ []) (length w₀) j) where
+    (ad : Admitted g tau count w (scaling_of g tau count w None) o (length_checks (length out) g.n (length w) (count * g.n) ++ []) (length w₀) j) where
   abbrev job : Job
   job = job_over gs g starts cols vals mass tau count w
 
@@ -138,7 +136,7 @@ module _
   refused_job e = start_refused o job out w₀ field (sym e ∙ refused_up _ _ e told)
 
   module _ (e : j.checked ≡ Sound) where
-    k : Known g tau count w (scaling_of g tau count w Own) o (length out) [] (length w₀) j
+    k : Known g tau count w (scaling_of g tau count w None) o (length out) [] (length w₀) j
     k = known ad e
 
     n_is : j.g.n ≡ g.n
@@ -152,12 +150,12 @@ module _
     refused_field ne ex =
         start_refused o job out w₀ field (sound_on _ _ e told (stops [] (not_ne (λ h. ne (h ∙ rw (rows_are, n_is, d_is) refl))) ex))
 
-    begun_is : (y memory : List Float) (p : Prescale) → begun_of o (run_job_by g tau (count - 1) (further g.n w) (scaling_of g tau count w Own) o (dimension g.n (count - 1) o.m) (length w₀)) y memory p ≡ begun o job y memory p
+    begun_is : (y memory : List Float) (p : Option Scale) → begun_of o (run_job_by g tau (count - 1) (further g.n w) (scaling_of g tau count w None) o (dimension g.n (count - 1) o.m) (length w₀)) y memory p ≡ begun o job y memory p
     unfolding begun begun_of scaling_by eta_of
     begun_is y memory None =
         let c : count - 1 + 1 ≡ count = omega (arith, k.vectors.some) in
         rw (rows_are, c) refl
-    begun_is y memory (By f) =
+    begun_is y memory (Some f) =
         let c : count - 1 + 1 ≡ count = omega (arith, k.vectors.some) in
         rw (← ok.norm, rows_are, c) refl
 

@@ -60,12 +60,12 @@ fn begin(
     vectors::clear_in(work, 0, j.need);
     let scaling = pow2::pow2_scale(field);
     match scaling {
-        Prescale::None => {
+        None => {
             vectors::copy_from(out, 0, field, 0, n);
             let one = Scale { down: 1.0, up: 1.0 };
             Ok(paused_run::fresh(o, j, one, 0.0, 0.0, true))
         }
-        Prescale::By(f) => Ok(first_run(o, j, f, out, field)),
+        Some(f) => Ok(first_run(o, j, f, out, field)),
     }
 }
 
@@ -84,7 +84,7 @@ pub fn started(
     ensures { (gs : List Check) (starts cols : List ℕ) (vals mass : List Float) → Sound ≡ first gs → Passed (csr g.n starts cols vals) (given g.with_mass mass) g → leaves result out.new work.new field.new ≡ start o (job_over gs g starts cols vals mass tau count w.now) out.old work.old field.old }
 {
     let none = Ok(());
-    let j = krylov_job::admit_job(g, tau, count, w, Eta::Own, o, out.len(), none, work.len());
+    let j = krylov_job::admit_job(g, tau, count, w, None, o, out.len(), none, work.len());
     j.checked?;
     if field.len() != j.g.n + j.d {
         return Err(Refusal {

@@ -21,7 +21,7 @@ use paused_run::{PausedRun, StepRefusal, Tolerance};
 // A step over a generator that passed its checks, of a run that 31 does not refuse.
 pub fn stepped(
     run: PausedRun,
-    tolerance: Tolerance,
+    tolerance: Option<f64>,
     starts: &[u32],
     cols: &[u32],
     vals: &[f64],
@@ -42,7 +42,7 @@ pub fn stepped(
     let tol = paused_run::tol_in(tolerance, run);
     let o = paused_run::options_in(run, tol);
     let others = paused_run::check_other(run, n, count, w.len());
-    let began = Eta::Began(run.eta);
+    let began = Some(run.eta);
     let j = krylov_job::admit_job(g, tau, count, w, began, o, out.len(), others, work.len());
     j.checked.map_err(|refusal| StepRefusal { refusal, run })?;
     if field.len() != n + j.d {
@@ -72,7 +72,7 @@ pub fn stepped(
 // One substep of a run, after all checks of a Krylov call.
 pub fn step(
     run: PausedRun,
-    tolerance: Tolerance,
+    tolerance: Option<f64>,
     n: usize,
     starts: &[u32],
     cols: &[u32],

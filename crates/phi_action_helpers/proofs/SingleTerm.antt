@@ -8,7 +8,7 @@ use lib.ListN.{length, get_or, set}
 use lib.Ieee.{Float, nan}
 use Rattle.lists.specs.Loop.{tabulate, zip_with}
 use Rattle.lists.specs.Window.{window, splice}
-use Rattle.lists.proofs.Frame.{wrote, untouched, wrote_long}
+use Rattle.lists.proofs.Frame.{wrote, untouched}
 use Rattle.lists.proofs.Loop.{iter_none, iter_next, length_tabulate, get_d_tabulate, tabulate_ext, tabulate_add, fill_start, fill_next, zip_with_windows}
 use Rattle.lists.proofs.Window.{length_splice, get_or_splice_before, get_or_splice_after, get_or_splice_in, splice_comm, splice_more, set_splice_after}
 use Rattle.doubles.specs.F64.{◌⊕◌, ◌⊗◌, at}

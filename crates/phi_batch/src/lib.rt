@@ -72,10 +72,10 @@ fn run_batch(
     let b = j.b;
     let p = taylor_job::prepare(starts, cols, vals, mass, work, j);
     let x = SweepArgs {
-        l: l,
-        b: b,
+        l,
+        b,
         tau: j.tau,
-        p: p,
+        p,
     };
     let applied = sweep_batch(starts, cols, vals, v, out, work, x, j.inv, count);
     taylor_job::finish(work, j.need, p, applied)

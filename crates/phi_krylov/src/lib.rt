@@ -36,7 +36,7 @@ pub fn combined(
 {
     let n = g.n;
     let sound = Ok(());
-    let j = krylov_job::admit_job(g, tau, count, w, Eta::Own, o, out.len(), sound, work.len());
+    let j = krylov_job::admit_job(g, tau, count, w, None, o, out.len(), sound, work.len());
     j.checked?;
     krylov_run::start_in(n, w, j.d, j.eta.inv, work, j.k.y);
     krylov_run::run_job(starts, cols, vals, mass, &w[n..], out, work, j)

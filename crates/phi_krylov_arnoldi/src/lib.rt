@@ -38,12 +38,12 @@ pub fn first_length(m: usize, anorm: f64, tol: f64, beta: f64) -> f64
 }
 
 // The products with the generator that a basis took.
-fn products(basis: BasisAnswer) -> usize
+fn products(basis: Result<Full, Broken>) -> usize
     ensures { result ≡ products basis }
 {
     match basis {
-        BasisAnswer::Breakdown(applied, _, _) => applied,
-        BasisAnswer::Full(applied, _) => applied,
+        Ok(b) => b.applied,
+        Err(e) => e.applied,
     }
 }
 
@@ -105,11 +105,7 @@ pub fn relative_report(r: KrylovPhiReport, beta: f64) -> KrylovPhiReport
     ensures { result ≡ relative_report r beta }
 {
     KrylovPhiReport {
-        matvecs: r.matvecs,
-        substeps: r.substeps,
-        rejected: r.rejected,
         est_error: r.est_error / beta,
-        shortest: r.shortest,
-        last: r.last,
+        ..r
     }
 }

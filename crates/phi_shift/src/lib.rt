@@ -3,18 +3,11 @@
 
 ghost use Rattle.std.specs.Prelude.{◌≡◌};
 ghost use Rattle.general_operator.specs.Csr.{csr, Valid};
-ghost use Rattle.phi_shift.specs.Plan.{argument, shifted_bound, cheaper_shifted, usable, with_shift, sweep_plan};
+ghost use Rattle.phi_shift.specs.Plan.{plan, argument, shifted_bound, cheaper_shifted, usable, with_shift, sweep_plan};
 
-use csr_shift::Shift;
-use expmv::Selected;
+use csr_shift::Shifted;
+use expmv::Row;
 use phi_action_helpers::SweepPlan;
-
-// No plan for the unshifted argument, or a plan.
-#[derive(Clone, Copy)]
-pub enum PlanAnswer {
-    NoPlan,
-    Plan(SweepPlan),
-}
 
 // (tau norm + 2) 2
 pub fn argument(tau: f64, norm: f64) -> f64
@@ -32,68 +25,48 @@ fn shifted_bound(tau: f64, mu: f64, norm: f64) -> f64
 fn usable(tau: f64, mu: f64, norm: f64) -> bool
     ensures { result ≡ usable tau mu norm }
 {
-    if mu == 0.0 {
-        return false;
-    }
-    if !float::is_finite(mu) {
-        return false;
-    }
-    if !float::is_finite(norm) {
-        return false;
-    }
-    if !(0.0 <= norm) {
-        return false;
-    }
-    float::is_finite(shifted_bound(tau, mu, norm))
+    mu != 0.0
+        && float::is_finite(mu)
+        && float::is_finite(norm)
+        && 0.0 <= norm
+        && float::is_finite(shifted_bound(tau, mu, norm))
+}
+
+fn plan(row: Row, mu: f64) -> SweepPlan
+    ensures { result ≡ plan row.s row.m mu }
+{
+    let Row { s, m } = row;
+    SweepPlan { s, m, mu }
 }
 
 // The shifted row only where it costs strictly less.
-fn cheaper_shifted(s: u32, m: u32, mu: f64, row: Selected) -> SweepPlan
-    ensures { result ≡ cheaper_shifted s m mu row }
+fn cheaper_shifted(row: Row, mu: f64, shifted: Option<Row>) -> SweepPlan
+    ensures { result ≡ cheaper_shifted row mu shifted }
 {
-    let Selected::Row(s2, m2) = row else {
-        return SweepPlan {
-            s: s,
-            m: m,
-            mu: 0.0,
-        };
+    let Some(shifted) = shifted else {
+        return plan(row, 0.0);
     };
-    if expmv::cost(s2, m2) < expmv::cost(s, m) {
-        return SweepPlan {
-            s: s2,
-            m: m2,
-            mu: mu,
-        };
+    if shifted.cost() < row.cost() {
+        return plan(shifted, mu);
     }
-    SweepPlan {
-        s: s,
-        m: m,
-        mu: 0.0,
-    }
+    plan(row, 0.0)
 }
 
-pub fn with_shift(m_max: u32, tau: f64, s: u32, m: u32, shift: Shift) -> SweepPlan
-    ensures { result ≡ with_shift m_max tau s m shift }
+pub fn with_shift(m_max: u32, tau: f64, row: Row, shift: Option<Shifted>) -> SweepPlan
+    ensures { result ≡ with_shift m_max tau row shift }
 {
-    let Shift::By(g, norm) = shift else {
-        return SweepPlan {
-            s: s,
-            m: m,
-            mu: 0.0,
-        };
+    let Some(shift) = shift else {
+        return plan(row, 0.0);
     };
-    let mu = tau * g;
-    if usable(tau, mu, norm) {
-        let row = expmv::select_s_m(m_max, shifted_bound(tau, mu, norm) * 2.0);
-        return cheaper_shifted(s, m, mu, row);
+    let mu = tau * shift.mu;
+    if usable(tau, mu, shift.norm) {
+        let shifted = expmv::select_s_m(m_max, shifted_bound(tau, mu, shift.norm) * 2.0);
+        return cheaper_shifted(row, mu, shifted);
     }
-    SweepPlan {
-        s: s,
-        m: m,
-        mu: 0.0,
-    }
+    plan(row, 0.0)
 }
 
+// None where no row fits the unshifted argument.
 pub fn sweep_plan(
     m_max: u32,
     tau: f64,
@@ -102,14 +75,11 @@ pub fn sweep_plan(
     cols: &[u32],
     vals: &[f64],
     norm: f64,
-) -> PlanAnswer
+) -> Option<SweepPlan>
     requires { Valid (csr n starts.now cols.now vals.now) }
     ensures { result ≡ sweep_plan m_max tau (csr n starts.now cols.now vals.now) norm }
 {
-    let row = expmv::select_s_m(m_max, argument(tau, norm));
-    let Selected::Row(s, m) = row else {
-        return PlanAnswer::NoPlan;
-    };
+    let row = expmv::select_s_m(m_max, argument(tau, norm))?;
     let shift = csr_shift::negated_csr_shift(n, starts, cols, vals, norm);
-    PlanAnswer::Plan(with_shift(m_max, tau, s, m, shift))
+    Some(with_shift(m_max, tau, row, shift))
 }

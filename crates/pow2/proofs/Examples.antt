@@ -4,9 +4,9 @@ use mathlib.Core.Bool.{true, false}
 use mathlib.Core.List.{[], ◌∷◌, map}
 use lib.IntN.{pos, negsuc}
 use lib.Ieee.{Float, nan, inf, fin, neg}
+use Rattle.std.specs.Prelude.{Some, None}
 use Rattle.doubles.specs.F64.{nat, bits, +0, 1f}
 use Rattle.pow2.specs.declared.Scaling.{Scaling}
-use Rattle.pow2.specs.declared.Prescale.TheVariants.{By, None}
 use Rattle.pow2.specs.Pow2.{ceil_log2, eta_scaling, pow2_scale, scale_of, factors, open_pow2}
 
 abbrev etas : Float → Float → Scaling
@@ -26,11 +26,11 @@ logs = refl
 
 -- (3, -1), the empty list, zeros of both signs, a NaN beside them, the smallest double, 2 ^ -1023, the largest double, an infinity
 scales : map pow2_scale ((nat 3 ∷ neg 1f ∷ []) ∷ [] ∷ (+0 ∷ neg +0 ∷ []) ∷ (nan ∷ neg +0 ∷ []) ∷ (bits 1 ∷ []) ∷ (bits 0x8_0000_0000_0000 ∷ []) ∷ (bits 0x7fef_ffff_ffff_ffff ∷ []) ∷ (nan ∷ inf true ∷ 1f ∷ []) ∷ [])
-    ≡ By (scale_of (pos 1)) ∷ None ∷ None ∷ None ∷ By (scale_of (negsuc 1022)) ∷ By (scale_of (negsuc 1022)) ∷ By (scale_of (pos 1023)) ∷ By (scale_of (pos 1023)) ∷ []
+    ≡ Some (scale_of (pos 1)) ∷ None ∷ None ∷ None ∷ Some (scale_of (negsuc 1022)) ∷ Some (scale_of (negsuc 1022)) ∷ Some (scale_of (pos 1023)) ∷ Some (scale_of (pos 1023)) ∷ []
 unfolding open_pow2
 scales = refl
 
 -- the farthest exponents that have factors, and those next to them
-reach : map factors (negsuc 1023 ∷ negsuc 1022 ∷ pos 1023 ∷ pos 1024 ∷ []) ≡ None ∷ By (scale_of (negsuc 1022)) ∷ By (scale_of (pos 1023)) ∷ None ∷ []
+reach : map factors (negsuc 1023 ∷ negsuc 1022 ∷ pos 1023 ∷ pos 1024 ∷ []) ≡ None ∷ Some (scale_of (negsuc 1022)) ∷ Some (scale_of (pos 1023)) ∷ None ∷ []
 unfolding open_pow2
 reach = refl

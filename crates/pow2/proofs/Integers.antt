@@ -10,6 +10,7 @@ use mir.Syntax.{w32}
 use mir.Val.{SFits, to_z, of_z}
 use mir.Facts.{to_z-of_z}
 use borrow.Author.Tests.{ltb-false, lt-ltb, le-ltb}
+use Rattle.std.specs.Int.{int_max, int_min}
 use Rattle.pow2.specs.Pow2.{clamp, field}
 
 pub small : (z : ℤ) → mag z < 2147483648 → SFits w32 z
@@ -76,6 +77,16 @@ halves (negsuc a) n h = (omega (arith, mag_neg_pos (suc a / 2)), rw (neg_minus a
 -- ---- a comparison, and what is clamped
 pub less : {a b : ℤ} {t : Bool} → SFits w32 a → SFits w32 b → lt_z (to_z w32 (of_z w32 a)) (to_z w32 (of_z w32 b)) ≡ t → lt_z a b ≡ t
 less f g e = rw (to_z-of_z f, to_z-of_z g) at e
+
+-- `i32::clamp` at bounds of which one is below 0 and one above
+pub clamp_is : (c : ℕ) (e : ℤ) → int_max (negsuc c) (int_min e (pos (suc c))) ≡ clamp e (negsuc c) (pos (suc c))
+unfolding clamp
+clamp_is c (pos n) = go (ltb (suc c) n)
+  where
+    go : (t : Bool) → int_max (negsuc c) (cond t (pos (suc c)) (pos n)) ≡ cond t (pos (suc c)) (pos n)
+    go true = refl
+    go false = refl
+clamp_is c (negsuc n) = refl
 
 pub clamp_mag : (c : ℕ) (e : ℤ) → mag (clamp e (negsuc c) (pos (suc c))) ≤ suc c
 unfolding clamp

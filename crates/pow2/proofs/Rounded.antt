@@ -13,9 +13,9 @@ use lib.Ieee.Fits.{up_pos, down_pos, and_i}
 use lib.Ieee.Order.{round_mono}
 use lib.Ieee.Scale.{round_same}
 use borrow.Author.Tests.{ltb-true, ltb-false, ne_eqb}
+use Rattle.std.specs.Prelude.{Some, None}
 use Rattle.doubles.proofs.Unique.{round_self}
 use Rattle.lists.proofs.Tests.{and_false}
-use Rattle.pow2.specs.declared.Prescale.TheVariants.{By, None}
 use Rattle.pow2.specs.Pow2.{pow2_f64, usable, factors, scale_of}
 
 -- ---- 2 ^ a times 2 ^ b is 2 ^ (a + b), as fractions
@@ -86,7 +86,7 @@ usable_over : usable (inf false) ≡ false
 unfolding usable
 usable_over = refl
 
-pub factors_inside : (e : ℤ) → nat_abs e < 1024 → factors e ≡ By (scale_of e)
+pub factors_inside : (e : ℤ) → nat_abs e < 1024 → factors e ≡ Some (scale_of e)
 unfolding factors
 factors_inside e h =
     let d = pow2_exact (neg_ℤ e) (down_in e h) in

@@ -7,10 +7,11 @@ use native.Mathlib.Omega.{arith}
 use lib.Dec.{ltb}
 use lib.IntN.{ℤ, pos, negsuc, nat_abs, ◌-ℤ◌, +ℤ_one, -ℤ_one}
 use borrow.Author.Tests.{ltb-false, lt-ltb, le-ltb}
+use Rattle.std.specs.Prelude.{min, Some, None}
+use Rattle.std.specs.Int.{int_signum}
 use Rattle.lists.proofs.Bounds.{lt_or_le}
 use Rattle.pow2.specs.declared.Scale.{Scale}
-use Rattle.pow2.specs.declared.Prescale.TheVariants.{By, None}
-use Rattle.pow2.specs.Pow2.{clamp, signum, factors, scale_of}
+use Rattle.pow2.specs.Pow2.{clamp, factors, scale_of}
 use Rattle.pow2.proofs.Rounded.{factors_inside, factors_outside}
 
 -- what the walk ends at
@@ -23,7 +24,7 @@ end_inside (pos n) h = rw (le-ltb 1023 n (omega arith))
 end_inside (negsuc n) h = rw (le-ltb 1022 n (omega arith))
 
 -- the factors of an exponent that has them are those of the walk's end
-pub found : (e : ℤ) (s : Scale) → factors e ≡ By s → s ≡ scale_of (end e)
+pub found : (e : ℤ) (s : Scale) → factors e ≡ Some s → s ≡ scale_of (end e)
 found e s p = elim (lt_or_le (nat_abs e) 1024) [
   | inl l ↦ let q = factors_inside e l in rw (end_inside e l) (cc)
   | inr g ↦ let q = factors_outside e g in cc
@@ -56,8 +57,11 @@ below_step n h = rw (lt-ltb 1022 (suc n) (omega arith)) (go (ltb 1022 n) refl)
     go true e = refl
     go false e = let l = ltb-false 1022 n e in ap negsuc (omega arith)
 
-pub stepped : (e : ℤ) → 1024 ≤ nat_abs e → Step e (e -ℤ signum e)
+min_one : (n : ℕ) → min (suc n) 1 ≡ 1
+min_one n = omega arith
+
+pub stepped : (e : ℤ) → 1024 ≤ nat_abs e → Step e (e -ℤ int_signum e)
 stepped (pos zero) h = absurd (omega arith)
-stepped (pos (suc n)) h = rw (-ℤ_one (pos (suc n))) (record { same = above_step n (omega arith); nearer = refl })
+stepped (pos (suc n)) h = rw (min_one n, -ℤ_one (pos (suc n))) (record { same = above_step n (omega arith); nearer = refl })
 stepped (negsuc zero) h = absurd (omega arith)
 stepped (negsuc (suc n)) h = rw (+ℤ_one (negsuc (suc n))) (record { same = below_step n (omega arith); nearer = refl })

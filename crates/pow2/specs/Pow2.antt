@@ -1,5 +1,5 @@
 -- Powers of two that scale exactly: `ceil_log2`, `exact_pow2` and `eta_scaling` of phi_action_helpers.rs, and pow2.rs. Definitions only.
-use Rattle.std.specs.Prelude.{Bool, false, ◌&&◌, List, ℕ, zero, suc, ◌/◌, ◌%◌, ◌^◌, ℤ, pos, negsuc, neg_ℤ, ◌+ℤ◌, ◌-ℤ◌, eqb, length, if◌then◌else◌}
+use Rattle.std.specs.Prelude.{Bool, false, ◌&&◌, List, ℕ, ◌/◌, ◌%◌, ◌^◌, ℤ, pos, negsuc, neg_ℤ, ◌+ℤ◌, ◌-ℤ◌, eqb, length, if◌then◌else◌, Option, Some, None}
 use Rattle.std.specs.Int.Signed.{lt_z}
 use lib.Ieee.{Float, fin, binary64, up, down, round, size, eq, ne, to_bits}
 use Rattle.lists.specs.Loop.{iter}
@@ -7,18 +7,10 @@ use Rattle.doubles.specs.F64.{◌⋖◌, +0, 1f, at, abs, is_finite, max_num}
 use Rattle.doubles.specs.Value.{val}
 use Rattle.pow2.specs.declared.Scaling.{Scaling}
 use Rattle.pow2.specs.declared.Scale.{Scale}
-use Rattle.pow2.specs.declared.Prescale.{Prescale}
-use Rattle.pow2.specs.declared.Prescale.TheVariants.{By, None}
 
 -- Rust's `i32::clamp`
 unfoldable pub clamp : ℤ → ℤ → ℤ → ℤ
 clamp e lo hi = if lt_z e lo then lo else (if lt_z hi e then hi else e)
-
--- Rust's `i32::signum`
-abbrev pub signum : ℤ → ℤ
-signum (pos zero) = pos 0
-signum (pos (suc n)) = pos 1
-signum (negsuc n) = negsuc 0
 
 -- the exponent's field of a bit pattern: `(bits >> 52) & 0x7ff`
 abbrev pub field : ℕ → ℕ
@@ -56,9 +48,9 @@ unfoldable pub usable : Float → Bool
 usable x = is_finite x && ne x +0
 
 -- `factors`: 2 ^ -e and 2 ^ e, where both are finite and not 0
-unfoldable pub factors : ℤ → Prescale
+unfoldable pub factors : ℤ → Option Scale
 factors e =
-    if usable (pow2_f64 (neg_ℤ e)) && usable (pow2_f64 e) then By (record { down = pow2_f64 (neg_ℤ e); up = pow2_f64 e }) else None
+    if usable (pow2_f64 (neg_ℤ e)) && usable (pow2_f64 e) then Some (record { down = pow2_f64 (neg_ℤ e); up = pow2_f64 e }) else None
 
 -- ⌊log₂ x⌋ of an x above 0, 1024 of an infinity: x is `val` units of 2 ^ -1074, and a number of k binary digits is 2 ^ (k - 1) or more
 unfoldable pub exponent : Float → ℤ
@@ -69,8 +61,8 @@ abbrev pub scale_of : ℤ → Scale
 scale_of e = record { down = exact_pow2 (neg_ℤ e); up = exact_pow2 e }
 
 -- `pow2_scale`: 2 ^ -e and 2 ^ e, e the exponent of the largest magnitude, moved toward 0 to where both are finite and not 0; none for an all-zero slice
-unfoldable pub pow2_scale : List Float → Prescale
-pow2_scale rhs = if eq (sup rhs) +0 then None else By (scale_of (clamp (exponent (sup rhs)) (negsuc 1022) (pos 1023)))
+unfoldable pub pow2_scale : List Float → Option Scale
+pow2_scale rhs = if eq (sup rhs) +0 then None else Some (scale_of (clamp (exponent (sup rhs)) (negsuc 1022) (pos 1023)))
 
 -- to compute: a line `unfolding open_pow2` opens every definition of this file and of those below it
 unfoldable pub open_pow2 : Unit {0}

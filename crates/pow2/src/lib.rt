@@ -4,7 +4,7 @@
 ghost use Rattle.std.specs.Prelude.{◌≡◌, ◌<◌, T, pos, negsuc};
 ghost use Rattle.std.specs.Int.Signed.{mag};
 ghost use Rattle.doubles.specs.F64.{◌⋖◌, +0};
-ghost use Rattle.pow2.specs.Pow2.{clamp, signum, field, ceil_log2, exact_pow2, eta_scaling, sup, pow2_f64, usable, factors, exponent, scale_of, pow2_scale};
+ghost use Rattle.pow2.specs.Pow2.{clamp, field, ceil_log2, exact_pow2, eta_scaling, sup, pow2_f64, usable, factors, exponent, scale_of, pow2_scale};
 
 use float::{abs, is_finite, max};
 
@@ -25,36 +25,6 @@ pub struct Scale {
     pub up: f64,
 }
 
-#[derive(Clone, Copy)]
-pub enum Prescale {
-    By(Scale),
-    None,
-}
-
-fn clamp(e: i32, lo: i32, hi: i32) -> i32
-    ensures { result ≡ clamp e lo hi }
-{
-    if e < lo {
-        return lo;
-    }
-    if e > hi {
-        return hi;
-    }
-    e
-}
-
-fn signum(e: i32) -> i32
-    ensures { result ≡ signum e }
-{
-    if e > 0 {
-        return 1;
-    }
-    if e < 0 {
-        return -1;
-    }
-    0
-}
-
 // The exponent's field of a bit pattern.
 fn field(bits: u64) -> i32
     ensures { result ≡ pos (field bits) }
@@ -66,7 +36,7 @@ fn field(bits: u64) -> i32
 pub fn ceil_log2(x: f64) -> i32
     ensures { result ≡ ceil_log2 x }
 {
-    if x != x {
+    if x.is_nan() {
         return 1025;
     }
     let bits = f64::to_bits(x);
@@ -92,14 +62,12 @@ fn exact_pow2(e: i32) -> f64
 pub fn eta_scaling(max_mag: f64) -> Scaling
     ensures { result ≡ eta_scaling max_mag }
 {
-    if max_mag > 0.0 {
-        if is_finite(max_mag) {
-            let e = clamp(ceil_log2(max_mag), -ETA_EXP_CLAMP, ETA_EXP_CLAMP);
-            return Scaling {
-                eta: exact_pow2(-e),
-                inv: exact_pow2(e),
-            };
-        }
+    if max_mag > 0.0 && is_finite(max_mag) {
+        let e = ceil_log2(max_mag).clamp(-ETA_EXP_CLAMP, ETA_EXP_CLAMP);
+        return Scaling {
+            eta: exact_pow2(-e),
+            inv: exact_pow2(e),
+        };
     }
     Scaling { eta: 1.0, inv: 1.0 }
 }
@@ -109,8 +77,8 @@ pub fn sup(x: &[f64]) -> f64
     ensures { result ≡ sup x.now }
 {
     let mut m = 0.0;
-    for i in 0..x.len() {
-        m = max(m, abs(x[i]));
+    for v in x {
+        m = max(m, abs(*v));
     }
     m
 }
@@ -124,28 +92,21 @@ fn pow2_f64(k: i32) -> f64
     exact_pow2(half) * exact_pow2(k - half)
 }
 
+#[tactic(auto, unfolding(crate::specs::Pow2::usable))]
 fn usable(x: f64) -> bool
     ensures { result ≡ usable x }
 {
-    if is_finite(x) {
-        return x != 0.0;
-    }
-    false
+    is_finite(x) && x != 0.0
 }
 
 // (2 ^ -e, 2 ^ e) where both are finite and not 0.
-fn factors(e: i32) -> Prescale
+fn factors(e: i32) -> Option<Scale>
     requires { mag e < 2041 }
     ensures { result ≡ factors e }
 {
     let down = pow2_f64(-e);
     let up = pow2_f64(e);
-    if usable(down) {
-        if usable(up) {
-            return Prescale::By(Scale { down: down, up: up });
-        }
-    }
-    Prescale::None
+    (usable(down) && usable(up)).then_some(Scale { down, up })
 }
 
 // The exponent of the leading digit. A subnormal is multiplied by 2 ^ 54 first, which is exact and makes it normal.
@@ -166,25 +127,22 @@ fn walk(exp: i32) -> Scale
     ensures { result ≡ scale_of (clamp exp (negsuc 1022) (pos 1023)) }
 {
     let mut e = exp;
-    loop {
-        let f = factors(e);
-        if let Prescale::By(pair) = f {
+    while e != 0 {
+        if let Some(pair) = factors(e) {
             return pair;
         }
-        if e == 0 {
-            return Scale { down: 1.0, up: 1.0 };
-        }
-        e -= signum(e);
+        e -= e.signum();
     }
+    Scale { down: 1.0, up: 1.0 }
 }
 
 // Total: an infinity has the exponent 1024, from which the walk goes to 1023, and a NaN is dropped by `sup`.
-pub fn pow2_scale(rhs: &[f64]) -> Prescale
+pub fn pow2_scale(rhs: &[f64]) -> Option<Scale>
     ensures { result ≡ pow2_scale rhs.now }
 {
     let bmax = sup(rhs);
     if bmax == 0.0 {
-        return Prescale::None;
+        return None;
     }
-    Prescale::By(walk(exponent(bmax)))
+    Some(walk(exponent(bmax)))
 }

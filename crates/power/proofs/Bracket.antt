@@ -1,5 +1,5 @@
--- The search of `root_bits`: what a test says of `within`, and what lies between the two ends of the bracket. Assumes nothing.
-use Rattle.std.proofs.Common.{◌≡◌, ℕ, ◌+◌, ◌<◌, ◌≤◌, Bool, true, false, ◌&&◌, T, sym, ap, ◌∙◌, subst, le_refl, lt_of_lt_of_le, arith, lit<, lit≤, le-ltb, lt-ltb}
+-- The search of `root_bits`: what lies between the two ends of the bracket. Assumes nothing.
+use Rattle.std.proofs.Common.{◌≡◌, ℕ, ◌+◌, ◌<◌, ◌≤◌, Bool, true, false, ◌&&◌, T, sym, ap, subst, le_refl, lt_of_lt_of_le, arith, lit<, lit≤, le-ltb}
 use lib.Ieee.Bits.{is_true}
 use lib.Ieee.{Float, binary64, of_bits, le}
 use Rattle.lists.specs.Greatest.{greatest}
@@ -7,9 +7,6 @@ use Rattle.lists.proofs.Greatest.{greatest_last}
 use Rattle.doubles.specs.F64.{nonneg}
 use Rattle.power.specs.Power.{power, within}
 use Rattle.power.proofs.Roots.{down_closed, zero_passes}
-
-pub test_is : (t : Float) (q b : ℕ) (r : Bool) → b < 9218868437227405312 → le (power (of_bits binary64 b) q) t ≡ r → within t q b ≡ r
-test_is t q b r h e = ap (λ (x : Bool). x && le (power (of_bits binary64 b) q) t) (lt-ltb b 9218868437227405312 h) ∙ e
 
 pub test_past : (t : Float) (q b : ℕ) → 9218868437227405312 ≤ b → within t q b ≡ false
 test_past t q b h = ap (λ (x : Bool). x && le (power (of_bits binary64 b) q) t) (le-ltb b 9218868437227405312 h)

@@ -1,9 +1,9 @@
 -- The ways out of `root`. Assumes nothing.
 use Rattle.std.proofs.Common.{◌≡◌, ℕ, zero, suc, true, false, sym, refl, ◌∙◌, true≢false}
-use lib.Ieee.{Float, nan, inf, fin, binary64, lt, eq, div, of_bits}
+use lib.Ieee.{Float, nan, inf, fin, binary64, lt, eq, of_bits}
 use Rattle.lists.specs.Greatest.{greatest}
 use Rattle.doubles.specs.F64.{+0, +∞}
-use Rattle.doubles.proofs.Compare.{zero_cases, is_above, below_cases, endless_not, number_under, zero_over_zero}
+use Rattle.doubles.proofs.Compare.{zero_cases, is_above, below_cases, endless_not, number_under}
 use Rattle.power.specs.Power.{within, root}
 
 pub when_zero : (t : Float) (q : ℕ) → eq t +0 ≡ true → +0 ≡ root t q
@@ -25,6 +25,6 @@ when_endless (inf true) q h k = absurd (true≢false (is_above (inf true) h))
 when_endless (inf false) q h k = refl
 when_endless (fin s m e) q h k = absurd (true≢false (sym (number_under s m e) ∙ k))
 
-pub when_not : (t : Float) (q : ℕ) → eq t +0 ≡ false → lt +0 t ≡ false → div binary64 +0 +0 ≡ root t q
+pub when_not : (t : Float) (q : ℕ) → eq t +0 ≡ false → lt +0 t ≡ false → nan ≡ root t q
 unfolding root
-when_not t q = below_cases (λ t. div binary64 +0 +0 ≡ root t q) zero_over_zero zero_over_zero (λ m e. zero_over_zero) t
+when_not t q = below_cases (λ t. nan ≡ root t q) refl refl (λ m e. refl) t

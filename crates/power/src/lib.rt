@@ -13,20 +13,21 @@ pub fn power(y: f64, q: u64) -> f64
     ensures { result ≡ power y q }
 {
     let mut p = y;
-    let mut i = 1u64;
-    while i < q {
-        p = p * y;
-        i += 1;
+    for _ in 1..q {
+        p *= y;
     }
     p
 }
+
+// `log2_normal`, `log2` and `exp2` stand in for the library's methods, which call the C library, say nothing of their
+// results and would have to be linked.
 
 // The logarithm to the base 2 of a normal x above 0, to nine digits. That of the significand m is
 // 1/2 + 2 / ln 2 * (s + s^3 / 3 + s^5 / 5 + ..) with s = (m - √2) / (m + √2). The field of the exponent becomes
 // a double as the last digits of one from 2^52 up.
 fn log2_normal(x: f64) -> f64 {
     if x > 0.0 {
-        let b = f64::to_bits(x);
+        let b = x.to_bits();
         let e = f64::from_bits(0x4330_0000_0000_0000 + b / 0x10_0000_0000_0000 % 2048)
             - 4503599627371519.0;
         let m = f64::from_bits(ONE_BITS + b % 0x10_0000_0000_0000);
@@ -40,7 +41,7 @@ fn log2_normal(x: f64) -> f64 {
 
 // The same of any finite t above 0: a subnormal is scaled by 2^54.
 fn log2(t: f64) -> f64 {
-    if t < f64::from_bits(0x10_0000_0000_0000) {
+    if t < f64::MIN_POSITIVE {
         return log2_normal(t * 18014398509481984.0) - 54.0;
     }
     log2_normal(t)
@@ -51,7 +52,7 @@ fn log2(t: f64) -> f64 {
 fn exp2(z: f64) -> f64 {
     let shifted = z + 6755399441056767.0;
     if shifted > 0.0 {
-        let scale = f64::from_bits(f64::to_bits(shifted) % 2048 * 0x10_0000_0000_0000);
+        let scale = f64::from_bits(shifted.to_bits() % 2048 * 0x10_0000_0000_0000);
         let x = (z - (shifted - 6755399441056767.0)) * 0.6931471805599453;
         let high = 1.0 / 120.0 + x * (1.0 / 720.0 + x * (1.0 / 5040.0 + x * (1.0 / 40320.0)));
         return scale
@@ -69,11 +70,9 @@ fn first_guess(t: f64, q: u64) -> u64
     let y = exp2(log2(t) / order);
     let next = y + y * ((t / power(y, q) - 1.0) / order);
     if next > 0.0 {
-        let b = f64::to_bits(next);
-        if 0 < b {
-            if b < INF_BITS {
-                return b;
-            }
+        let b = next.to_bits();
+        if 0 < b && b < INF_BITS {
+            return b;
         }
     }
     ONE_BITS
@@ -116,13 +115,13 @@ fn root_bits(t: f64, q: u64) -> u64
     let mut step = 0u64;
     while lo + 1 < hi {
         step = longer(step);
-        if power(f64::from_bits(trial), q) <= t {
+        let up = power(f64::from_bits(trial), q) <= t;
+        if up {
             lo = trial;
-            trial = next_trial(lo, hi, step, true);
         } else {
             hi = trial;
-            trial = next_trial(lo, hi, step, false);
         }
+        trial = next_trial(lo, hi, step, up);
     }
     lo
 }
@@ -134,10 +133,10 @@ pub fn root(t: f64, q: u64) -> f64
         return 0.0;
     }
     if t > 0.0 {
-        if t < f64::from_bits(INF_BITS) {
+        if t < f64::INFINITY {
             return f64::from_bits(root_bits(t, q));
         }
         return t;
     }
-    0.0 / 0.0
+    f64::NAN
 }

@@ -1,23 +1,25 @@
 -- The load times a level: its first value that is not finite, and its weight. Assumes nothing.
 use mathlib.Core.Path.{◌≡◌, refl, sym, ap, ◌∙◌}
-use mathlib.Core.Bool.{true, false}
+use mathlib.Core.Bool.{Bool, true, false, not}
 use mathlib.Core.List.{List, [], ◌∷◌, ◌++◌}
 use Prim.Native.Nat.{ℕ, ◌≤◌, ◌<◌}
 use native.Mathlib.Omega.{arith}
 use native.Mathlib.Nat.{zero-mul}
 use lib.ListN.{length}
-use lib.Ieee.{Float, eq}
-use Rattle.lists.specs.Find.{find}
+use lib.Ieee.{Float, nan, eq}
+use Rattle.std.specs.List.{fold}
+use Rattle.lists.specs.Positions.{NoneBelow}
+use Rattle.lists.proofs.Positions.{fold_whole}
 use Rattle.lists.specs.Loop.{iter, tabulate}
 use Rattle.lists.specs.Window.{window}
 use Rattle.lists.proofs.Window.{window_whole}
-use Rattle.doubles.specs.F64.{◌⊕◌, ◌⊗◌, +0, at}
+use Rattle.doubles.specs.F64.{◌⊕◌, ◌⊗◌, +0, at, abs, max_num, is_finite}
 use Rattle.power.specs.Power.{times}
 use Rattle.vectors.specs.Vectors.{scale}
 use Rattle.vectors.proofs.Laws.{length_scale, scale_at}
 use Rattle.pow2.specs.Pow2.{sup}
 use Rattle.checks.specs.First.{first}
-use Rattle.checks.proofs.First.{passes_find, stops_find, ends_sound}
+use Rattle.checks.proofs.First.{passes_none, stops_position, ends_sound}
 use Rattle.combination.specs.Combination.{vector, gain, weighed, magnitude}
 use Rattle.combination.specs.Checks.{not_finite_at, finite_checks}
 use Rattle.weighted_columns.specs.Inner.{powers_of}
@@ -26,19 +28,29 @@ use Rattle.checks.specs.Reasons.{Sound, Refused}
 use Rattle.checks.specs.declared.Reason.TheVariants.{VectorNotFinite}
 
 -- ---- 17
-module _ (load : List Float) (level : Float) {i : ℕ} (e : i ≡ find (not_finite_at (scale level load)) (length load)) where
-  found : i ≡ find (not_finite_at (scale level load)) (length (scale level load))
-  found = e ∙ ap (find (not_finite_at (scale level load))) (sym (length_scale level load))
+module _ (load : List Float) (level : Float) where
+  abbrev bad : ℕ → Bool
+  bad k = not (is_finite (at load k ⊗ level))
 
-  pub product_bad : i < length load → Refused VectorNotFinite (at load i ⊗ level) ≡ first (finite_checks (scale level load))
-  unfolding finite_checks
-  product_bad l =
-      ap (Refused VectorNotFinite) (sym (scale_at level load i l))
-      ∙ stops_find VectorNotFinite (scale level load) [] (not_finite_at (scale level load)) (length (scale level load)) found (omega (arith, length_scale level load))
+  same : (k : ℕ) → k < length load → not_finite_at (scale level load) k ≡ bad k
+  unfolding not_finite_at
+  same k l = ap (λ (x : Float). not (is_finite x)) (scale_at level load k l)
 
-  pub products_finite : length load ≤ i → Sound ≡ first (finite_checks (scale level load))
+  pub product_bad : {i : ℕ} → (i < length load) × (bad i ≡ true) × NoneBelow bad i → Refused VectorNotFinite (at load i ⊗ level) ≡ first (finite_checks (scale level load))
   unfolding finite_checks
-  products_finite l = passes_find VectorNotFinite _ [] (not_finite_at (scale level load)) (length (scale level load)) found (omega (arith, length_scale level load)) ends_sound
+  product_bad {i} h =
+      ap (Refused VectorNotFinite) (sym (scale_at level load i h.0))
+      ∙ stops_position VectorNotFinite (scale level load) [] (not_finite_at (scale level load)) (length (scale level load)) (omega (arith, length_scale level load), same i h.0 ∙ h.1, λ k l. same k (omega arith) ∙ h.2 k l)
+
+  pub products_finite : NoneBelow bad (length load) → Sound ≡ first (finite_checks (scale level load))
+  unfolding finite_checks
+  products_finite h = passes_none VectorNotFinite _ [] (not_finite_at (scale level load)) (length (scale level load)) (λ k l. let j : k < length load = omega (arith, length_scale level load) in same k j ∙ h k j) ends_sound
+
+  pub products_sup : fold (λ m x. max_num m (abs (x ⊗ level))) +0 load ≡ sup (scale level load)
+  unfolding sup
+  products_sup =
+      fold_whole (λ (m x : Float). max_num m (abs (x ⊗ level))) +0 load nan (λ k m. max_num m (abs (at (scale level load) k))) (λ k m l. ap (λ (x : Float). max_num m (abs x)) (sym (scale_at level load k l)))
+      ∙ ap (λ (n : ℕ). iter (λ k m. max_num m (abs (at (scale level load) k))) n +0) (sym (length_scale level load))
 
 -- of one list, then of another
 pub both_finite : (xs ys : List Float) → first (finite_checks xs ++ finite_checks ys) ≡ first (finite_checks (xs ++ ys))

@@ -1,12 +1,12 @@
 // The checks of one record of a log. The load times the level is computed value by value, so that nothing is written before a record has passed.
 #![tactic(auto)]
 
-ghost use Rattle.std.specs.Prelude.{◌≡◌, not, ◌+◌, ◌-◌, ◌≤◌, ◌<◌, length};
-ghost use Rattle.lists.specs.Find.{find};
+ghost use Rattle.std.specs.Prelude.{◌≡◌, not, ◌+◌, ◌-◌, ◌≤◌, ◌<◌, length, fold};
+ghost use Rattle.lists.specs.Positions.{IsPosition};
+ghost use Rattle.doubles.specs.F64.{◌⊗◌, +0, at, abs, max_num, is_finite};
 ghost use Rattle.vectors.specs.Vectors.{scale};
-ghost use Rattle.pow2.specs.Pow2.{sup};
 ghost use Rattle.checks.specs.First.{first};
-ghost use Rattle.combination.specs.Checks.{not_finite_at, finite_checks};
+ghost use Rattle.combination.specs.Checks.{finite_checks};
 ghost use Rattle.weighted_columns.specs.Inner.{powers_of};
 ghost use Rattle.ambient_checks.specs.Inner.{places, field_of, early_checks, record_job};
 
@@ -15,41 +15,29 @@ use generator_action::Shape;
 use taylor_schedule::Job;
 use weighted_columns::Powers;
 
-// The first place at which load x level is not finite, all places if there is none.
-fn first_bad_product(load: &[f64], level: f64) -> usize
-    ensures { result ≡ find (not_finite_at (scale level load.now)) (length load.now) }
+// The first place at which load x level is not finite.
+fn first_bad_product(load: &[f64], level: f64) -> Option<usize>
+    ensures { IsPosition (λ i. not (is_finite (at load.now i ⊗ level))) (length load.now) result }
 {
-    for i in 0..load.len() {
-        if !float::is_finite(load[i] * level) {
-            return i;
-        }
-    }
-    load.len()
+    load.iter().position(|x| !float::is_finite(*x * level))
 }
 
 // 17 of load x level.
 fn check_products(load: &[f64], level: f64) -> Checked
     ensures { result ≡ first (finite_checks (scale level load.now)) }
 {
-    let i = first_bad_product(load, level);
-    if i < load.len() {
-        return Err(Refusal {
-            reason: Reason::VectorNotFinite,
-            value: load[i] * level,
-        });
+    if let Some(i) = first_bad_product(load, level) {
+        return Err(Refusal { reason: Reason::VectorNotFinite, value: load[i] * level });
     }
     Ok(())
 }
 
 // The largest magnitude of load x level.
 fn sup_of_products(load: &[f64], level: f64) -> f64
-    ensures { result ≡ sup (scale level load.now) }
+    ensures { result ≡ fold (λ m x. max_num m (abs (x ⊗ level))) +0 load.now }
 {
-    let mut m = 0.0;
-    for i in 0..load.len() {
-        m = float::max(m, float::abs(load[i] * level));
-    }
-    m
+    load.iter()
+        .fold(0.0, |m, x| float::max(m, float::abs(*x * level)))
 }
 
 // The weight of w_1, which is load x level, and its share of the magnitude; an all-zero vector has none.
@@ -101,16 +89,6 @@ pub fn admit_record(g: Shape, duration: f64, level: f64, load: &[f64], memory: u
     let weights = weighted_columns::weigh_by(g.n, 1, p, eta);
     let checked = weights.checked;
     let b = weights.b;
-    let lent = less(memory, g.n);
+    let lent = memory.saturating_sub(g.n);
     taylor_schedule::plan_job(checked, g, duration, expmv::M_MAX, 1, weights.inv, b, lent)
-}
-
-// a - b, 0 where b is larger.
-fn less(a: usize, b: usize) -> usize
-    ensures { result ≡ a - b }
-{
-    if a < b {
-        return 0;
-    }
-    a - b
 }

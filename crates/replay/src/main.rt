@@ -2,270 +2,146 @@
 // and describes its form. Before a call the double and the counts are 90, and so is every byte of output and working memory.
 #![tactic(auto)]
 
-ghost use Rattle.std.specs.Prelude.{◌≡◌, true, ◌&&◌, cond, ◌+◌, ◌-◌, ◌≤◌, length, eqb, leb, ltb};
+ghost use Rattle.std.specs.Prelude.{◌≡◌, true, ◌&&◌, cond, ◌-◌, length, leb, ltb, IsTrue, ◌↔◌};
 ghost use Rattle.lists.specs.Loop.{tabulate};
-ghost use Rattle.le_bytes.specs.Bytes.{word};
 
 use le_bytes::{double_at, half_at};
 use pack_bytes::pattern;
-use std::io;
 use std::io::Read;
+use std::{fmt, io};
 
-// The numbers of a job.
 #[derive(Clone, Copy)]
-struct Job {
-    call: u64,
+enum Call {
+    Combination,
+    Action,
+    Batched,
+    Krylov,
+}
+
+impl TryFrom<usize> for Call {
+    type Error = ();
+
+    fn try_from(word: usize) -> Result<Call, ()> {
+        match word {
+            0 => Ok(Call::Combination),
+            1 => Ok(Call::Action),
+            2 => Ok(Call::Batched),
+            3 => Ok(Call::Krylov),
+            _ => Err(()),
+        }
+    }
+}
+
+// A call, and what it is given.
+#[derive(Clone, Copy)]
+struct Job<'a> {
+    call: Call,
     n: usize,
+    starts: &'a [u8],
+    cols: &'a [u8],
+    vals: &'a [u8],
     with_mass: bool,
+    mass: &'a [u8],
     tau: f64,
     degree: u32,
     count: usize,
+    w: &'a [u8],
     tol: f64,
     m: usize,
     limit: usize,
 }
 
 // What a call hands back as numbers, each double as its bits; the steps of a Taylor call are 0.
-#[derive(Clone, Copy)]
+#[derive(Clone, Copy, PartialEq)]
 struct Answer {
-    number: u64,
-    value: u64,
-    first: u64,
-    second: u64,
-    third: u64,
-    shortest: u64,
-    last: u64,
+    number: usize,
+    value: usize,
+    first: usize,
+    second: usize,
+    third: usize,
+    shortest: usize,
+    last: usize,
 }
 
-// How many answers of a section were replayed, and how many differ.
+// A job with its working memory, in bytes, and what is expected: numbers, output, and how many bytes of the memory are cleared.
 #[derive(Clone, Copy)]
-struct Count {
+struct Record<'a> {
+    job: Job<'a>,
+    memory: usize,
+    answer: Answer,
+    out: &'a [u8],
+    cleared: usize,
+}
+
+#[derive(Clone, Copy)]
+enum Section {
+    Rust,
+    Boundary,
+    Published,
+}
+
+impl fmt::Display for Section {
+    fn fmt<W: fmt::Write>(&self, f: &mut fmt::Formatter<W>) -> fmt::Result {
+        f.write_str(match self {
+            Section::Rust => "answers of the Rust",
+            Section::Boundary => "boundary jobs",
+            Section::Published => "published values",
+        })
+    }
+}
+
+// How many answers were replayed, how many differ, and the first record that does.
+#[derive(Clone, Copy)]
+struct Tally {
     replayed: u32,
     different: u32,
+    first: Option<u32>,
 }
 
-fn word_at(b: &[u8], k: usize) -> u64
-    requires { k + 8 ≤ length b.now }
-    ensures { result ≡ word b.now k }
-{
-    half_at(b, k) + 4294967296 * half_at(b, k + 4)
-}
-
-fn same_numbers(a: Answer, b: Answer) -> bool
-    ensures { result ≡ (eqb a.number b.number && (eqb a.value b.value && (eqb a.first b.first && (eqb a.second b.second && (eqb a.third b.third && (eqb a.shortest b.shortest && eqb a.last b.last)))))) }
-{
-    if a.number != b.number {
-        return false;
+impl fmt::Display for Tally {
+    fn fmt<W: fmt::Write>(&self, f: &mut fmt::Formatter<W>) -> fmt::Result {
+        let Tally {
+            replayed,
+            different,
+            first,
+        } = *self;
+        write!(f, "{replayed} replayed, {different} different")?;
+        match first {
+            Some(k) => write!(f, ", the first is record {k}"),
+            None => Ok(()),
+        }
     }
-    if a.value != b.value {
-        return false;
-    }
-    if a.first != b.first {
-        return false;
-    }
-    if a.second != b.second {
-        return false;
-    }
-    if a.third != b.third {
-        return false;
-    }
-    if a.shortest != b.shortest {
-        return false;
-    }
-    a.last == b.last
 }
 
 // Whether two bit patterns lie at most `units` apart.
 fn near(a: u64, b: u64, units: u64) -> bool
     ensures { result ≡ (leb (a - b) units && leb (b - a) units) }
 {
-    if a < b {
-        return b - a <= units;
-    }
-    a - b <= units
+    a.abs_diff(b) <= units
 }
 
-// What byte k of the working memory holds after a call that clears so many bytes.
-fn left_at(k: usize, cleared: usize) -> u8
-    ensures { result ≡ cond (ltb k cleared) 0 90 }
-{
-    if k < cleared {
-        return 0;
-    }
-    90
-}
-
+// Whether the memory is what a call leaves that clears so many bytes.
 fn cleared_up_to(work: &[u8], cleared: usize) -> bool
-    ensures { (result ≡ true → work.now ≡ tabulate (length work.now) (λ k. cond (ltb k cleared) 0 90)) × (work.now ≡ tabulate (length work.now) (λ k. cond (ltb k cleared) 0 90) → result ≡ true) }
+    ensures { IsTrue result ↔ work.now ≡ tabulate (length work.now) (λ k. cond (ltb k cleared) 0 90) }
 {
-    for k in 0..work.len() {
-        if work[k] != left_at(k, cleared) {
-            return false;
-        }
-    }
-    true
+    work.iter()
+        .enumerate()
+        .all(|(k, b)| *b == if k < cleared { 0 } else { 90 })
 }
 
-fn ask_combination(
-    job: Job,
-    starts: &[u8],
-    cols: &[u8],
-    vals: &[u8],
-    mass: &[u8],
-    w: &[u8],
-    out: &mut [u8],
-    work: &mut [u8],
-) -> Answer {
-    let mut value = 90.0f64;
-    let mut s = 90u32;
-    let mut m = 90u32;
-    let mut applications = 90u64;
-    let number = exports_bytes::hazhendu_phi_combination_bytes(
-        job.n,
-        starts,
-        cols,
-        vals,
-        job.with_mass,
-        mass,
-        job.tau,
-        job.degree,
-        job.count,
-        w,
-        out,
-        work,
-        &mut value,
-        &mut s,
-        &mut m,
-        &mut applications,
-    );
-    Answer {
-        number: number as u64,
-        value: pattern(value),
-        first: s as u64,
-        second: m as u64,
-        third: applications,
-        shortest: 0,
-        last: 0,
-    }
-}
-
-fn ask_action(
-    job: Job,
-    starts: &[u8],
-    cols: &[u8],
-    vals: &[u8],
-    mass: &[u8],
-    w: &[u8],
-    out: &mut [u8],
-    work: &mut [u8],
-) -> Answer {
-    let mut value = 90.0f64;
-    let mut s = 90u32;
-    let mut m = 90u32;
-    let mut applications = 90u64;
-    let number = exports_bytes::hazhendu_phi_action_bytes(
-        job.n,
-        starts,
-        cols,
-        vals,
-        job.with_mass,
-        mass,
-        job.tau,
-        job.degree,
-        job.count,
-        w,
-        out,
-        work,
-        &mut value,
-        &mut s,
-        &mut m,
-        &mut applications,
-    );
-    Answer {
-        number: number as u64,
-        value: pattern(value),
-        first: s as u64,
-        second: m as u64,
-        third: applications,
-        shortest: 0,
-        last: 0,
-    }
-}
-
-fn ask_batched(
-    job: Job,
-    starts: &[u8],
-    cols: &[u8],
-    vals: &[u8],
-    mass: &[u8],
-    w: &[u8],
-    out: &mut [u8],
-    work: &mut [u8],
-) -> Answer {
-    let mut value = 90.0f64;
-    let mut s = 90u32;
-    let mut m = 90u32;
-    let mut applications = 90u64;
-    let number = exports_bytes::hazhendu_phi_action_batched_bytes(
-        job.n,
-        starts,
-        cols,
-        vals,
-        job.with_mass,
-        mass,
-        job.tau,
-        job.degree,
-        job.count,
-        w,
-        out,
-        work,
-        &mut value,
-        &mut s,
-        &mut m,
-        &mut applications,
-    );
-    Answer {
-        number: number as u64,
-        value: pattern(value),
-        first: s as u64,
-        second: m as u64,
-        third: applications,
-        shortest: 0,
-        last: 0,
-    }
-}
-
-fn ask_krylov(
-    job: Job,
-    starts: &[u8],
-    cols: &[u8],
-    vals: &[u8],
-    mass: &[u8],
-    w: &[u8],
-    out: &mut [u8],
-    work: &mut [u8],
-) -> Answer {
+// What a Krylov call hands back, on bytes or on slices.
+fn krylov_answer<F>(call: F) -> Answer
+where
+    F: FnOnce(&mut f64, &mut usize, &mut usize, &mut usize, &mut f64, &mut f64) -> u32,
+    requires { F.IsAlwaysCallable call }
+{
     let mut value = 90.0f64;
     let mut substeps = 90usize;
     let mut matvecs = 90usize;
     let mut rejected = 90usize;
     let mut shortest = 90.0f64;
     let mut last = 90.0f64;
-    let number = exports_bytes::hazhendu_phi_combination_krylov_bytes(
-        job.n,
-        starts,
-        cols,
-        vals,
-        job.with_mass,
-        mass,
-        job.tau,
-        job.count,
-        w,
-        job.tol,
-        job.m,
-        job.limit,
-        out,
-        work,
+    let number = call(
         &mut value,
         &mut substeps,
         &mut matvecs,
@@ -274,308 +150,309 @@ fn ask_krylov(
         &mut last,
     );
     Answer {
-        number: number as u64,
-        value: pattern(value),
-        first: matvecs as u64,
-        second: substeps as u64,
-        third: rejected as u64,
-        shortest: pattern(shortest),
-        last: pattern(last),
+        number: number as usize,
+        value: pattern(value) as usize,
+        first: matvecs,
+        second: substeps,
+        third: rejected,
+        shortest: pattern(shortest) as usize,
+        last: pattern(last) as usize,
     }
 }
 
-fn ask(
-    job: Job,
-    starts: &[u8],
-    cols: &[u8],
-    vals: &[u8],
-    mass: &[u8],
-    w: &[u8],
-    out: &mut [u8],
-    work: &mut [u8],
-) -> Answer {
-    let call = job.call;
-    match call {
-        0 => ask_combination(job, starts, cols, vals, mass, w, out, work),
-        1 => ask_action(job, starts, cols, vals, mass, w, out, work),
-        2 => ask_batched(job, starts, cols, vals, mass, w, out, work),
-        _ => ask_krylov(job, starts, cols, vals, mass, w, out, work),
-    }
-}
+// One of the three; a bound `Fn` takes at most twelve arguments.
+type TaylorCall = fn(
+    usize,
+    &[u8],
+    &[u8],
+    &[u8],
+    bool,
+    &[u8],
+    f64,
+    u32,
+    usize,
+    &[u8],
+    &mut [u8],
+    &mut [u8],
+    &mut f64,
+    &mut u32,
+    &mut u32,
+    &mut u64,
+) -> u32;
 
-fn job_of(head: &[u8]) -> Job
-    requires { 184 ≤ length head.now }
+fn ask_taylor(call: TaylorCall, job: Job, out: &mut [u8], work: &mut [u8]) -> Answer
+    requires { IsAlwaysCallable call }
 {
-    Job {
-        call: word_at(head, 0),
-        n: word_at(head, 8) as usize,
-        with_mass: word_at(head, 16) == 1,
-        tau: double_at(head, 24),
-        degree: half_at(head, 48) as u32,
-        count: word_at(head, 32) as usize,
-        tol: double_at(head, 40),
-        m: word_at(head, 48) as usize,
-        limit: word_at(head, 56) as usize,
-    }
-}
-
-fn answer_of(head: &[u8]) -> Answer
-    requires { 184 ≤ length head.now }
-{
-    Answer {
-        number: word_at(head, 128),
-        value: word_at(head, 136),
-        first: word_at(head, 144),
-        second: word_at(head, 152),
-        third: word_at(head, 160),
-        shortest: word_at(head, 168),
-        last: word_at(head, 176),
-    }
-}
-
-// From `from` up to `to`; nothing where the slice ends before that.
-fn part(b: &[u8], from: usize, to: usize) -> &[u8] {
-    if from > to {
-        return &b[..0];
-    }
-    if to > b.len() {
-        return &b[..0];
-    }
-    &b[from..to]
-}
-
-// Whether the parts of the body follow one another, and no more memory is cleared than there is.
-fn in_order(head: &[u8]) -> bool
-    requires { 184 ≤ length head.now }
-{
-    if word_at(head, 64) > word_at(head, 72) {
-        return false;
-    }
-    if word_at(head, 72) > word_at(head, 80) {
-        return false;
-    }
-    if word_at(head, 80) > word_at(head, 88) {
-        return false;
-    }
-    if word_at(head, 88) > word_at(head, 96) {
-        return false;
-    }
-    word_at(head, 120) <= word_at(head, 112)
-}
-
-fn last_word(b: &[u8]) -> u64 {
-    let n = b.len();
-    if n < 8 {
-        return 0;
-    }
-    word_at(b, n - 8)
-}
-
-// A published value says nothing of the report. The last double of the output has to be at most four units in the last place from it.
-fn agrees(answer: Answer, head: &[u8], out: &[u8], wanted: &[u8], published: bool) -> bool
-    requires { 184 ≤ length head.now }
-{
-    if published {
-        if answer.number != 0 {
-            return false;
-        }
-        return near(last_word(out), last_word(wanted), 4);
-    }
-    if same_numbers(answer, answer_of(head)) {
-        return out == wanted;
-    }
-    false
-}
-
-// The body is starts, cols, vals, mass, w and the output expected.
-fn replay_on(head: &[u8], body: &[u8], out: &mut [u8], work: &mut [u8], published: bool) -> bool
-    requires { 184 ≤ length head.now }
-{
-    let starts = word_at(head, 64) as usize;
-    let cols = word_at(head, 72) as usize;
-    let vals = word_at(head, 80) as usize;
-    let mass = word_at(head, 88) as usize;
-    let w = word_at(head, 96) as usize;
-    let answer = ask(
-        job_of(head),
-        part(body, 0, starts),
-        part(body, starts, cols),
-        part(body, cols, vals),
-        part(body, vals, mass),
-        part(body, mass, w),
+    let mut value = 90.0f64;
+    let mut s = 90u32;
+    let mut m = 90u32;
+    let mut applications = 90u64;
+    let number = call(
+        job.n,
+        job.starts,
+        job.cols,
+        job.vals,
+        job.with_mass,
+        job.mass,
+        job.tau,
+        job.degree,
+        job.count,
+        job.w,
         out,
         work,
+        &mut value,
+        &mut s,
+        &mut m,
+        &mut applications,
     );
-    if agrees(answer, head, out, part(body, w, body.len()), published) {
-        return cleared_up_to(work, word_at(head, 120) as usize);
-    }
-    false
-}
-
-fn replay_in(head: &[u8], body: &[u8], out: &mut [u8], work: &mut [u8], published: bool) -> bool
-    requires { 184 ≤ length head.now }
-{
-    if !in_order(head) {
-        return false;
-    }
-    let w = word_at(head, 96) as usize;
-    if w > body.len() {
-        return false;
-    }
-    let length = body.len() - w;
-    let memory = word_at(head, 112) as usize;
-    if length > out.len() {
-        return false;
-    }
-    if memory > work.len() {
-        return false;
-    }
-    replay_on(
-        head,
-        body,
-        &mut out[..length],
-        &mut work[..memory],
-        published,
-    )
-}
-
-fn replay_record(head: &[u8], body: &[u8], published: bool) -> bool
-    requires { 184 ≤ length head.now }
-{
-    let mut out = [90u8; 4096];
-    let mut work = [90u8; 32768];
-    replay_in(head, body, &mut out, &mut work, published)
-}
-
-// The next bytes of the input, and whether there are as many.
-fn read_full<R: Read>(input: &mut R, room: &mut [u8]) -> bool {
-    match input.read_exact(room) {
-        Ok(()) => true,
-        Err(_) => false,
+    Answer {
+        number: number as usize,
+        value: pattern(value) as usize,
+        first: s as usize,
+        second: m as usize,
+        third: applications as usize,
+        shortest: 0,
+        last: 0,
     }
 }
 
-// The next bytes of the input at the front of the room, and whether there are as many.
-fn read_front<R: Read>(input: &mut R, room: &mut [u8], count: usize) -> bool {
-    if count > room.len() {
-        return false;
-    }
-    read_full(input, &mut room[..count])
-}
-
-// Reads a record, and says whether the library gives the answer that it holds.
-fn replay_next<R: Read>(input: &mut R, published: bool) -> bool {
-    let mut head = [0u8; 184];
-    if !read_full(input, &mut head) {
-        return false;
-    }
-    let size = word_at(&head, 104) as usize;
-    let mut body = [0u8; 16384];
-    if read_front(input, &mut body, size) {
-        return replay_record(&head, part(&body, 0, size), published);
-    }
-    false
-}
-
-// How many records follow; none where the list is damaged.
-fn read_count<R: Read>(input: &mut R) -> u32 {
-    let mut four = [0u8; 4];
-    if !read_full(input, &mut four) {
-        return 0;
-    }
-    let count = half_at(&four, 0);
-    if count > 10000 {
-        return 0;
-    }
-    count as u32
-}
-
-fn print_section(
-    rt: &impl Print,
-    name: &str,
-    replayed: u32,
-    different: u32,
-    first: u32,
-) -> io::Result<()> {
-    print!(rt; "{name}{replayed} replayed, {different} different")?;
-    if different > 0 {
-        print!(rt; ", the first is record {first}")?;
-    }
-    println!(rt)
-}
-
-fn replay_section<R: Read>(
-    rt: &impl Print,
-    input: &mut R,
-    name: &str,
-    published: bool,
-) -> io::Result<Count> {
-    let replayed = read_count(input);
-    let mut different = 0u32;
-    let mut first = 0u32;
-    for k in 0..replayed {
-        if !replay_next(input, published) {
-            if different == 0 {
-                first = k + 1;
-            }
-            different += 1;
-        }
-    }
-    print_section(rt, name, replayed, different, first)?;
-    Ok(Count {
-        replayed: replayed,
-        different: different,
+fn ask_krylov(job: Job, out: &mut [u8], work: &mut [u8]) -> Answer {
+    krylov_answer(|value, substeps, matvecs, rejected, shortest, last| {
+        exports_bytes::hazhendu_phi_combination_krylov_bytes(
+            job.n,
+            job.starts,
+            job.cols,
+            job.vals,
+            job.with_mass,
+            job.mass,
+            job.tau,
+            job.count,
+            job.w,
+            job.tol,
+            job.m,
+            job.limit,
+            out,
+            work,
+            value,
+            substeps,
+            matvecs,
+            rejected,
+            shortest,
+            last,
+        )
     })
 }
 
-// 200 rows with no entries and one vector, on slices: a job too large for the exports on bytes.
-fn ask_200(starts: &[u32], w: &[f64], m: usize, out: &mut [f64], work: &mut [f64]) -> u32 {
-    let mut value = 90.0f64;
-    let mut substeps = 90usize;
-    let mut matvecs = 90usize;
-    let mut rejected = 90usize;
-    let mut shortest = 90.0f64;
-    let mut last = 90.0f64;
-    exports_krylov::hazhendu_phi_combination_krylov(
-        200,
-        starts,
-        &starts[..0],
-        &w[..0],
-        false,
-        &w[..0],
-        1.0,
-        1,
-        w,
-        1.0e-10,
-        m,
-        100,
-        out,
-        work,
-        &mut value,
-        &mut substeps,
-        &mut matvecs,
-        &mut rejected,
-        &mut shortest,
-        &mut last,
-    )
+fn ask(job: Job, out: &mut [u8], work: &mut [u8]) -> Answer {
+    match job.call {
+        Call::Combination => {
+            ask_taylor(
+                exports_bytes::hazhendu_phi_combination_bytes,
+                job,
+                out,
+                work,
+            )
+        }
+        Call::Action => ask_taylor(exports_bytes::hazhendu_phi_action_bytes, job, out, work),
+        Call::Batched => {
+            ask_taylor(
+                exports_bytes::hazhendu_phi_action_batched_bytes,
+                job,
+                out,
+                work,
+            )
+        }
+        Call::Krylov => ask_krylov(job, out, work),
+    }
 }
 
-// With the memory that M = 128 needs.
-fn number_200(m: usize) -> u32 {
+fn last_word(b: &[u8]) -> u64 {
+    b.last_chunk().map_or(0, |word| u64::from_le_bytes(*word))
+}
+
+// Whether the answer is the one expected, to the last bit.
+fn same(answer: Answer, wanted: Answer, out: &[u8], wanted_out: &[u8]) -> bool
+    ensures { IsTrue result ↔ (answer ≡ wanted) × (out.now ≡ wanted_out.now) }
+{
+    answer == wanted && out == wanted_out
+}
+
+// A published value says nothing of the report. The last double of the output has to be at most four units in the last place from it.
+fn agrees(answer: Answer, out: &[u8], record: Record, section: Section) -> bool {
+    match section {
+        Section::Published => {
+            answer.number == 0 && near(last_word(out), last_word(record.out), 4)
+        }
+        Section::Rust | Section::Boundary => same(answer, record.answer, out, record.out),
+    }
+}
+
+// Nothing where there is too little room.
+fn replayed(record: Record, section: Section) -> Option<bool> {
+    let mut out_room = [90u8; 4096];
+    let mut work_room = [90u8; 32768];
+    let out = out_room.get_mut(..record.out.len())?;
+    let work = work_room.get_mut(..record.memory)?;
+    let answer = ask(record.job, out, work);
+    Some(agrees(answer, out, record, section) && cleared_up_to(work, record.cleared))
+}
+
+// The body is starts, cols, vals, mass, w and the output expected; nothing where they do not follow one another.
+fn job_of<'a>(head: &[u8; 184], words: [usize; 23], body: &'a [u8]) -> Option<Job<'a>> {
+    let [
+        call,
+        n,
+        with_mass,
+        _,
+        count,
+        _,
+        m,
+        limit,
+        starts,
+        cols,
+        vals,
+        mass,
+        w,
+        ..
+    ] = words;
+    Some(Job {
+        call: Call::try_from(call).ok()?,
+        n,
+        starts: body.get(..starts)?,
+        cols: body.get(starts..cols)?,
+        vals: body.get(cols..vals)?,
+        with_mass: with_mass == 1,
+        mass: body.get(vals..mass)?,
+        tau: double_at(head, 24),
+        degree: half_at(head, 48) as u32,
+        count,
+        w: body.get(mass..w)?,
+        tol: double_at(head, 40),
+        m,
+        limit,
+    })
+}
+
+fn record_of<'a>(head: &[u8; 184], words: [usize; 23], body: &'a [u8]) -> Option<Record<'a>> {
+    let [
+        ..,
+        w,
+        _,
+        memory,
+        cleared,
+        number,
+        value,
+        first,
+        second,
+        third,
+        shortest,
+        last,
+    ] = words;
+    if cleared > memory {
+        return None;
+    }
+    Some(Record {
+        job: job_of(head, words, body)?,
+        memory,
+        answer: Answer {
+            number,
+            value,
+            first,
+            second,
+            third,
+            shortest,
+            last,
+        },
+        out: body.get(w..)?,
+        cleared,
+    })
+}
+
+// Nothing where the list ends, or is damaged.
+fn read_record<'a, R: Read>(input: &mut R, room: &'a mut [u8]) -> Option<Record<'a>> {
+    let mut head = [0u8; 184];
+    input.read_exact(&mut head).ok()?;
+    let mut words = [0usize; 23];
+    le_bytes::unpack_words(&head, &mut words);
+    let body = room.get_mut(..words[13])?;
+    input.read_exact(body).ok()?;
+    record_of(&head, words, body)
+}
+
+// Whether the library gives the answer that the next record holds.
+fn replay_next<R: Read>(input: &mut R, section: Section) -> bool {
+    let mut room = [0u8; 16384];
+    read_record(input, &mut room)
+        .and_then(|record| replayed(record, section))
+        .unwrap_or(false)
+}
+
+// How many records follow.
+fn read_count<R: Read>(input: &mut R) -> Option<u32> {
+    let mut four = [0u8; 4];
+    input.read_exact(&mut four).ok()?;
+    Some(u32::from_le_bytes(four)).filter(|count| *count <= 10000)
+}
+
+fn replay_section<R: Read>(rt: &impl Print, input: &mut R, section: Section) -> io::Result<Tally> {
+    let replayed = read_count(input).unwrap_or(0);
+    let mut different = 0u32;
+    let mut first = None;
+    for k in 0..replayed {
+        if !replay_next(input, section) {
+            different += 1;
+            first = first.or(Some(k + 1));
+        }
+    }
+    let tally = Tally {
+        replayed,
+        different,
+        first,
+    };
+    println!(rt; "{section}: {tally}")?;
+    Ok(tally)
+}
+
+// 200 rows with no entries and one vector, on slices: a job too large for the exports on bytes. The memory is what M = 128 needs.
+fn number_200(m: usize) -> usize {
     let starts = [0u32; 201];
     let w = [1.0f64; 200];
     let mut out = [90.0f64; 200];
     let mut work = [90.0f64; 43300];
-    ask_200(&starts, &w, m, &mut out, &mut work)
+    let answer = krylov_answer(|value, substeps, matvecs, rejected, shortest, last| {
+        exports_krylov::hazhendu_phi_combination_krylov(
+            200,
+            &starts,
+            &[],
+            &[],
+            false,
+            &[],
+            1.0,
+            1,
+            &w,
+            1.0e-10,
+            m,
+            100,
+            &mut out,
+            &mut work,
+            value,
+            substeps,
+            matvecs,
+            rejected,
+            shortest,
+            last,
+        )
+    });
+    answer.number
 }
 
 fn main(rt: HostRuntime) -> io::Result<()> {
     let mut input = rt.reader();
-    let a = replay_section(&rt, &mut input, "answers of the Rust: ", false)?;
-    let b = replay_section(&rt, &mut input, "boundary jobs: ", false)?;
-    let c = replay_section(&rt, &mut input, "published values: ", true)?;
-    let replayed = a.replayed as u64 + b.replayed as u64 + c.replayed as u64;
-    let different = a.different as u64 + b.different as u64 + c.different as u64;
+    let a = replay_section(&rt, &mut input, Section::Rust)?;
+    let b = replay_section(&rt, &mut input, Section::Boundary)?;
+    let c = replay_section(&rt, &mut input, Section::Published)?;
+    let replayed = u64::from(a.replayed) + u64::from(b.replayed) + u64::from(c.replayed);
+    let different = u64::from(a.different) + u64::from(b.different) + u64::from(c.different);
     println!(rt; "in all: {replayed} replayed, {different} different")?;
     let accepted = number_200(128);
     let refused = number_200(129);

@@ -1,73 +1,39 @@
 -- The queue as the code moves it, and what waits in it. Assumes nothing.
 use mathlib.Core.Path.{◌≡◌, refl, sym, ap, ◌∙◌, subst}
-use mathlib.Core.Bool.{Bool, true, false, ◌&&◌}
+use mathlib.Core.Logic.{inl, inr}
+use mathlib.Core.Bool.{Bool, true, false, ◌&&◌, true≢false}
 use mathlib.Core.List.{List, [], ◌∷◌, ◌++◌, append_assoc, append-nil}
-use Prim.Native.Nat.{ℕ, zero, suc, ◌+◌, ◌-◌, ◌≤◌, ◌<◌}
+use Prim.Native.Nat.{ℕ, zero, suc, ◌+◌, ◌-◌, ◌≤◌, ◌<◌, min}
 use native.Mathlib.Omega.{arith}
 use native.Mathlib.Nat.{zero-add}
 use lib.Dec.{ltb, leb}
-use lib.ListN.{length, length-append, get_or, set, drop, replicate}
-use borrow.Author.Tests.{ltb-true, leb-false}
+use lib.ListN.{length, length-append, get_or, set, take, drop, replicate}
+use lib.Seq.{set-append_seam}
+use Rattle.std.proofs.lemmas.List.{drop-replicate}
+use borrow.Author.Tests.{ltb-true, leb-false, le-leb, lt-leb}
 use Rattle.lists.specs.Loop.{tabulate}
-use Rattle.lists.specs.Window.{splice}
+use Rattle.lists.specs.Window.{window}
 use Rattle.lists.proofs.Tests.{and_both}
-use Rattle.lists.proofs.Find.{find_le, find_before}
-use Rattle.lists.proofs.Loop.{Filled, started, turned₀, length_tabulate, tabulate_ext}
-use Rattle.lists.proofs.Window.{splice_snoc, splice_parts}
+use Rattle.lists.proofs.Bounds.{lt_or_le}
+use Rattle.lists.proofs.Find.{passed_start, found_at, find_le, find_before, find_holds}
+use Rattle.lists.proofs.Loop.{length_tabulate, tabulate_ext, window_tabulate}
 use Rattle.paused_run.specs.declared.PausedRun.{PausedRun}
 use Rattle.rotation.specs.Unit.{waiting, queue_of, next_place, lowest_free, room, back}
 use Rattle.rotation.specs.Inner.{count_of, shifted, seat_of, end_of, passed_of}
 use Rattle.rotation.specs.declared.Rotation.{Rotation}
 
--- ---- a queue that is filled from the front
-drop_replicate : {A : Type 0} (n m : ℕ) (z : A) → drop n (replicate m z) ≡ replicate (m - n) z
-drop_replicate zero m z =
-    let e : m ≡ m - 0 = omega arith in
-    ap (λ (k : ℕ). replicate k z) e
-drop_replicate (suc n) zero z =
-    let e : 0 ≡ 0 - suc n = omega arith in
-    ap (λ (k : ℕ). replicate k z) e
-drop_replicate (suc n) (suc m) z =
-    let e : m - n ≡ suc m - suc n = omega arith in
-    drop_replicate n m z ∙ ap (λ (k : ℕ). replicate k z) e
-
-filled_queue : (i last : ℕ) (f : ℕ → ℕ) {w : List ℕ} → i < 16 → Filled 0 i f (replicate 16 16) w → set w i last ≡ tabulate i f ++ (last ∷ replicate (15 - i) 16)
-filled_queue i last f {w} l h =
-    let vs = tabulate i f in
-    let all : List ℕ = replicate 16 16 in
-    let long = length_tabulate i f in
-    let more = length-append vs (last ∷ []) in
-    let here : i ≡ 0 + length vs = omega (arith, long) in
-    let rest : 16 - (0 + length (vs ++ (last ∷ []))) ≡ 15 - i = omega (arith, long, more) in
-    let sixteen : length all ≡ 16 = refl in
-    ap (λ (x : List ℕ). set x i last) h.is
-    ∙ ap (λ (k : ℕ). set (splice 0 vs all) k last) here
-    ∙ splice_snoc 0 vs all last
-    ∙ sym (splice_parts 0 (vs ++ (last ∷ [])) all (omega (arith, long, more, l, sixteen)))
-    ∙ ap (λ (x : List ℕ). (vs ++ (last ∷ [])) ++ x) (drop_replicate (0 + length (vs ++ (last ∷ []))) 16 16)
-    ∙ ap (λ (k : ℕ). (vs ++ (last ∷ [])) ++ replicate k 16) rest
-    ∙ append_assoc vs (last ∷ []) (replicate (15 - i) 16)
-
--- what the loop knows
-abbrev Shifted : List ℕ → ℕ → ℕ → List ℕ → Type 0
-Shifted queue from k w = Filled {A = ℕ} 0 (k - from) (λ j. get_or queue (from + j) 0) (replicate 16 16) w
-
-pub shift_start : (queue : List ℕ) (from : ℕ) → Shifted queue from from (replicate 16 16)
-shift_start queue from =
-    let none : 0 ≡ from - from = omega arith in
-    subst (λ (i : ℕ). Filled {A = ℕ} 0 i (λ j. get_or queue (from + j) 0) (replicate 16 16) (replicate 16 16)) none (started 0 (λ j. get_or queue (from + j) 0) (replicate 16 16))
-
-pub shift_more : (queue : List ℕ) (from k : ℕ) {w : List ℕ} → from ≤ k → Shifted queue from k w → Shifted queue from (k + 1) (set w (k - from) (get_or queue k 0))
-shift_more queue from k {w} l h =
-    let here : k ≡ from + (k - from) = omega (arith, l) in
-    let more : k - from + 1 ≡ k + 1 - from = omega (arith, l) in
-    subst (λ (i : ℕ). Filled {A = ℕ} 0 i (λ j. get_or queue (from + j) 0) (replicate 16 16) (set w (k - from) (get_or queue k 0))) more
-    (turned₀ h (ap (λ (j : ℕ). get_or queue j 0) here))
-
-pub shift_done : (queue : List ℕ) (from to k last : ℕ) {w : List ℕ} → k ≤ to → to ≤ k → to - from < 16 → Shifted queue from k w → set w (to - from) last ≡ shifted queue from to last
-shift_done queue from to k last {w} a b l h =
-    let all : k - from ≡ to - from = omega (arith, a, b) in
-    filled_queue (to - from) last (λ j. get_or queue (from + j) 0) l (subst (λ (i : ℕ). Filled {A = ℕ} 0 i (λ j. get_or queue (from + j) 0) (replicate 16 16) w) all h)
+-- ---- a part of a queue copied to the front, and one number behind it
+pub shift_is : (queue : List ℕ) (from to last : ℕ) {ys : List ℕ} → from ≤ to → to ≤ length queue → to - from < 16 → ys ≡ take (to - from) (drop from queue)
+    → set (ys ++ drop (to - from) (replicate 16 16)) (to - from) last ≡ shifted queue from to last
+shift_is queue from to last {ys} a b l e =
+    let n = to - from in
+    let vs = tabulate n (λ k. get_or queue (from + k) 0) in
+    let ys_is : ys ≡ vs = e ∙ unfold window in window_tabulate from n queue 0 (omega (arith, a, b)) in
+    let rest : 16 - n ≡ suc (15 - n) = omega (arith, l) in
+    ap (λ (x : List ℕ). set (x ++ drop n (replicate 16 16)) n last) ys_is
+    ∙ ap (λ (x : List ℕ). set (vs ++ x) n last) (drop-replicate n 16 16 ∙ ap (λ (k : ℕ). replicate k 16) rest)
+    ∙ ap (λ (k : ℕ). set (vs ++ (16 ∷ replicate (15 - n) 16)) k last) (sym (length_tabulate n (λ k. get_or queue (from + k) 0)))
+    ∙ set-append_seam vs 16 (replicate (15 - n) 16) last
 
 -- ---- sixteen numbers that hold those that wait
 one_behind : (l : List ℕ) (k last : ℕ) → length l ≡ k → queue_of (l ++ (last ∷ [])) ≡ l ++ (last ∷ replicate (15 - k) 16)
@@ -116,13 +82,24 @@ module _ (u : Rotation) where
       go zero h = absurd (h refl)
       go (suc k) h = omega arith
 
-  pub next_none : count_of u.queue ≡ 0 → 16 ≡ next_place u
+  next_none : count_of u.queue ≡ 0 → 16 ≡ next_place u
   unfolding next_place
   next_none e = rw (waits_none e) refl
 
-  pub next_some : (count_of u.queue ≡ 0 → ⊥) → at_place 0 ≡ next_place u
+  next_some : (count_of u.queue ≡ 0 → ⊥) → at_place 0 ≡ next_place u
   unfolding next_place
   next_some h = rw (waits_some h) refl
+
+  pub next_is : min (at_place 0) 16 ≡ next_place u
+  next_is = elim (lt_or_le (at_place 0) 16) [
+    | inl l ↦ (let e : min (at_place 0) 16 ≡ at_place 0 = omega (arith, l) in e ∙ next_some (λ z. some l z))
+    | inr l ↦ (let e : min (at_place 0) 16 ≡ 16 = omega (arith, l) in e ∙ next_none (sym (found_at (passed_start (λ k. leb 16 (at_place k))) 16 (omega arith) (le-leb _ _ l))))
+  ]
+    where
+      some : at_place 0 < 16 → count_of u.queue ≡ 0 → ⊥
+      some l z =
+          let here = find_holds (λ k. leb 16 (at_place k)) 16 (omega (arith, z)) in
+          true≢false (sym (rw z at here) ∙ lt-leb 16 (at_place 0) l)
 
   -- a run goes behind those that wait
   pub behind_all : (k p : ℕ) → k ≡ count_of u.queue → shifted u.queue 0 k p ≡ queue_of (waiting u ++ (p ∷ []))

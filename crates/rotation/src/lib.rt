@@ -1,7 +1,8 @@
 // Up to sixteen paused runs on one unit, in rotation, one substep at a time: the places and the queue.
 #![tactic(auto)]
 
-ghost use Rattle.std.specs.Prelude.{◌≡◌, ◌-◌, ◌≤◌, ◌<◌};
+ghost use Rattle.std.specs.Prelude.{◌≡◌, ◌-◌, ◌≤◌, ◌<◌, leb, position};
+ghost use Rattle.paused_run.specs.declared.PausedRun.{PausedRun};
 ghost use Rattle.rotation.specs.Unit.{vacant, empty, waiting, next_place, lowest_free, room};
 ghost use Rattle.rotation.specs.Inner.{count_of, shifted, run_in_place, seat_of, end_of, passed_of};
 
@@ -54,36 +55,31 @@ pub fn vacant() -> PausedRun
 pub fn empty() -> Rotation
     ensures { result ≡ empty }
 {
-    let run = vacant();
     Rotation {
-        places: [run; 16],
+        places: [vacant(); 16],
         queue: [16; 16],
     }
+}
+
+// The first number in a queue that is no place.
+fn queue_end(queue: &[usize]) -> Option<usize>
+    ensures { result ≡ position (λ p. leb 16 p) queue.now }
+{
+    queue.iter().position(|p| *p >= 16)
 }
 
 // How many places wait.
 fn count_in(queue: [usize; 16]) -> usize
     ensures { result ≡ count_of queue }
 {
-    let mut k = 0;
-    while k < 16 {
-        if queue[k] >= 16 {
-            return k;
-        }
-        k += 1;
-    }
-    16
+    queue_end(&queue).unwrap_or(16)
 }
 
 // The place whose turn is next, 16 if no run waits.
 pub fn next_place(unit: Rotation) -> usize
     ensures { result ≡ next_place unit }
 {
-    let queue = unit.queue;
-    if count_in(queue) == 0 {
-        return 16;
-    }
-    queue[0]
+    unit.queue[0].min(16)
 }
 
 // The run in a place; beyond the last that of a place never taken.
@@ -96,27 +92,25 @@ pub fn run_at(unit: Rotation, p: usize) -> PausedRun
     vacant()
 }
 
+// The first run that has ended.
+fn first_ended(runs: &[PausedRun]) -> Option<usize>
+    ensures { result ≡ position (λ (run : PausedRun). run.ended) runs.now }
+{
+    runs.iter().position(|run| run.ended)
+}
+
 // The lowest place whose run has ended, 16 if there is none.
 fn lowest_free(unit: Rotation) -> usize
     ensures { result ≡ lowest_free unit }
 {
-    let mut p = 0;
-    while p < 16 {
-        let run = unit.places[p];
-        if run.ended {
-            return p;
-        }
-        p += 1;
-    }
-    16
+    first_ended(&unit.places).unwrap_or(16)
 }
 
 // Whether one more run can be taken.
 pub fn room(unit: Rotation) -> bool
     ensures { result ≡ room unit }
 {
-    let queue = unit.queue;
-    lowest_free(unit) < 16 && count_in(queue) < 16
+    lowest_free(unit) < 16 && count_in(unit.queue) < 16
 }
 
 // A queue's numbers in `from..to`, then `last` (16: none), then none.
@@ -124,13 +118,10 @@ fn shifted(queue: [usize; 16], from: usize, to: usize, last: usize) -> [usize; 1
     requires { (from ≤ to) × (to ≤ 16) × (to - from < 16) }
     ensures { result ≡ shifted queue from to last }
 {
+    let n = to - from;
     let mut moved = [16; 16];
-    let mut k = from;
-    while k < to {
-        moved[k - from] = queue[k];
-        k += 1;
-    }
-    moved[to - from] = last;
+    moved[..n].copy_from_slice(&queue[from..to]);
+    moved[n] = last;
     moved
 }
 
@@ -140,21 +131,17 @@ pub fn seated(unit: Rotation, run: PausedRun) -> Seat
 {
     if room(unit) {
         let p = lowest_free(unit);
-        let queue = unit.queue;
         let mut places = unit.places;
         places[p] = run;
         return Seat {
             unit: Rotation {
-                places: places,
-                queue: shifted(queue, 0, count_in(queue), p),
+                places,
+                queue: shifted(unit.queue, 0, count_in(unit.queue), p),
             },
             place: p,
         };
     }
-    Seat {
-        unit: unit,
-        place: 16,
-    }
+    Seat { unit, place: 16 }
 }
 
 // What a place whose turn is over puts at the end: 16 where its run has ended.
@@ -171,16 +158,15 @@ fn end_of(p: usize, ended: bool) -> usize
 pub fn passed_on(unit: Rotation, run: PausedRun) -> Rotation
     ensures { result ≡ passed_of unit (waiting unit) run }
 {
-    let queue = unit.queue;
-    let k = count_in(queue);
+    let k = count_in(unit.queue);
     if k == 0 {
         return unit;
     }
-    let p = queue[0];
+    let p = unit.queue[0];
     let mut places = unit.places;
     places[p] = run;
     Rotation {
-        places: places,
-        queue: shifted(queue, 1, k, end_of(p, run.ended)),
+        places,
+        queue: shifted(unit.queue, 1, k, end_of(p, run.ended)),
     }
 }

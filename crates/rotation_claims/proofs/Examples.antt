@@ -6,6 +6,7 @@ use mathlib.Core.Option.{none}
 use Prim.Native.Nat.{ℕ, ◌+◌}
 use lib.ListN.{replicate}
 use lib.Ieee.{Float}
+use Rattle.std.specs.Prelude.{None}
 use Rattle.lists.specs.Find.{open_find}
 use Rattle.lists.specs.Loop.{open_loop}
 use Rattle.doubles.specs.F64.{bits, nat, 1f, +0}
@@ -13,7 +14,6 @@ use Rattle.general_operator.specs.Csr.{csr}
 use Rattle.generator_action.specs.Generator.{forward}
 use Rattle.krylov_job.specs.declared.KrylovPhiOptions.{KrylovPhiOptions}
 use Rattle.paused_run.specs.Paused.{Job, open_paused}
-use Rattle.paused_run.specs.declared.Tolerance.TheVariants.{Same}
 use Rattle.rotation.specs.Unit.{empty, waiting, queue_of, next_place, lowest_free, room, admitted, join, turn_of, turn}
 use Rattle.paused_claims.specs.Alike.{number_in}
 use Rattle.rotation_claims.specs.History.{Act, joins, takes_turn, Event, joined, turned, unit_after, event_of, unit_from, events_from, unfinished_from, unfinished}
@@ -37,7 +37,7 @@ comes n x = joins options (barrel n x) (replicate n (nat 7)) (replicate 60 (nat 
 
 -- a turn with the matrix of n rows and the field of m
 abbrev serves : ℕ → ℕ → Act
-serves n m = takes_turn (record { tolerance = Same; job = barrel n 1f; output = replicate n (nat 7); memory = replicate 60 (nat 9) }) (replicate m 1f)
+serves n m = takes_turn (record { tolerance = None; job = barrel n 1f; output = replicate n (nat 7); memory = replicate 60 (nat 9) }) (replicate m 1f)
 
 -- three rows come, then two; zeros take no place; the first has its turn and ends; the second is brought the matrix of three rows (16), then goes on; one row takes place 0 again; both have
 -- their turns; none waits

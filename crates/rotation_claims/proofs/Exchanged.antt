@@ -5,9 +5,9 @@ use Prim.Native.Nat.{ℕ, zero}
 use native.Mathlib.Omega.{arith}
 use lib.ListN.{length}
 use lib.Ieee.{Float}
+use Rattle.std.specs.Prelude.{Option, Some, None}
+use Rattle.pow2.specs.declared.Scale.{Scale}
 use Rattle.pow2.specs.Pow2.{pow2_scale}
-use Rattle.pow2.specs.declared.Prescale.{Prescale}
-use Rattle.pow2.specs.declared.Prescale.TheVariants.{By, None}
 use Rattle.checks.specs.First.{first, Checked}
 use Rattle.combination.specs.Call.{cleared}
 use Rattle.krylov_job.specs.declared.KrylovPhiOptions.{KrylovPhiOptions}
@@ -107,10 +107,10 @@ told_alike (t ∷ l) s y m hl hm al am g = go (checked_on s t) refl al.0 al.1 g 
     go (Ok _) e b a g ih = against t l s y hl.1 hl.2 e b a ih m hm am g
 
 -- ---- the start
-begun_alike : (o : KrylovPhiOptions) (j : Job) (y memory other : List Float) (p : Prescale) → told_of (begun o j y memory p) ≡ told_of (begun o j y other p)
+begun_alike : (o : KrylovPhiOptions) (j : Job) (y memory other : List Float) (p : Option Scale) → told_of (begun o j y memory p) ≡ told_of (begun o j y other p)
 unfolding begun
 begun_alike o j y memory other None = refl
-begun_alike o j y memory other (By f) = refl
+begun_alike o j y memory other (Some f) = refl
 
 module _ (v w : Stay) (s t : PausedRun) (eo : v.o ≡ w.o) (ej : v.j ≡ w.j) (hv : Stays v s) (hw : Stays w t) where
   began_as : (x : Stay) (r : PausedRun) → Stays x r → told_of (arrival x).call ≡ told_of (begun x.o x.j (values_of x.j) (cleared (need_of x.j x.o.m) x.memory) (pow2_scale (values_of x.j)))

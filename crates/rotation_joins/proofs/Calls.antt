@@ -1,5 +1,5 @@
 -- A join and a turn as the code makes them. Assumes nothing.
-use Rattle.std.specs.Prelude.{if◌then◌else◌}
+use Rattle.std.specs.Prelude.{if◌then◌else◌, Option, Some, None, is_some}
 use mathlib.Core.Path.{◌≡◌, refl, sym, ap, ◌∙◌}
 use mathlib.Core.Logic.{◌⊎◌, inl, inr}
 use mathlib.Core.Bool.{Bool, true, false}
@@ -10,9 +10,8 @@ use lib.ListN.{get_or}
 use lib.Ieee.{Float, nan}
 use borrow.Author.Tests.{lt-ltb}
 use Rattle.lists.specs.Loop.{tabulate}
+use Rattle.pow2.specs.declared.Scale.{Scale}
 use Rattle.pow2.specs.Pow2.{pow2_scale}
-use Rattle.pow2.specs.declared.Prescale.{Prescale}
-use Rattle.pow2.specs.declared.Prescale.TheVariants.{By, None}
 use Rattle.checks.specs.First.{first}
 use Rattle.checks.specs.First.{Checked}
 use Rattle.krylov_job.specs.declared.KrylovPhiOptions.{KrylovPhiOptions}
@@ -78,10 +77,10 @@ module _ (u : Rotation) (o : KrylovPhiOptions) (j : Job) (out w₀ field : List 
   answers c = admitted u c.answer c (leaves (Refused UnitFull nan) out w₀ field)
 
   -- refused before the start
-  refused_start : (memory y : List Float) (p : Prescale) {e : Refusal} → room u ≡ false → Err e ≡ full_answer (begun o j y memory p).answer → refuses e ≡ answers (begun o j y memory p)
+  refused_start : (memory y : List Float) (p : Option Scale) {e : Refusal} → room u ≡ false → Err e ≡ full_answer (begun o j y memory p).answer → refuses e ≡ answers (begun o j y memory p)
   unfolding begun admitted
   refused_start memory y None eb h = absurd (not_sound h)
-  refused_start memory y (By f) eb h = ap refuses (err_is h) ∙ rw eb refl
+  refused_start memory y (Some f) eb h = ap refuses (err_is h) ∙ rw eb refl
 
   refused_by : (r : Checked) {e : Refusal} → room u ≡ false → Err e ≡ full_answer (start_unless r o j out w₀ field).answer → refuses e ≡ answers (start_unless r o j out w₀ field)
   unfolding start_unless admitted

@@ -1,5 +1,5 @@
 -- A start with a chain is not all zeros, since 1 / eta stands at its end. Assumes nothing.
-use Rattle.std.specs.Prelude.{if◌then◌else◌}
+use Rattle.std.specs.Prelude.{if◌then◌else◌, Option, Some, None, is_some}
 use mathlib.Core.Path.{◌≡◌, refl, sym, ap, ◌∙◌}
 use mathlib.Core.Bool.{Bool, true, false, ◌&&◌}
 use mathlib.Core.List.{List, [], ◌∷◌, ◌++◌, append_assoc}
@@ -20,10 +20,7 @@ use Rattle.doubles.proofs.Compare.{zero_below, zero_cases}
 use Rattle.doubles.proofs.Extremes.{nonneg_max}
 use Rattle.pow2.specs.Pow2.{clamp, ceil_log2, eta_of, eta_scaling, sup, pow2_scale}
 use Rattle.pow2.specs.declared.Scale.{Scale}
-use Rattle.pow2.specs.declared.Prescale.{Prescale}
-use Rattle.pow2.specs.declared.Prescale.TheVariants.{By, None}
 use Rattle.combination.specs.Combination.{vector, combination_start}
-use Rattle.rotation_joins.specs.Inner.{by_power}
 
 abbrev IsZero : Float → Type 0
 IsZero x = eq x +0 ≡ true
@@ -70,11 +67,11 @@ sup_ends l v =
 ends_above : (l : List Float) (n : ℕ) (d : ℤ) → IsZero (sup (l ++ (fin false (suc n) d ∷ []))) → ⊥
 ends_above l n d z = larger _ (nonneg_part (l ++ (fin false (suc n) d ∷ [])) (length l)) n d (ap (λ (x : Float). eq x +0) (sym (sup_ends l (fin false (suc n) d))) ∙ z)
 
-power_of : (y : List Float) → (IsZero (sup y) → ⊥) → true ≡ by_power (pow2_scale y)
+power_of : (y : List Float) → (IsZero (sup y) → ⊥) → true ≡ is_some (pow2_scale y)
 unfolding pow2_scale
 power_of y h = go (eq (sup y) +0) _ h
   where
-    go : (b : Bool) (s : Scale) → (b ≡ true → ⊥) → true ≡ by_power (if b then None else By s)
+    go : (b : Bool) (s : Scale) → (b ≡ true → ⊥) → true ≡ is_some (if b then None else Some s)
     go true s h = absurd (h refl)
     go false s h = refl
 
@@ -92,7 +89,7 @@ inv_above sum = go (+0 ⋖ sum && is_finite sum) (clamp (ceil_log2 sum) (negsuc 
     go true e = record { m = 0; e = e; is = refl }
     go false e = record { m = 0; e = pos 0; is = refl }
 
-pub chain_on : (n : ℕ) (w : List Float) (d : ℕ) → (d ≡ 0 → ⊥) → (sum : Float) → true ≡ by_power (pow2_scale (combination_start n w d (eta_scaling sum).inv))
+pub chain_on : (n : ℕ) (w : List Float) (d : ℕ) → (d ≡ 0 → ⊥) → (sum : Float) → true ≡ is_some (pow2_scale (combination_start n w d (eta_scaling sum).inv))
 unfolding combination_start
 chain_on n w zero h sum = absurd (h refl)
 chain_on n w (suc d) h sum =
@@ -106,5 +103,5 @@ unfolding combination_start vector
 no_chain n w zero inv h l = sym (ap (λ (k : ℕ). window k n w) (zero-mul n) ∙ window_whole n w l)
 no_chain n w (suc d) inv h l = absurd (omega (arith, h))
 
-pub starts_on : (n : ℕ) (w : List Float) (d : ℕ) (inv : Float) {b : Bool} {p : Prescale} → d ≡ 0 → length w ≡ n → p ≡ pow2_scale w → by_power p ≡ b → b ≡ by_power (pow2_scale (combination_start n w d inv))
-starts_on n w d inv h l ep eb = sym eb ∙ ap by_power (ep ∙ ap pow2_scale (no_chain n w d inv h l))
+pub starts_on : (n : ℕ) (w : List Float) (d : ℕ) (inv : Float) → d ≡ 0 → length w ≡ n → is_some (pow2_scale w) ≡ is_some (pow2_scale (combination_start n w d inv))
+starts_on n w d inv h l = ap (λ (y : List Float). is_some (pow2_scale y)) (no_chain n w d inv h l)

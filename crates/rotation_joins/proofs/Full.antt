@@ -1,5 +1,5 @@
 -- A job on a unit without room, by its start alone. Assumes nothing.
-use Rattle.std.specs.Prelude.{if◌then◌else◌}
+use Rattle.std.specs.Prelude.{if◌then◌else◌, Option, Some, None, is_some}
 use mathlib.Core.Path.{◌≡◌, refl, sym, ap, ◌∙◌}
 use mathlib.Core.Bool.{Bool, true, false}
 use mathlib.Core.List.{List, [], ◌++◌}
@@ -7,10 +7,9 @@ use Prim.Native.Nat.{ℕ, ◌+◌, ◌-◌, ◌*◌}
 use native.Mathlib.Omega.{arith}
 use lib.ListN.{length}
 use lib.Ieee.{Float, nan}
+use Rattle.pow2.specs.declared.Scale.{Scale}
 use Rattle.pow2.specs.Pow2.{eta_scaling, pow2_scale}
 use Rattle.pow2.specs.declared.Scaling.{Scaling}
-use Rattle.pow2.specs.declared.Prescale.{Prescale}
-use Rattle.pow2.specs.declared.Prescale.TheVariants.{By, None}
 use Rattle.checks.specs.First.{Check, first}
 use Rattle.checks.specs.First.{Checked}
 use Rattle.general_operator.specs.Csr.{csr}
@@ -24,7 +23,6 @@ use Rattle.krylov_job.specs.Inner.{scaling_by, scaling_of, Admitted}
 use Rattle.krylov_job.proofs.Calls.{known}
 use Rattle.krylov_job.specs.declared.KrylovPhiOptions.{KrylovPhiOptions}
 use Rattle.krylov_job.specs.declared.RunJob.{RunJob}
-use Rattle.krylov_job.specs.declared.Eta.TheVariants.{Own}
 use Rattle.paused_run.specs.Paused.{Job, PausedCall, start}
 use Rattle.paused_run.specs.Inner.{job_over, begun_of}
 use Rattle.paused_run.specs.Paused.{StartAnswer}
@@ -37,10 +35,10 @@ use Rattle.checks.specs.declared.Reason.{Reason}
 abbrev answered : PausedCall StartAnswer → Checked
 answered c = full_answer c.answer
 
-begun_full : (o : KrylovPhiOptions) (j : RunJob) (y memory : List Float) (p : Prescale) → (if by_power p then Refused UnitFull nan else Sound) ≡ answered (begun_of o j y memory p)
+begun_full : (o : KrylovPhiOptions) (j : RunJob) (y memory : List Float) (p : Option Scale) → (if by_power p then Refused UnitFull nan else Sound) ≡ answered (begun_of o j y memory p)
 unfolding begun_of
 begun_full o j y memory None = refl
-begun_full o j y memory (By f) = refl
+begun_full o j y memory (Some f) = refl
 
 pub told_32 : {b : Bool} {x : Float} → b ≡ true → x ≡ nan → Refused UnitFull x ≡ (if b then Refused UnitFull nan else Sound)
 told_32 e ex = rw (e, ex) refl
@@ -85,8 +83,8 @@ module _
     (ew : length w₀ ≡ nw)
     (ef : length field ≡ nf)
     {j : RunJob}
-    (ad : Admitted g tau count w (scaling_of g tau count w Own) o (length_checks no g.n (length w) (count * g.n) ++ []) nw j) where
-  ad' : Admitted g tau count w (scaling_of g tau count w Own) o (length_checks (length out) g.n (length w) (count * g.n) ++ []) (length w₀) j
+    (ad : Admitted g tau count w (scaling_of g tau count w None) o (length_checks no g.n (length w) (count * g.n) ++ []) nw j) where
+  ad' : Admitted g tau count w (scaling_of g tau count w None) o (length_checks (length out) g.n (length w) (count * g.n) ++ []) (length w₀) j
   ad' = rw (eo, ew) ad
 
   pub full_job : {k : Reason} {x : Float} → j.checked ≡ Refused k x → Refused k x ≡ full_answer (start o (job_over gs g starts cols vals mass tau count w) out w₀ field).answer
@@ -110,7 +108,7 @@ module _
         → r ≡ full_answer (start o (job_over gs g starts cols vals mass tau count w) out w₀ field).answer
     full_start l h er =
         let sum = magnitude g.n (further g.n w) tau (count - 1) in
-        let hb = h sum ∙ ap (λ (x : Scaling). by_power (pow2_scale (combination_start j.g.n w j.d x.inv))) (sym eta_is) in
+        let hb = h sum ∙ ap (λ (x : Scaling). is_some (pow2_scale (combination_start j.g.n w j.d x.inv))) (sym eta_is) in
         er
         ∙ ap (λ (x : Bool). if x then Refused UnitFull nan else Sound) hb
         ∙ begun_full o j values (cleared j.need w₀) (pow2_scale values)

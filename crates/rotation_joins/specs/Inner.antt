@@ -1,8 +1,6 @@
 -- What the code's own contracts say. Definitions only.
-use Rattle.std.specs.Prelude.{Bool, true, false, if◌then◌else◌}
+use Rattle.std.specs.Prelude.{if◌then◌else◌}
 use Rattle.std.specs.Float.{nan}
-use Rattle.pow2.specs.declared.Prescale.{Prescale}
-use Rattle.pow2.specs.declared.Prescale.TheVariants.{By, None}
 use Rattle.checks.specs.First.{Checked}
 use Rattle.paused_run.specs.Paused.{StartAnswer}
 use Rattle.rotation.specs.declared.Rotation.{Rotation}
@@ -11,11 +9,6 @@ use Rattle.rotation_joins.specs.declared.Joined.{Joined}
 use Rattle.checks.specs.Reasons.{Sound, Refused}
 use Rattle.std.specs.Prelude.{Ok, Err}
 use Rattle.checks.specs.declared.Reason.TheVariants.{UnitFull}
-
--- whether the start of a job goes on: its values are not all zeros
-abbrev pub by_power : Prescale → Bool
-by_power None = false
-by_power (By f) = true
 
 -- how a unit without room refuses a job, by what its start alone answers: 32 of a run that goes on
 abbrev pub full_answer : StartAnswer → Checked

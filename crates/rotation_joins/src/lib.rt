@@ -1,7 +1,7 @@
 // A new run on a unit.
 #![tactic(auto)]
 
-ghost use Rattle.std.specs.Prelude.{◌≡◌, List, ℕ, ◌≤◌, length, Float, if◌then◌else◌};
+ghost use Rattle.std.specs.Prelude.{◌≡◌, List, ℕ, ◌≤◌, length, is_some, Float, if◌then◌else◌};
 ghost use Rattle.pow2.specs.Pow2.{eta_scaling, pow2_scale};
 ghost use Rattle.checks.specs.First.{Check, first};
 ghost use Rattle.checks.specs.Reasons.{Sound};
@@ -13,13 +13,12 @@ ghost use Rattle.combination.specs.Combination.{combination_start};
 ghost use Rattle.paused_run.specs.Paused.{leaves, start};
 ghost use Rattle.paused_run.specs.Inner.{job_over};
 ghost use Rattle.rotation.specs.Unit.{room, unit_call, join};
-ghost use Rattle.rotation_joins.specs.Inner.{by_power, full_answer, admitted_of};
+ghost use Rattle.rotation_joins.specs.Inner.{full_answer, admitted_of};
 
 use checks::{Checked, Reason, Refusal};
 use generator_action::Shape;
-use krylov_job::{Eta, KrylovPhiOptions};
+use krylov_job::KrylovPhiOptions;
 use paused_run::PausedRun;
-use pow2::Prescale;
 use rotation::Rotation;
 
 // The unit after a join, the place taken (16: none) and the start's answer.
@@ -33,16 +32,9 @@ pub struct Joined {
 // Whether the n + d values of a start are not all zeros: 1 / eta stands at the end of a chain.
 fn goes_on(n: usize, w: &[f64], d: usize) -> bool
     requires { d ≡ 0 → length w.now ≡ n }
-    ensures { (sum : Float) → result ≡ by_power (pow2_scale (combination_start n w.now d (eta_scaling sum).inv)) }
+    ensures { (sum : Float) → result ≡ is_some (pow2_scale (combination_start n w.now d (eta_scaling sum).inv)) }
 {
-    if d != 0 {
-        return true;
-    }
-    let scaling = pow2::pow2_scale(w);
-    match scaling {
-        Prescale::None => false,
-        Prescale::By(_) => true,
-    }
+    d != 0 || pow2::pow2_scale(w).is_some()
 }
 
 // How a unit without room refuses a job over a generator that passed its checks, nothing being written.
@@ -60,7 +52,7 @@ fn refused_job(
     ensures { (gs : List Check) (starts cols : List ℕ) (vals mass output memory lent : List Float) → Sound ≡ first gs → Passed (csr g.n starts cols vals) (given g.with_mass mass) g → length output ≡ out → length memory ≡ work → length lent ≡ field → result ≡ full_answer (start o (job_over gs g starts cols vals mass tau count w.now) output memory lent).answer }
 {
     let none = Ok(());
-    let j = krylov_job::admit_job(g, tau, count, w, Eta::Own, o, out, none, work);
+    let j = krylov_job::admit_job(g, tau, count, w, None, o, out, none, work);
     j.checked?;
     if field != j.g.n + j.d {
         return Err(Refusal {

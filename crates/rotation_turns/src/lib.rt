@@ -9,7 +9,7 @@ ghost use Rattle.paused_run.specs.Paused.{leaves};
 ghost use Rattle.rotation.specs.Unit.{unit_call, run_left, turn};
 
 use checks::{Reason, Refusal};
-use paused_run::{PausedRun, StepRefusal, Tolerance};
+use paused_run::{PausedRun, StepRefusal};
 use rotation::Rotation;
 
 // The unit after a turn, the place whose turn it was (16: none) and the step's answer.
@@ -33,7 +33,7 @@ fn run_left(answer: Result<PausedRun, StepRefusal>) -> PausedRun
 // One step of the run whose turn is next; 31 if no run waits.
 pub fn turn(
     unit: Rotation,
-    tolerance: Tolerance,
+    tolerance: Option<f64>,
     n: usize,
     starts: &[u32],
     cols: &[u32],
@@ -52,7 +52,7 @@ pub fn turn(
     let p = rotation::next_place(unit);
     if p == 16 {
         return Turned {
-            unit: unit,
+            unit,
             place: 16,
             answer: Err(StepRefusal {
                 refusal: Refusal {
@@ -71,6 +71,6 @@ pub fn turn(
     Turned {
         unit: rotation::passed_on(unit, left),
         place: p,
-        answer: answer,
+        answer,
     }
 }

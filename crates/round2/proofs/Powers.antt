@@ -1,18 +1,26 @@
 -- The powers of ten grow with the exponent, so the entry that `decade` finds is the largest at most x. Assumes nothing.
-use mathlib.Core.Path.{◌≡◌, ap, ◌∙◌}
-use Prim.Native.Nat.{ℕ, ◌-◌, ◌^◌, ◌≤◌, ◌<◌, zero-le}
-use native.Mathlib.Nat.{lt_of_le_of_lt, lt_of_not-le, mul-le-mul, lt_of_lt_of_le, pow-le-pow_right}
+use Rattle.std.specs.List.Sorted.{IsPartitionedBy, IsPartitionPoint}
+use mathlib.Core.Path.{◌≡◌, sym, ap, ◌∙◌, subst}
+use mathlib.Core.List.{List}
+use mathlib.Core.Logic.{⊎_elim}
+use Prim.Native.Nat.{ℕ, ◌+◌, ◌-◌, ◌^◌, ◌≤◌, ◌<◌, zero-le}
+use native.Mathlib.Nat.{le_refl, lt_of_le_of_lt, lt_of_not-le, mul-le-mul, lt_of_lt_of_le, pow-le-pow_right}
 use native.Mathlib.Omega.{arith}
-use mathlib.Core.Bool.{Bool, true, false, ◌&&◌}
+use mathlib.Core.Bool.{Bool, true, false, ◌&&◌, true≢false}
 use lib.Dec.{T, ltb, ltb→lt, lt→ltb, lit<}
-use lib.Ieee.{Float, nan, inf, fin, binary64, le, lt, round, fits}
+use lib.ListN.{length, get_or}
+use lib.Ieee.{Float, nan, inf, fin, binary64, le, round, fits}
+use lib.Ieee.Bits.{is_true}
 use lib.Ieee.Fits.{and_i, and_l, and_r, round-fits}
 use lib.Ieee.Order.{round_mono}
 use lib.Ieee.Positive.{positive, above, above_of_le}
 use borrow.Author.Tests.{lt-ltb, le-ltb}
 use Rattle.doubles.specs.F64.{nonneg}
 use Rattle.doubles.proofs.Order.{nonneg_round, le_trans_nonneg}
-use Rattle.lists.proofs.Greatest.{Greatest, greatest_is}
+use Rattle.lists.proofs.Greatest.{Greatest, greatest_is, greatest_last}
+use Rattle.lists.proofs.Bounds.{lt_or_le}
+use Rattle.lists.proofs.Loop.{length_tabulate, get_d_tabulate}
+use Rattle.lists.specs.Loop.{tabulate}
 use Rattle.round2.specs.Ten.{ten}
 use Rattle.round2.specs.Rounded.{reaches, decade}
 
@@ -78,12 +86,36 @@ module _ (x : Float) (h : T (le (ten 1) x)) where
       first : (d : ℕ) → d ≤ 0 → d < 1
       first d g = omega arith
 
--- ---- what a turn of `decade` finds
-pub reach_yes : (x : Float) (i : ℕ) → i < 632 → le (ten i) x ≡ true → reaches x i ≡ true
-reach_yes x i h e = ap (λ (b : Bool). b && le (ten i) x) (lt-ltb i 632 h) ∙ e
+-- ---- what the search of `decade` finds: how many entries are at most x
+entry : (xs : List Float) (k : ℕ) (d : Float) → xs ≡ tabulate 632 ten → k < 632 → get_or xs k d ≡ ten k
+entry xs k d e h = ap (λ (w : List Float). get_or w k d) e ∙ get_d_tabulate 632 ten k d h
 
-pub reach_no : (x : Float) (i : ℕ) → i < 632 → le (ten i) x ≡ false → reaches x i ≡ false
-reach_no x i h e = ap (λ (b : Bool). b && le (ten i) x) (lt-ltb i 632 h) ∙ e
+pub parted : (x : Float) → T (le (ten 1) x) → (xs : List Float) → xs ≡ tabulate 632 ten → IsPartitionedBy (λ t. le t x) xs
+parted x h xs e i j d l b p =
+    let n : j < 632 = subst (λ (z : ℕ). j < z) (ap length e ∙ length_tabulate 632 ten) b in
+    let t : T (le (ten j) x) = subst T (sym p ∙ ap (λ (y : Float). le y x) (entry xs j d e n)) tt in
+    ap (λ (y : Float). le y x) (entry xs i d e (lt_of_le_of_lt l n))
+    ∙ is_true (le (ten i) x) (le_trans_nonneg (ten i) (ten j) x (ten_nonneg i) (ten_nonneg j) (reached_nonneg x h) (ten_mono i j l) t)
 
-pub reach_past : (x : Float) (i : ℕ) → 632 ≤ i → reaches x i ≡ false
-reach_past x i h = ap (λ (b : Bool). b && le (ten i) x) (le-ltb i 632 h)
+pub decade_found : (x : Float) → T (le (ten 1) x) → (xs : List Float) → xs ≡ tabulate 632 ten → (r : ℕ) → IsPartitionPoint (λ t. le t x ≡ true) (λ t. le t x ≡ false) xs r → r ≤ length xs
+    → (1 ≤ r) × (r - 1 ≡ decade x) × (1 ≤ r - 1) × (r - 1 < 632)
+unfolding decade
+decade_found x h xs e r found b =
+    let long : length xs ≡ 632 = ap length e ∙ length_tabulate 632 ten in
+    let from : 2 ≤ r = lt_of_not-le (λ (g : r ≤ 1). true≢false (sym (is_true (le (ten 1) x) h) ∙ sym (ap (λ (y : Float). le y x) (entry xs 1 nan e (lit< tt))) ∙ found.1 1 nan g (subst (λ (z : ℕ). 1 < z) (sym long) (lit< tt)))) in
+    let small : r - 1 < 632 = omega arith in (
+      omega arith,
+      greatest_last (reaches x) (down_closed x h) 10 (r - 1) (omega arith) (subst T (sym (reach (r - 1) small (sym (ap (λ (y : Float). le y x) (entry xs (r - 1) nan e small)) ∙ found.0 (r - 1) nan zero-le (omega arith)))) tt) (past (omega arith) long),
+      omega arith,
+      small,
+    )
+  where
+    reach : (i : ℕ) → i < 632 → le (ten i) x ≡ true → reaches x i ≡ true
+    reach i l t = ap (λ (b : Bool). b && le (ten i) x) (lt-ltb i 632 l) ∙ t
+
+    -- the entry after it, where there is one
+    after : r < 632 → length xs ≡ 632 → reaches x r ≡ false
+    after l n = ap (λ (b : Bool). b && le (ten r) x) (lt-ltb r 632 l) ∙ sym (ap (λ (y : Float). le y x) (entry xs r nan e l)) ∙ found.1 r nan (le_refl r) (subst (λ (z : ℕ). r < z) (sym n) l)
+
+    past : r - 1 + 1 ≡ r → length xs ≡ 632 → reaches x (r - 1 + 1) ≡ false
+    past i n = ap (reaches x) i ∙ ⊎_elim (λ l. after l n) (λ (l : 632 ≤ r). ap (λ (b : Bool). b && le (ten r) x) (le-ltb r 632 l)) (lt_or_le r 632)

@@ -6,8 +6,6 @@ ghost use Rattle.std.specs.Float.Ieee.{le};
 ghost use Rattle.round2.specs.Ten.{ten};
 ghost use Rattle.round2.specs.Rounded.{decade, round2};
 
-use doubles::INF_BITS;
-
 const TENS: [f64; 632] = [
     1e-323, 1e-322, 1e-321, 1e-320, 1e-319, 1e-318, 1e-317, 1e-316, 1e-315, 1e-314, 1e-313, 1e-312,
     1e-311, 1e-310, 1e-309, 1e-308, 1e-307, 1e-306, 1e-305, 1e-304, 1e-303, 1e-302, 1e-301, 1e-300,
@@ -68,35 +66,21 @@ pub fn ten(i: usize) -> f64
     TENS[i]
 }
 
-// The place of the largest power of ten that is at most x: its digits, from the highest down.
+// The place of the largest power of ten that is at most x.
 fn decade(x: f64) -> usize
     requires { T (le (ten 1) x) }
     ensures { (result ≡ decade x) × (1 ≤ result) × (result < 632) }
 {
-    let mut lo = 0usize;
-    let mut k = 10usize;
-    while 0 < k {
-        k -= 1;
-        let next = lo + (1usize << k);
-        if next < 632 {
-            if ten(next) <= x {
-                lo = next;
-            }
-        }
-    }
-    lo
+    TENS.partition_point(|t| *t <= x) - 1
 }
 
 // x rounded up to two digits; NaN for what has no decade above the lowest.
 pub fn round2(x: f64) -> f64
     ensures { result ≡ round2 x }
 {
-    if ten(1) <= x {
-        if x < f64::from_bits(INF_BITS) {
-            let s = ten(decade(x) - 1);
-            return float::ceil(x / s) * s;
-        }
-        return 0.0 / 0.0;
+    if ten(1) <= x && x < f64::INFINITY {
+        let s = ten(decade(x) - 1);
+        return (x / s).ceil() * s;
     }
-    0.0 / 0.0
+    f64::NAN
 }

@@ -1,4 +1,5 @@
 -- Loads times a power of two give the field times it, bit for bit (document 02, N9). Assumes nothing.
+use Rattle.std.specs.Prelude.{Option, Some, None}
 use mathlib.Core.Path.{◌≡◌, refl, sym, ap, ◌∙◌, subst}
 use mathlib.Core.List.{List}
 use Prim.Native.Nat.{ℕ, zero, ◌+◌, ◌-◌, ◌*◌, ◌≤◌, ◌<◌}
@@ -35,8 +36,6 @@ use Rattle.phi_action_helpers.specs.declared.SweepPlan.{SweepPlan}
 use Rattle.phi_action_helpers.specs.Sweeps.{run_sweeps}
 use Rattle.phi_action_helpers.proofs.Counts.{run_counted, run_long}
 use Rattle.phi_shift.specs.Plan.{sweep_plan}
-use Rattle.phi_shift.specs.declared.PlanAnswer.{PlanAnswer}
-use Rattle.phi_shift.specs.declared.PlanAnswer.TheVariants.{NoPlan, Plan}
 use Rattle.combination.specs.Combination.{combination_operator}
 use Rattle.combination.specs.Call.{Call, unless_refused}
 use Rattle.combination.specs.Checks.{plan_checks, vector_checks}
@@ -74,13 +73,13 @@ unfolding unless_refused
 accepted (Ok _) output memory end e = (refl, refl)
 accepted (Err r) output memory end e = let z : zero ≡ 1 = cc in absurd (omega (arith, z))
 
-planned : (need : ℕ) (tau norm : Float) (output memory : List Float) (x : PlanAnswer) (run : SweepPlan → Fields) {r : TaylorReport} → (after_plan need tau norm output memory x run).answer ≡ Ok r
-    → (p : SweepPlan) × (x ≡ Plan p) × ((after_plan need tau norm output memory x run).output ≡ (run p).fields) × ((after_plan need tau norm output memory x run).answer ≡ report p (run p).applied)
+planned : (need : ℕ) (tau norm : Float) (output memory : List Float) (x : Option SweepPlan) (run : SweepPlan → Fields) {r : TaylorReport} → (after_plan need tau norm output memory x run).answer ≡ Ok r
+    → (p : SweepPlan) × (x ≡ Some p) × ((after_plan need tau norm output memory x run).output ≡ (run p).fields) × ((after_plan need tau norm output memory x run).answer ≡ report p (run p).applied)
 unfolding after_plan
-planned need tau norm output memory NoPlan run e = let z : zero ≡ 1 = cc in absurd (omega (arith, z))
-planned need tau norm output memory (Plan p) run e = (p, refl, refl, refl)
+planned need tau norm output memory None run e = let z : zero ≡ 1 = cc in absurd (omega (arith, z))
+planned need tau norm output memory (Some p) run e = (p, refl, refl, refl)
 
-same_plan : (p q : SweepPlan) (x : PlanAnswer) → x ≡ Plan p → x ≡ Plan q → p ≡ q
+same_plan : (p q : SweepPlan) (x : Option SweepPlan) → x ≡ Some p → x ≡ Some q → p ≡ q
 same_plan p q x e f = cc
 
 -- the field after the sweeps
@@ -90,7 +89,7 @@ ran q tau count w p = (run_sweeps (operator_of q tau count w) tau p (start_of q 
 -- what an accepted job over Q says
 record Accepted (g : Generator) (q : Csr) (tau : Float) (cap count : ℕ) (w output memory : List Float) : Type 0 where
   p : SweepPlan
-  plan : sweep_plan cap tau q (row_sum_norm q) ≡ Plan p
+  plan : sweep_plan cap tau q (row_sum_norm q) ≡ Some p
   out : (phi_combination g tau cap count w output memory).output ≡ window 0 q.n (ran q tau count w p)
   told : (phi_combination g tau cap count w output memory).answer ≡ report p (p.s * p.m)
   passed : Sound ≡ first g.checks
@@ -121,7 +120,7 @@ module _ (g : Generator) (tau : Float) (cap count : ℕ) (w output memory : List
       }
 
 -- ---- two runs under one plan, from vectors that fill their slice
-run_doubled : (j : ℤ) (q : Csr) (tau : Float) (cap count : ℕ) (w : List Float) (long : ℕ) (p : SweepPlan) → sweep_plan cap tau q (row_sum_norm q) ≡ Plan p → Valid q → Doubles q.entries → T (fits binary64 tau) → Doubles w
+run_doubled : (j : ℤ) (q : Csr) (tau : Float) (cap count : ℕ) (w : List Float) (long : ℕ) (p : SweepPlan) → sweep_plan cap tau q (row_sum_norm q) ≡ Some p → Valid q → Doubles q.entries → T (fits binary64 tau) → Doubles w
     → Vectors q.n count (length w) long → CleanDoubled j w → CleanJob q tau cap count w → CleanJob q tau cap count (doubled j w)
     → window 0 q.n (ran q tau count (doubled j w) p) ≡ doubled j (window 0 q.n (ran q tau count w p))
 unfolding combination_operator

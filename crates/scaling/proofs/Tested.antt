@@ -1,4 +1,5 @@
 -- A test that walks along a run and looks at each operation: where it finds none that is bad, `InJob` holds. So a concrete job is proved to meet N9's condition by computation. Assumes nothing.
+use Rattle.std.specs.Prelude.{Option, Some, None}
 use mathlib.Core.Path.{◌≡◌, refl, sym, ap, ◌∙◌, subst}
 use mathlib.Core.Bool.{Bool, true, false, not, ◌&&◌, ◌||◌, true≢false}
 use mathlib.Core.List.{List}
@@ -26,8 +27,6 @@ use Rattle.phi_action_helpers.specs.declared.SweepPlan.{SweepPlan}
 use Rattle.phi_action_helpers.specs.Augmented.{Augmented, scalars, coupled, generator_term, aug_matvec}
 use Rattle.phi_action_helpers.specs.Sweeps.{shifted, scales, Horner, horner_step, aug_horner_outer, Swept, rescale, sweep}
 use Rattle.phi_shift.specs.Plan.{sweep_plan}
-use Rattle.phi_shift.specs.declared.PlanAnswer.{PlanAnswer}
-use Rattle.phi_shift.specs.declared.PlanAnswer.TheVariants.{NoPlan, Plan}
 use Rattle.pow2.specs.Pow2.{exact_pow2}
 use Rattle.scaling.specs.Operations.{InRow, InShare, InParts, InTerm, InSweep, InSweeps, terms_from, sweeps_from}
 use Rattle.scaling.specs.Doubled.{CleanDoubled, scaling_of, operator_of, start_of, gain_of, InJob, CleanJob}
@@ -81,9 +80,9 @@ module _ (m a : Float → Float → Bool) where
   unfoldable pub sweeps_bad : Augmented → Float → SweepPlan → List Float → ℕ → Sweeps
   sweeps_bad b tau p y i = iter (λ _ s. record { r = sweep b tau p s.r; bad = sweep_bad b tau p s.r.y || s.bad }) i (record { r = record { y = y; applied = 0 }; bad = false })
 
-  unfoldable pub plan_bad : PlanAnswer → Csr → Float → ℕ → List Float → Bool
-  plan_bad NoPlan q tau count w = false
-  plan_bad (Plan p) q tau count w = (sweeps_bad (operator_of q tau count w) tau p (start_of q tau count w) p.s).bad
+  unfoldable pub plan_bad : Option SweepPlan → Csr → Float → ℕ → List Float → Bool
+  plan_bad None q tau count w = false
+  plan_bad (Some p) q tau count w = (sweeps_bad (operator_of q tau count w) tau p (start_of q tau count w) p.s).bad
 
   unfoldable pub job_bad : Csr → Float → ℕ → ℕ → List Float → Bool
   job_bad q tau cap count w =
@@ -186,12 +185,12 @@ module _ (M A : Float → Float → Type 0) (m a : Float → Float → Bool) (m_
           | inr g ↦ let f : k ≡ i = omega arith in subst (λ (j : ℕ). InSweep M A b tau p (sweeps_from b tau p y j).y) f (sweep_good (sweeps_from b tau p y k).y (ap (λ (s : Swept). sweep_bad m a b tau p s.y) (sym (sweeps_state y k)) ∙ r.0))
         ]
 
-  plan_good : (q : Csr) (tau : Float) (count : ℕ) (w : List Float) (x : PlanAnswer) → plan_bad m a x q tau count w ≡ false → (p : SweepPlan) → x ≡ Plan p → InSweeps M A (operator_of q tau count w) tau p (start_of q tau count w)
+  plan_good : (q : Csr) (tau : Float) (count : ℕ) (w : List Float) (x : Option SweepPlan) → plan_bad m a x q tau count w ≡ false → (p : SweepPlan) → x ≡ Some p → InSweeps M A (operator_of q tau count w) tau p (start_of q tau count w)
   unfolding plan_bad
-  plan_good q tau count w NoPlan e p f = let z : zero ≡ 1 = cc in absurd (omega (arith, z))
-  plan_good q tau count w (Plan r) e p f = subst (λ (s : SweepPlan). InSweeps M A (operator_of q tau count w) tau s (start_of q tau count w)) (same f) (sweeps_good (operator_of q tau count w) tau r (start_of q tau count w) r.s e)
+  plan_good q tau count w None e p f = let z : zero ≡ 1 = cc in absurd (omega (arith, z))
+  plan_good q tau count w (Some r) e p f = subst (λ (s : SweepPlan). InSweeps M A (operator_of q tau count w) tau s (start_of q tau count w)) (same f) (sweeps_good (operator_of q tau count w) tau r (start_of q tau count w) r.s e)
     where
-      same : {r p : SweepPlan} → Plan r ≡ Plan p → r ≡ p
+      same : {r p : SweepPlan} → Some r ≡ Some p → r ≡ p
       same f = cc
 
   pub in_job : (q : Csr) (tau : Float) (cap count : ℕ) (w : List Float) → job_bad m a q tau cap count w ≡ false → InJob M A q tau cap count w

@@ -1,4 +1,5 @@
 -- Doubling the lamp (document 02, N9): vectors times a power of two, and jobs in which no operation overflows or has a tiny result. Definitions only.
+use Rattle.std.specs.Prelude.{Some}
 use Rattle.std.specs.Prelude.{List, ◌≡◌, ℕ, ◌-◌, ◌<◌, T, ℤ, length, Float}
 use Rattle.std.specs.Float.{binary64}
 use Rattle.std.specs.Float.Ieee.{fits}
@@ -13,7 +14,6 @@ use Rattle.generator_action.specs.Generator.{Generator}
 use Rattle.phi_action_helpers.specs.Augmented.{Augmented}
 use Rattle.phi_action_helpers.specs.declared.SweepPlan.{SweepPlan}
 use Rattle.phi_shift.specs.Plan.{sweep_plan}
-use Rattle.phi_shift.specs.declared.PlanAnswer.TheVariants.{Plan}
 use Rattle.combination.specs.Combination.{further, gain, eta_of, combination_operator, combination_start}
 use Rattle.taylor_job.specs.declared.TaylorReport.{TaylorReport}
 use Rattle.taylor_job.specs.Calls.{phi_combination}
@@ -45,7 +45,7 @@ gain_of q tau w k = gain q.n (further q.n w) tau (k - 1)
 -- whatever it is
 pub record InJob (M A : Float → Float → Type 0) (q : Csr) (tau : Float) (cap count : ℕ) (w : List Float) : Type 0 where
   pub gains : (k : ℕ) → 0 < k → k < count → M (gain_of q tau w k) (scaling_of q tau count w).eta
-  pub sweeps : (p : SweepPlan) → sweep_plan cap tau q (row_sum_norm q) ≡ Plan p → InSweeps M A (operator_of q tau count w) tau p (start_of q tau count w)
+  pub sweeps : (p : SweepPlan) → sweep_plan cap tau q (row_sum_norm q) ≡ Some p → InSweeps M A (operator_of q tau count w) tau p (start_of q tau count w)
 
 -- N9, 'in both definitions' runs each operation on finite numbers whose exact result is not 0 gives a finite number of at least 2 ^ -1022 in size', but of the exact result. That a result is
 -- finite is asked of every operation: what an accepted job starts from is finite, and so are the operands as long as the results before them are

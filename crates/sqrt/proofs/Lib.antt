@@ -1,8 +1,6 @@
 pub mod Squares
-pub mod Parts
 pub mod Whole
 pub mod Near
-pub mod Halves
-pub mod Cases
 pub mod Sandwich
+pub mod Library
 pub mod Examples

@@ -102,7 +102,7 @@ round_gap s p q Q big lo hi =
     less z h = omega arith
 
 -- ---- the root is a whole number of units, or lies in a gap
-either : (n : ℕ) → ((isqrt n * isqrt n ≡ n) × (sticky n ≡ 2 * isqrt n)) ⊎ ((isqrt n * isqrt n < n) × (sticky n ≡ 2 * isqrt n + 1))
+pub either : (n : ℕ) → ((isqrt n * isqrt n ≡ n) × (sticky n ≡ 2 * isqrt n)) ⊎ ((isqrt n * isqrt n < n) × (sticky n ≡ 2 * isqrt n + 1))
 unfolding sticky
 either n = go (eqb (isqrt n * isqrt n) n) (eqb→eq (isqrt n * isqrt n) n) (λ e. subst (λ (z : ℕ). T (eqb (isqrt n * isqrt n) z)) e (eqb_refl (isqrt n * isqrt n)))
   where
@@ -119,7 +119,7 @@ square_le a b h = elim (lt_or_le b a) [ inl l ↦ absurd (not-le_of_lt (mul_lt l
     mul_lt : b < a → b * b < a * a
     mul_lt l = lt_of_le_of_lt (mul-le-mul (le_refl b) (le_of_lt l)) (mul-lt-mul_of_pos_right l (lt_of_le_of_lt zero-le l))
 
-square_scaled : (a q : ℕ) → a * a * (q * q) ≡ a * q * (a * q)
+pub square_scaled : (a q : ℕ) → a * a * (q * q) ≡ a * q * (a * q)
 square_scaled a q = mul-mul-mul_comm a a q q
 
 double_over : (p : ℕ) → p * 2 ^ 1075 ≡ 2 * (p * 2 ^ 1074)
@@ -170,7 +170,7 @@ module _ (n p q : ℕ) (Q : 0 < q) (big : 2 ^ 53 ≤ isqrt n) where
   mono_high : (t : ℕ) → t ≤ 2 * (s + 1) → (s + 1) * q ≤ P → T (le (round binary64 false t (2 ^ 1075)) (round binary64 false p q))
   mono_high t h l = round_mono binary64 t (2 ^ 1075) p q (pow_pos 1075) Q (le_trans (mul-le-mul_right q h) (twice_le ((s + 1) * q) P (2 * (s + 1) * q) (p * 2 ^ 1075) l (mul_assoc 2 (s + 1) q) (double_over p)))
 
-  in_gap : sticky n ≡ 2 * s + 1 → s * q < P → P < (s + 1) * q → round binary64 false p q ≡ round binary64 false (sticky n) (2 ^ 1075)
+  pub in_gap : sticky n ≡ 2 * s + 1 → s * q < P → P < (s + 1) * q → round binary64 false p q ≡ round binary64 false (sticky n) (2 ^ 1075)
   in_gap e l h = round_gap s p q Q big l h ∙ sym (root_gap e)
 
   below_sticky : P * P ≤ n * (q * q) → T (le (round binary64 false p q) (round binary64 false (sticky n) (2 ^ 1075)))
@@ -207,7 +207,7 @@ module _ (n p q : ℕ) (Q : 0 < q) (big : 2 ^ 53 ≤ isqrt n) where
   above_root l = subst (λ (x : Float). T (le x (round binary64 false p q))) (sym (nearest_root_is n)) (above_sticky l)
 
 -- ---- of a double x = (m * up e) / (down e) above zero: p / q with (p / q) ^ 2 ≤ x, and with x ≤ (p / q) ^ 2
-units_is : (m : ℕ) (e : ℤ) → T (fits binary64 (fin false (suc m) e)) → (n : ℕ) × (suc m * up e * 2 ^ 1074 ≡ n * down e) × (sqrt (fin false (suc m) e) ≡ nearest_root (n * 2 ^ 1074)) × (0 < n)
+pub units_is : (m : ℕ) (e : ℤ) → T (fits binary64 (fin false (suc m) e)) → (n : ℕ) × (suc m * up e * 2 ^ 1074 ≡ n * down e) × (sqrt (fin false (suc m) e) ≡ nearest_root (n * 2 ^ 1074)) × (0 < n)
 unfolding sqrt
 units_is m e f =
     let n = val (to_bits binary64 (fin false (suc m) e)) in
@@ -223,7 +223,7 @@ units_is m e f =
     positive (suc n) a d e h = zero-lt-suc n
 
 -- a root of 2 ^ 1074 or more has 54 digits at least
-root_big : (n : ℕ) → 0 < n → 2 ^ 53 ≤ isqrt (n * 2 ^ 1074)
+pub root_big : (n : ℕ) → 0 < n → 2 ^ 53 ≤ isqrt (n * 2 ^ 1074)
 root_big n h =
     le_of_lt_next (2 ^ 53) (isqrt (n * 2 ^ 1074))
     (square_lt (2 ^ 53) (isqrt (n * 2 ^ 1074) + 1) (lt_of_le_of_lt (le_trans (lit≤ tt) (le_trans (le_of_eq (sym (one-mul (2 ^ 1074)))) (mul-le-mul_right (2 ^ 1074) h))) (isqrt_is (n * 2 ^ 1074)).1))

@@ -7,6 +7,7 @@ use native.Mathlib.Omega.{arith}
 use native.Mathlib.Nat.{suc-mul}
 use lib.ListN.{length, take, drop, length-append}
 use lib.Ieee.{Float}
+use Rattle.std.specs.Prelude.{None}
 use Rattle.lists.specs.Window.{window, splice}
 use Rattle.lists.proofs.Window.{part_window, length_window}
 use Rattle.checks.specs.First.{Check, first}
@@ -37,7 +38,6 @@ use Rattle.krylov_job.specs.Inner.{scaling_by, scaling_of, run_job_by, Admitted,
 use Rattle.krylov_job.specs.KrylovCall.{KrylovAnswer}
 use Rattle.krylov_job.specs.declared.KrylovPhiOptions.{KrylovPhiOptions}
 use Rattle.krylov_job.specs.declared.RunJob.{RunJob}
-use Rattle.krylov_job.specs.declared.Eta.TheVariants.{Own}
 use Rattle.krylov_job.proofs.Calls as krylov_calls
 use Rattle.schedule_checks.specs.declared.Stage.{Stage}
 use Rattle.schedule_checks.specs.Schedule.{stage_checks}
@@ -140,18 +140,18 @@ module _
     dimension_small e = (krylov_calls.early_known g tau count w o (length out) [] early e).1
 
     abbrev JobOf : RunJob → Type 0
-    JobOf j = Admitted g tau count w (scaling_of g tau count w Own) o (length_checks (length out) g.n (length w) (count * g.n) ++ []) (length w₀) j
+    JobOf j = Admitted g tau count w (scaling_of g tau count w None) o (length_checks (length out) g.n (length w) (count * g.n) ++ []) (length w₀) j
 
     pub krylov_refused : (gs : List Check) → Sound ≡ first gs → {k : Reason} {x : Float} → r ≡ Refused k x
         → ends (Refused k x) out w₀ ≡ phi_combination_krylov (after_checks gs (csr g.n starts cols vals) (given g.with_mass mass) g) tau count w o out w₀
     unfolding phi_combination_krylov krylov_checks krylov_checks_by length_checks
     krylov_refused gs sound e = refused_by Refused _ out w₀ _ e (sound_on gs _ refl sound (rw (quotients_rows (csr g.n starts cols vals) (given g.with_mass mass)) (refused_up _ _ e early ∙ ap first (append_assoc (vector_checks_by (time_checks tau) (length_checks (length out) g.n (length w) (count * g.n)) count w) (option_checks o (dimension g.n d o.m)) _))))
 
-    module _ (passed : r ≡ Sound) {j : RunJob} {M : ℕ} (eM : M ≡ dimension g.n d o.m) (ej : j ≡ run_job_by g tau d f (scaling_by Own (magnitude g.n f tau d)) o M (length w₀)) where
+    module _ (passed : r ≡ Sound) {j : RunJob} {M : ℕ} (eM : M ≡ dimension g.n d o.m) (ej : j ≡ run_job_by g tau d f (scaling_by None (magnitude g.n f tau d)) o M (length w₀)) where
       pub job_of : JobOf j
       job_of =
           krylov_calls.admitted g tau count w o (length out) [] early _ (length w₀) passed
-          (ej ∙ (λ i. run_job_by g tau d (sym (behind v f h) i) (scaling_by Own (magnitude g.n (sym (behind v f h) i) tau d)) o (eM i) (length w₀)))
+          (ej ∙ (λ i. run_job_by g tau d (sym (behind v f h) i) (scaling_by None (magnitude g.n (sym (behind v f h) i) tau d)) o (eM i) (length w₀)))
 
       pub krylov_fits : j.checked ≡ Sound → j.k.y + (g.n + d) ≤ length w₀
       krylov_fits e =

@@ -77,7 +77,7 @@ fn krylov_stage(
     let m = krylov_job::clamp_m(o.m, g.n + d);
     let finite = stage_checks::check_field(initial, start, out, vectors);
     combination::and_then(finite, krylov_job::check_options(o, m))?;
-    let j = krylov_job::admit_run(g, tau, d, vectors, Eta::Own, o, m, work.len());
+    let j = krylov_job::admit_run(g, tau, d, vectors, None, o, m, work.len());
     j.checked?;
     stage_turns::start_field(initial, start, out, g.n, d, j.eta.inv, work, j.k.y);
     krylov_run::run_job(starts, cols, vals, mass, vectors, out, work, j)

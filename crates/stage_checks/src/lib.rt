@@ -20,8 +20,8 @@ fn solver_of(solver: u32, degree: u32, tol: f64, m: usize, limit: usize) -> PhiS
         return PhiSolver::Taylor(degree);
     }
     PhiSolver::Krylov(KrylovPhiOptions {
-        tol: tol,
-        m: m,
+        tol,
+        m,
         max_substeps: limit,
     })
 }
@@ -44,7 +44,7 @@ pub fn stage_at(
     Stage {
         tau: taus[i],
         count: counts[i],
-        solver: solver,
+        solver,
     }
 }
 

@@ -57,7 +57,7 @@ fn counted(p: SoFar, need: usize, applications: u64, substeps: u64, rejected: u6
     };
     SoFar {
         used: p.used + need,
-        report: report,
+        report,
     }
 }
 

@@ -25,7 +25,6 @@ use Rattle.stage_calls.specs.Stages.{stage_call, unless_stage_refused, stage_ste
 use Rattle.schedule_checks.specs.Inner.{StageTurn, field_of, turn_at}
 use Rattle.stage_calls.specs.Inner.{stage_end}
 use Rattle.checks.specs.Reasons.{refusal, Sound, Refused}
-use Rattle.std.specs.Prelude.{Ok, Err}
 use Rattle.checks.specs.declared.Reason.{Reason}
 
 -- ---- a refusal by a stage's own checks is told as one by its call

@@ -1,4 +1,5 @@
 -- After i stages with results the working memory is cleared up to the largest need so far. Assumes nothing.
+use Rattle.std.specs.Prelude.{Option, Some, None}
 use Rattle.std.specs.Prelude.{if◌then◌else◌}
 use mathlib.Core.Path.{◌≡◌, refl, sym, ap, ◌∙◌}
 use mathlib.Core.Bool.{Bool, true, false}
@@ -13,8 +14,6 @@ use Rattle.lists.proofs.Window.{splice_nil}
 use Rattle.checks.specs.First.{Checked}
 use Rattle.generator_action.specs.Generator.{Generator}
 use Rattle.phi_action_helpers.specs.declared.SweepPlan.{SweepPlan}
-use Rattle.phi_shift.specs.declared.PlanAnswer.{PlanAnswer}
-use Rattle.phi_shift.specs.declared.PlanAnswer.TheVariants.{NoPlan, Plan}
 use Rattle.combination.specs.Call.{Call, unless_refused, cleared}
 use Rattle.combination.proofs.Cleared.{cleared_less, cleared_more}
 use Rattle.taylor_job.specs.Calls.{Fields, after_plan, combination_run, phi_combination}
@@ -42,10 +41,10 @@ cleared_both a b w = go (ltb a b) refl
 
 -- ---- a call that gave a result clears what it needed
 module _ (g : Generator) (tau : Float) (count : ℕ) (w output memory : List Float) where
-  after_plan_cleared : (need : ℕ) (t norm : Float) (x : PlanAnswer) (run : SweepPlan → Fields) → Gave (of_taylor (after_plan need t norm output memory x run).answer) → (after_plan need t norm output memory x run).memory ≡ cleared need memory
+  after_plan_cleared : (need : ℕ) (t norm : Float) (x : Option SweepPlan) (run : SweepPlan → Fields) → Gave (of_taylor (after_plan need t norm output memory x run).answer) → (after_plan need t norm output memory x run).memory ≡ cleared need memory
   unfolding after_plan of_taylor
-  after_plan_cleared need t norm NoPlan run h = absurd h
-  after_plan_cleared need t norm (Plan p) run h = refl
+  after_plan_cleared need t norm None run h = absurd h
+  after_plan_cleared need t norm (Some p) run h = refl
 
   after_run_cleared : (n need : ℕ) (e : End) → (after_run n need memory e).memory ≡ cleared need memory
   unfolding after_run

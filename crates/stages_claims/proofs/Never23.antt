@@ -1,4 +1,5 @@
 -- 23 never occurs in a soak in stages (document 02, N14). Assumes nothing.
+use Rattle.std.specs.Prelude.{Option, Some, None}
 use mathlib.Core.Path.{◌≡◌, refl, sym, ap, ◌∙◌}
 use mathlib.Core.Bool.{Bool}
 use mathlib.Core.List.{List, ◌∷◌, ◌++◌}
@@ -13,8 +14,6 @@ use Rattle.checks.proofs.Numbers.{before_append, not_by}
 use Rattle.general_operator.specs.Csr.{row_sum_norm}
 use Rattle.generator_action.specs.Generator.{Generator}
 use Rattle.phi_action_helpers.specs.declared.SweepPlan.{SweepPlan}
-use Rattle.phi_shift.specs.declared.PlanAnswer.{PlanAnswer}
-use Rattle.phi_shift.specs.declared.PlanAnswer.TheVariants.{NoPlan, Plan}
 use Rattle.combination.specs.Call.{Call, unless_refused}
 use Rattle.combination.specs.Checks.{out_of_range, count_checks, time_checks, degree_checks, plan_checks, length_checks}
 use Rattle.taylor_job.specs.Calls.{Fields, after_plan, combination_checks, combination_run, phi_combination}
@@ -62,10 +61,10 @@ double_is e = cc
 
 -- ---- nor is it the number of a single call's refusal
 module _ (g : Generator) (h : InRange g) (tau : Float) (count : ℕ) (w output memory : List Float) where
-  by_plan : (need : ℕ) (t norm : Float) (x : PlanAnswer) (run : SweepPlan → Fields) {y : Float} → of_taylor (after_plan need t norm output memory x run).answer ≡ Refused NormRange y → zero ≡ 1
+  by_plan : (need : ℕ) (t norm : Float) (x : Option SweepPlan) (run : SweepPlan → Fields) {y : Float} → of_taylor (after_plan need t norm output memory x run).answer ≡ Refused NormRange y → zero ≡ 1
   unfolding after_plan of_taylor
-  by_plan need t norm NoPlan run e = absurd (omega (arith, number_is e))
-  by_plan need t norm (Plan p) run e = cc
+  by_plan need t norm None run e = absurd (omega (arith, number_is e))
+  by_plan need t norm (Some p) run e = cc
 
   by_taylor : (x : Checked) (c : Call TaylorAnswer) {y : Float} → ((z : Float) → x ≡ Refused NormRange z → ⊥) → (of_taylor c.answer ≡ Refused NormRange y → zero ≡ 1)
       → of_taylor (unless_refused Refused x output memory c).answer ≡ Refused NormRange y → ⊥

@@ -1,4 +1,5 @@
 -- The boundary jobs that document 01 marks with a star: one table, and the theorem that the definitions give what it says. Assumes nothing.
+use Rattle.std.specs.Prelude.{Option, Some, None}
 use mathlib.Core.Bool.{false}
 use mathlib.Core.List.{List, [], ◌∷◌, ◌++◌, map}
 use mathlib.Core.Option.{none, some}
@@ -15,8 +16,7 @@ use Rattle.general_operator.specs.Csr.{Csr, csr, row_sum_norm, apply_generator}
 use Rattle.generator_action.specs.Mass.{Mass, quotients, open_mass}
 use Rattle.generator_action.specs.Generator.{forward}
 use Rattle.csr_shift.specs.Shift.{negated_csr_shift}
-use Rattle.csr_shift.specs.declared.Shift.{Shift}
-use Rattle.csr_shift.specs.declared.Shift.TheVariants.{Unshifted, By}
+use Rattle.csr_shift.specs.declared.Shifted.{Shifted}
 use Rattle.phi_shift.specs.Plan.{argument, shifted_bound, open_plan}
 use Rattle.krylov_job.specs.KrylovCall.{phi_combination_krylov, open_krylov_call}
 use Rattle.krylov_job.specs.declared.KrylovPhiOptions.{KrylovPhiOptions}
@@ -28,14 +28,14 @@ unfoldable ratio : ℕ → ℕ → Float
 ratio a b = round binary64 false a b
 
 -- the shift and the shifted norm; nothing without a shift
-abbrev shift_and_norm : Shift → List Float
-shift_and_norm Unshifted = []
-shift_and_norm (By g norm) = g ∷ norm ∷ []
+abbrev shift_and_norm : Option Shifted → List Float
+shift_and_norm None = []
+shift_and_norm (Some s) = s.mu ∷ s.norm ∷ []
 
 -- the argument of the shifted plan; nothing without a shift
-abbrev shifted_argument : Float → Shift → List Float
-shifted_argument tau Unshifted = []
-shifted_argument tau (By g norm) = shifted_bound tau (tau ⊗ g) norm ⊗ 2f ∷ []
+abbrev shifted_argument : Float → Option Shifted → List Float
+shifted_argument tau None = []
+shifted_argument tau (Some s) = shifted_bound tau (tau ⊗ s.mu) s.norm ⊗ 2f ∷ []
 
 -- (a b; b a)
 abbrev two_rows : Float → Float → Csr

@@ -14,9 +14,8 @@ fn divide_row(vals: &[f64], work: &mut [f64], place: usize, from: usize, to: usi
     requires { (from ≤ to) × (to ≤ length vals.now) × (place + (to - from) ≤ length work.old) }
     ensures { work.new ≡ splice place (tabulate (to - from) (λ k. at vals.now (from + k) ⊘ m)) work.old }
 {
-    let count = to - from;
-    for k in 0..count {
-        work[place + k] = vals[from + k] / m;
+    for (k, v) in vals[from..to].iter().enumerate() {
+        work[place + k] = *v / m;
     }
 }
 
@@ -34,10 +33,10 @@ pub fn normalise_rows(
     requires starts_value { (get_or starts.now 0 0 ≡ 0) × (length mass.now ≡ n) × (q_at + length vals.now ≤ length work.old) }
     ensures { work.new ≡ splice q_at (normalise (csr n starts.now cols.now vals.now) mass.now).entries work.old }
 {
-    for i in 0..n {
+    for (i, m) in mass.iter().enumerate() {
         let from = starts[i] as usize;
         let to = starts[i + 1] as usize;
-        divide_row(vals, work, q_at + from, from, to, mass[i]);
+        divide_row(vals, work, q_at + from, from, to, *m);
     }
 }
 

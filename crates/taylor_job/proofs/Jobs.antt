@@ -1,4 +1,5 @@
 -- A job in the lent memory, from its first field to its end. Assumes nothing.
+use Rattle.std.specs.Prelude.{Option, Some}
 use mathlib.Core.Path.{◌≡◌, refl, sym, ap, ◌∙◌}
 use mathlib.Core.List.{List}
 use Prim.Native.Nat.{ℕ, ◌+◌, ◌≤◌}
@@ -12,7 +13,7 @@ use Rattle.doubles.specs.F64.{+0}
 use Rattle.general_operator.specs.Csr.{Csr, csr}
 use Rattle.generator_action.specs.Mass.{given, stored}
 use Rattle.csr_shift.specs.Shift.{negated_csr_shift}
-use Rattle.csr_shift.specs.declared.Shift.{Shift}
+use Rattle.csr_shift.specs.declared.Shifted.{Shifted}
 use Rattle.expmv.specs.Select.{Bounds}
 use Rattle.phi_action_helpers.specs.declared.SweepPlan.{SweepPlan}
 use Rattle.phi_action_helpers.specs.declared.Layout.{Layout}
@@ -20,7 +21,6 @@ use Rattle.phi_action_helpers.specs.Augmented.{Augmented}
 use Rattle.phi_action_helpers.specs.Laid.{Ready, Lined, matrix_at, operator_at}
 use Rattle.phi_action_helpers.proofs.Counts.{run_long}
 use Rattle.phi_shift.specs.Plan.{with_shift, sweep_plan}
-use Rattle.phi_shift.specs.declared.PlanAnswer.TheVariants.{Plan}
 use Rattle.phi_shift.proofs.Chosen.{plan_bounded}
 use Rattle.phi_shift.proofs.Ways as plan_ways
 use Rattle.combination.specs.Call.{Call, ends, cleared}
@@ -62,7 +62,7 @@ module _ {starts cols : List ℕ} {vals mass w₀ : List Float} {j : Job} (h : A
   a = csr j.g.n starts cols vals
 
   -- the row that the checks found has a plan
-  pub planned : (q : Csr) → sweep_plan j.cap j.tau q j.g.norm ≡ Plan (plan_by j q)
+  pub planned : (q : Csr) → sweep_plan j.cap j.tau q j.g.norm ≡ Some (plan_by j q)
   planned q = sym (plan_ways.planned j.cap j.tau q j.g.norm refl refl h.row refl refl)
 
   pub bounded : {p : SweepPlan} (q : Csr) → p ≡ plan_by j q → Bounds j.cap p.s p.m
@@ -88,7 +88,7 @@ module _ {starts cols : List ℕ} {vals mass w₀ : List Float} {j : Job} (h : A
       pub still_enough : {w₂ : List Float} → Kept 0 l.q +0 w₁ w₂ → j.need ≤ length w₂
       still_enough k = omega (arith, h.enough, k.long, long₁ held e₁)
 
-      pub plan_is : {shift : Shift} {p : SweepPlan} → shift ≡ negated_csr_shift (matrix_at l starts cols vals w₁) j.g.norm → p ≡ with_shift j.cap j.tau j.s j.m shift
+      pub plan_is : {shift : Option Shifted} {p : SweepPlan} → shift ≡ negated_csr_shift (matrix_at l starts cols vals w₁) j.g.norm → p ≡ with_shift j.cap j.tau j.row shift
           → p ≡ plan_by j (matrix_of j.g starts cols vals mass)
       plan_is e f = f ∙ rw (e, matrix_is held e₁) refl
 

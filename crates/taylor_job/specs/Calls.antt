@@ -1,6 +1,6 @@
 -- Whole calls: the answer, and what the output and the working memory hold at the end (phi_action.rs, `phi_combination`, `phi_action`,
 -- `phi_action_batched`). Definitions only.
-use Rattle.std.specs.Prelude.{List, [], ◌++◌, ℕ, suc, ◌+◌, ◌-◌, ◌*◌, length, Float}
+use Rattle.std.specs.Prelude.{List, [], ◌++◌, ℕ, suc, ◌+◌, ◌-◌, ◌*◌, length, Float, Option, Some, None}
 use Rattle.lists.specs.Loop.{iter}
 use Rattle.lists.specs.Window.{window}
 use Rattle.checks.specs.First.{Check, first}
@@ -37,9 +37,9 @@ abbrev pub report : SweepPlan → ℕ → TaylorAnswer
 report p applied = Ok (record { s = p.s; m = p.m; mu = p.mu; applications = applied })
 
 -- an accepted job leaves its fields and clears what it needed; that there is no plan is refusal 25 of the list already
-unfoldable pub after_plan : ℕ → Float → Float → List Float → List Float → PlanAnswer → (SweepPlan → Fields) → Call TaylorAnswer
+unfoldable pub after_plan : ℕ → Float → Float → List Float → List Float → Option SweepPlan → (SweepPlan → Fields) → Call TaylorAnswer
 after_plan need tau norm output memory NoPlan run = ends (Refused NoAdmissibleRow (argument tau norm)) output memory
-after_plan need tau norm output memory (Plan p) run = ends (report p (run p).applied) (run p).fields (cleared need memory)
+after_plan need tau norm output memory (Some p) run = ends (report p (run p).applied) (run p).fields (cleared need memory)
 
 -- the n values of the field after the sweeps
 unfoldable pub swept_fields : Augmented → Float → List Float → SweepPlan → Fields

@@ -1,11 +1,10 @@
 -- What the inner functions of a Taylor call know and answer: cited by their contracts, and by no definition of a call. Definitions only.
-use Rattle.std.specs.Prelude.{Bool, List, ◌≡◌, ℕ, ◌+◌, ◌*◌, ◌≤◌, length, Float}
+use Rattle.std.specs.Prelude.{Bool, List, ◌≡◌, ℕ, ◌+◌, ◌*◌, ◌≤◌, length, Float, Some}
 use Rattle.general_operator.specs.Csr.{Csr, csr}
 use Rattle.generator_action.specs.Mass.{given}
 use Rattle.generator_action.specs.Known.{Passed}
 use Rattle.csr_shift.specs.Shift.{negated_csr_shift}
 use Rattle.expmv.specs.Select.{select_s_m}
-use Rattle.expmv.specs.declared.Selected.TheVariants.{Row}
 use Rattle.phi_action_helpers.specs.Augmented.{Augmented, augmented}
 use Rattle.phi_action_helpers.specs.declared.Layout.{Layout}
 use Rattle.phi_action_helpers.specs.declared.SweepPlan.{SweepPlan}
@@ -27,11 +26,11 @@ pub record Allowed (starts cols : List ℕ) (vals mass work : List Float) (j : J
   pub short : j.d ≤ 3
   pub needed : j.need ≡ taylor_need j.g.n j.d j.g.stored
   pub enough : j.need ≤ length work
-  pub row : select_s_m j.cap (argument j.tau j.g.norm) ≡ Row j.s j.m
+  pub row : select_s_m j.cap (argument j.tau j.g.norm) ≡ Some j.row
 
 -- the plan from the row that the checks found
 abbrev pub plan_by : Job → Csr → SweepPlan
-plan_by j q = with_shift j.cap j.tau j.s j.m (negated_csr_shift q j.g.norm)
+plan_by j q = with_shift j.cap j.tau j.row (negated_csr_shift q j.g.norm)
 
 abbrev pub operator_by : Job → Csr → List Float → Augmented
 operator_by j q vectors = augmented q j.d vectors j.b.places j.b.gains j.b.count

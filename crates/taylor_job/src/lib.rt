@@ -34,12 +34,12 @@ pub fn layout(n: usize, d: usize, mass: bool) -> Layout
     ensures { result ≡ layout n d mass }
 {
     Layout {
-        n: n,
-        d: d,
+        n,
+        d,
         w: n + d,
         av: 2 * (n + d),
         q: 3 * n + 2 * d,
-        mass: mass,
+        mass,
     }
 }
 
@@ -51,7 +51,7 @@ pub fn shift_at(
     work: &[f64],
     l: Layout,
     norm: f64,
-) -> Shift
+) -> Option<Shifted>
     requires valid { Valid (matrix_at l starts.now cols.now vals.now work.now) }
     requires vals_in_bounds { l.mass ≡ true → l.q + length vals.now ≤ length work.now }
     ensures { result ≡ negated_csr_shift (matrix_at l starts.now cols.now vals.now work.now) norm }
@@ -83,7 +83,7 @@ pub fn prepare(
     let q = l.q;
     stored_quotients::store_quotients(g.n, starts, cols, vals, g.with_mass, mass, work, q);
     let shift = shift_at(starts, cols, vals, work, l, g.norm);
-    phi_shift::with_shift(j.cap, j.tau, j.s, j.m, shift)
+    phi_shift::with_shift(j.cap, j.tau, j.row, shift)
 }
 
 // The sweeps, and their n values from `place` of the output on.
@@ -149,10 +149,10 @@ pub fn run_job(
     let b = j.b;
     let p = prepare(starts, cols, vals, mass, work, j);
     let x = SweepArgs {
-        l: l,
-        b: b,
+        l,
+        b,
         tau: j.tau,
-        p: p,
+        p,
     };
     let applied = swept_out(starts, cols, vals, vectors, out, 0, work, x);
     finish(work, j.need, p, applied)

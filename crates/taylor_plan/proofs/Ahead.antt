@@ -17,12 +17,9 @@ use Rattle.general_operator.specs.Csr.{row_sum_norm}
 use Rattle.general_operator.proofs.Sound.{or_false}
 use Rattle.generator_action.specs.Generator.{Generator}
 use Rattle.expmv.specs.Select.{select_s_m}
-use Rattle.expmv.specs.declared.Selected.{Selected}
-use Rattle.expmv.specs.declared.Selected.TheVariants.{NoRow, Row}
+use Rattle.expmv.specs.declared.Row.{Row}
 use Rattle.phi_action_helpers.specs.declared.SweepPlan.{SweepPlan}
 use Rattle.phi_shift.specs.Plan.{argument, plan_of, sweep_plan}
-use Rattle.phi_shift.specs.declared.PlanAnswer.{PlanAnswer}
-use Rattle.phi_shift.specs.declared.PlanAnswer.TheVariants.{NoPlan, Plan}
 use Rattle.combination.specs.Call.{Call, unless_refused}
 use Rattle.combination.specs.Combination.{further, eta_of}
 use Rattle.combination.specs.Checks.{no_row, count_checks, index_checks, time_checks, degree_checks, plan_checks, length_checks, finite_checks, magnitude_checks, schedule_checks, memory_checks, vector_checks_by, vector_checks, sweep_checks, job_checks, taylor_need}
@@ -100,22 +97,22 @@ module _ (g : Generator) (tau : Float) (cap : ℕ) where
   call cs need output memory run = unless_refused Refused (first cs) output memory (after_plan need tau norm output memory (sweep_plan cap tau g.matrix norm) run)
 
   -- where 25 passes there is a plan
-  row_planned : Sound ≡ first (schedule_checks cap norm tau) → sweep_plan cap tau g.matrix norm ≡ NoPlan → zero ≡ 1
+  row_planned : Sound ≡ first (schedule_checks cap norm tau) → sweep_plan cap tau g.matrix norm ≡ None → zero ≡ 1
   unfolding schedule_checks sweep_plan plan_of
   row_planned e f = go (select_s_m cap (argument tau norm)) (sound_cons _ _ _ _ (sound_cons _ _ _ _ e).1).0 f
     where
-      go : (r : Selected) → no_row r ≡ false → plan_of cap tau g.matrix norm r ≡ NoPlan → zero ≡ 1
-      go NoRow h e = cc
-      go (Row s m) h e = cc
+      go : (r : Option Row) → no_row r ≡ false → plan_of cap tau g.matrix norm r ≡ None → zero ≡ 1
+      go None h e = cc
+      go (Some r) h e = cc
 
   module _ (xs ys : List Check) (need : ℕ) (output memory : List Float) (run : SweepPlan → Fields) where
     abbrev cs : List Check
     cs = listed xs ys (length memory) need
 
-    no_refusal : (p : PlanAnswer) {k : Reason} {x : Float} → (p ≡ NoPlan → zero ≡ 1) → (after_plan need tau norm output memory p run).answer ≡ Refused k x → ⊥
+    no_refusal : (p : Option SweepPlan) {k : Reason} {x : Float} → (p ≡ None → zero ≡ 1) → (after_plan need tau norm output memory p run).answer ≡ Refused k x → ⊥
     unfolding after_plan
-    no_refusal NoPlan h e = absurd (omega (arith, h refl))
-    no_refusal (Plan p) h e = let z : zero ≡ 1 = cc in absurd (omega (arith, z))
+    no_refusal None h e = absurd (omega (arith, h refl))
+    no_refusal (Some p) h e = let z : zero ≡ 1 = cc in absurd (omega (arith, z))
 
     schedule_sound : Sound ≡ first cs → Sound ≡ first (schedule_checks cap norm tau)
     schedule_sound e =
@@ -142,16 +139,16 @@ module _ (g : Generator) (tau : Float) (cap : ℕ) where
     pub record Planned (r : TaylorReport) : Type 0 where
       pub sound : Sound ≡ first cs
       pub plan : SweepPlan
-      pub has_plan : sweep_plan cap tau g.matrix norm ≡ Plan plan
+      pub has_plan : sweep_plan cap tau g.matrix norm ≡ Some plan
       pub is : record { s = plan.s; m = plan.m; mu = plan.mu; applications = (run plan).applied } ≡ r
 
     result_planned : {r : TaylorReport} → (call cs need output memory run).answer ≡ Ok r → Planned r
     unfolding unless_refused after_plan
     result_planned {r} f = go (first cs) refl f
       where
-        of_plan_answer : Sound ≡ first cs → (p : PlanAnswer) → sweep_plan cap tau g.matrix norm ≡ p → (after_plan need tau norm output memory p run).answer ≡ Ok r → Planned r
+        of_plan_answer : Sound ≡ first cs → (p : Option SweepPlan) → sweep_plan cap tau g.matrix norm ≡ p → (after_plan need tau norm output memory p run).answer ≡ Ok r → Planned r
         of_plan_answer e NoPlan h i = let z : zero ≡ 1 = cc in absurd (omega (arith, z))
-        of_plan_answer e (Plan p) h i = record { sound = e; plan = p; has_plan = h; is = ok_is i }
+        of_plan_answer e (Some p) h i = record { sound = e; plan = p; has_plan = h; is = ok_is i }
 
         go : (c : Checked) → c ≡ first cs → (unless_refused Refused c output memory (after_plan need tau norm output memory (sweep_plan cap tau g.matrix norm) run)).answer ≡ Ok r → Planned r
         go (Ok _) e h = of_plan_answer e _ refl h

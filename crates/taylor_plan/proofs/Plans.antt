@@ -1,4 +1,5 @@
 -- A plan by the quotients in the lent memory, from the row that the checks found to the answer. Assumes nothing.
+use Rattle.std.specs.Prelude.{Option, Some}
 use mathlib.Core.Path.{◌≡◌, refl, sym, ap, ◌∙◌}
 use mathlib.Core.Bool.{true}
 use mathlib.Core.List.{List, []}
@@ -17,12 +18,12 @@ use Rattle.generator_action.specs.Generator.{Generator}
 use Rattle.generator_action.specs.Known.{Passed}
 use Rattle.generator_action.specs.declared.Shape.{Shape}
 use Rattle.csr_shift.specs.Shift.{negated_csr_shift}
-use Rattle.csr_shift.specs.declared.Shift.{Shift}
+use Rattle.csr_shift.specs.declared.Shifted.{Shifted}
+use Rattle.expmv.specs.declared.Row.{Row}
 use Rattle.phi_action_helpers.specs.declared.Layout.{Layout}
 use Rattle.phi_action_helpers.specs.declared.SweepPlan.{SweepPlan}
 use Rattle.phi_action_helpers.specs.Laid.{matrix_at}
 use Rattle.phi_shift.specs.Plan.{with_shift, sweep_plan}
-use Rattle.phi_shift.specs.declared.PlanAnswer.TheVariants.{Plan}
 use Rattle.phi_shift.proofs.Ways as plan_ways
 use Rattle.combination.specs.Checks.{plan_checks}
 use Rattle.combination.specs.Call.{ends, cleared}
@@ -59,9 +60,9 @@ module _ {starts cols : List ℕ} {vals : List Float} (mass : List Float) {g : S
       pub written : w₁ ≡ splice l.q (stored a m) w₀
       written = rw el e₁
 
-      pub shifted_is : (cap : ℕ) (tau : Float) (s d : ℕ) {shift : Shift} {p : SweepPlan} → shift ≡ negated_csr_shift (matrix_at l starts cols vals w₁) g.norm → p ≡ with_shift cap tau s d shift
-          → p ≡ with_shift cap tau s d (negated_csr_shift (matrix_of g starts cols vals mass) g.norm)
-      shifted_is cap tau s d e f = f ∙ rw (e, matrix_is held written) refl
+      pub shifted_is : (cap : ℕ) (tau : Float) (row : Row) {shift : Option Shifted} {p : SweepPlan} → shift ≡ negated_csr_shift (matrix_at l starts cols vals w₁) g.norm → p ≡ with_shift cap tau row shift
+          → p ≡ with_shift cap tau row (negated_csr_shift (matrix_of g starts cols vals mass) g.norm)
+      shifted_is cap tau row e f = f ∙ rw (e, matrix_is held written) refl
 
   pub quotients_fit : (w₀ : List Float) → g.stored ≤ length w₀ → g.with_mass ≡ true → 0 + length vals ≤ length w₀
   quotients_fit w₀ room = store_fits (held w₀ room {l = quotients_alone g.n g.with_mass} refl)
@@ -76,9 +77,9 @@ module _ {starts cols : List ℕ} {vals : List Float} (mass : List Float) {g : S
     unfolding taylor_plan
     refused_is e = refused_by Refused _ [] w₀ _ e told
 
-    module _ {p : SweepPlan} (passes : r.checked ≡ Sound) (ep : p ≡ with_shift cap tau r.s r.m (negated_csr_shift (matrix_of g starts cols vals mass) g.norm)) where
+    module _ {p : SweepPlan} (passes : r.checked ≡ Sound) (ep : p ≡ with_shift cap tau r.row (negated_csr_shift (matrix_of g starts cols vals mass) g.norm)) where
       -- the row that the checks found has this plan
-      has_plan : Plan p ≡ sweep_plan cap tau (quotients a m) g.norm
+      has_plan : Some p ≡ sweep_plan cap tau (quotients a m) g.norm
       has_plan = plan_ways.planned cap tau (quotients a m) g.norm refl refl (admitted_known g tau cap (length w₀) er passes).row refl (ep ∙ rw er refl)
 
       pub planned_is : {cost : ℕ} {x : TaylorAnswer} {w₁ w₂ : List Float} → cost ≡ p.s * p.m

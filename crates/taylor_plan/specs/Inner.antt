@@ -12,8 +12,7 @@ abbrev pub admitted : Shape → Float → ℕ → ℕ → Schedule
 admitted g tau cap memory =
     record {
       checked = first (plan_checks tau cap ++ (schedule_checks cap g.norm tau ++ memory_checks memory g.stored));
-      s = (schedule cap g.norm tau).s;
-      m = (schedule cap g.norm tau).m;
+      row = (schedule cap g.norm tau).row;
     }
 
 -- the lent memory holds the quotients, from its first place on

@@ -31,8 +31,7 @@ fn admit_plan(g: Shape, tau: f64, cap: u32, memory: usize) -> Schedule
     let host = combination::and_then(planned, combination::check_memory(memory, g.stored));
     Schedule {
         checked: combination::and_then(combination::check_plan(tau, cap), host),
-        s: schedule.s,
-        m: schedule.m,
+        row: schedule.row,
     }
 }
 
@@ -41,16 +40,16 @@ fn quotients_alone(n: usize, mass: bool) -> Layout
     ensures { result ≡ quotients_alone n mass }
 {
     Layout {
-        n: n,
+        n,
         d: 0,
         w: 0,
         av: 0,
         q: 0,
-        mass: mass,
+        mass,
     }
 }
 
-// The plan from the row s, m that the checks found, by the quotients in the lent memory.
+// The plan from the row that the checks found, by the quotients in the lent memory.
 fn from_row(
     starts: &[u32],
     cols: &[u32],
@@ -60,18 +59,17 @@ fn from_row(
     g: Shape,
     tau: f64,
     cap: u32,
-    s: u32,
-    m: u32,
+    row: Row,
 ) -> SweepPlan
     requires passed { Passed (csr g.n starts.now cols.now vals.now) (given g.with_mass mass.now) g }
     requires stored_in_bounds { g.stored ≤ length work.old }
-    ensures value { result ≡ with_shift cap tau s m (negated_csr_shift (matrix_of g starts.now cols.now vals.now mass.now) g.norm) }
+    ensures value { result ≡ with_shift cap tau row (negated_csr_shift (matrix_of g starts.now cols.now vals.now mass.now) g.norm) }
     ensures work_after { work.new ≡ splice 0 (stored (csr g.n starts.now cols.now vals.now) (given g.with_mass mass.now)) work.old }
 {
     let l = quotients_alone(g.n, g.with_mass);
     stored_quotients::store_quotients(g.n, starts, cols, vals, g.with_mass, mass, work, 0);
     let shift = taylor_job::shift_at(starts, cols, vals, work, l, g.norm);
-    phi_shift::with_shift(cap, tau, s, m, shift)
+    phi_shift::with_shift(cap, tau, row, shift)
 }
 
 // Over a generator that passed its checks.

@@ -1,4 +1,5 @@
 -- What the checks of a job leave, and the first field of a combination. Assumes nothing.
+use Rattle.std.specs.Prelude.{Option, Some, None}
 use mathlib.Core.Path.{◌≡◌, refl, sym, ap, ◌∙◌}
 use mathlib.Core.Bool.{false}
 use mathlib.Core.List.{List, [], ◌∷◌, ◌++◌}
@@ -19,8 +20,7 @@ use Rattle.checks.proofs.First.{sound_cons, sound_append}
 use Rattle.checks.specs.First.{Checked}
 use Rattle.general_operator.proofs.Sound.{or_false}
 use Rattle.expmv.specs.Select.{select_s_m}
-use Rattle.expmv.specs.declared.Selected.{Selected}
-use Rattle.expmv.specs.declared.Selected.TheVariants.{NoRow, Row}
+use Rattle.expmv.specs.declared.Row.{Row}
 use Rattle.phi_shift.specs.Plan.{argument}
 use Rattle.combination.specs.Combination.{vector, eta_of, column_places, combination_start, init_aug_vector}
 use Rattle.combination.specs.Checks.{no_row, count_checks, index_checks, plan_checks, length_checks, finite_checks, magnitude_checks, schedule_checks, memory_checks, vector_checks_by, vector_checks, sweep_checks, job_checks}
@@ -92,13 +92,13 @@ coupled_one n long eta e = record { few = omega arith; chained = omega arith; sh
     first_only (suc j) h = absurd (omega arith)
 
 -- ---- 24 to 26
-row_is : (r : Selected) → no_row r ≡ false → r ≡ Row (row_sweeps r) (row_degree r)
-row_is NoRow h = cc
-row_is (Row s m) h = refl
+row_is : (r : Option Row) → no_row r ≡ false → r ≡ Some (row_of r)
+row_is None h = cc
+row_is (Some r) h = refl
 
 -- the schedule has a row, and the memory is long enough
 pub record Planned (tau : Float) (cap : ℕ) (norm : Float) (memory need : ℕ) : Type 0 where
-  pub row : select_s_m cap (argument tau norm) ≡ Row (row_sweeps (select_s_m cap (argument tau norm))) (row_degree (select_s_m cap (argument tau norm)))
+  pub row : select_s_m cap (argument tau norm) ≡ Some (row_of (select_s_m cap (argument tau norm)))
   pub room : need ≤ memory
 
 pub enough_known : (memory need : ℕ) → Sound ≡ first (memory_checks memory need) → need ≤ memory

@@ -1,5 +1,5 @@
 -- What the checks of a job hand back beside their answer: cited by contracts of inner functions, and by no definition of a call. Definitions only.
-use Rattle.std.specs.Prelude.{Bool, not, List, [], ◌∷◌, ◌++◌, ℕ, ◌+◌, ◌≤◌, ◌<◌, get_or, Float}
+use Rattle.std.specs.Prelude.{Bool, not, List, [], ◌∷◌, ◌++◌, ℕ, ◌+◌, ◌≤◌, ◌<◌, get_or, Float, Option, Some, None}
 use Rattle.doubles.specs.F64.{1f, is_finite}
 use Rattle.checks.specs.First.{Check, refuse, first}
 use Rattle.general_operator.specs.Csr.{Csr, csr}
@@ -7,9 +7,8 @@ use Rattle.generator_action.specs.Mass.{Mass, given, quotients}
 use Rattle.generator_action.specs.Generator.{Generator}
 use Rattle.generator_action.specs.declared.Shape.{Shape}
 use Rattle.pow2.specs.Pow2.{sup, eta_scaling}
-use Rattle.expmv.specs.Select.{select_s_m}
-use Rattle.expmv.specs.declared.Selected.{Selected}
-use Rattle.expmv.specs.declared.Selected.TheVariants.{NoRow, Row}
+use Rattle.expmv.specs.Select.{row, select_s_m}
+use Rattle.expmv.specs.declared.Row.{Row}
 use Rattle.phi_shift.specs.Plan.{argument}
 use Rattle.phi_action_helpers.specs.declared.Coupling.{Coupling}
 use Rattle.weighted_columns.specs.Inner.{coupling_of}
@@ -23,17 +22,14 @@ use Rattle.checks.specs.declared.Reason.TheVariants.{ArgumentNotFinite, NoAdmiss
 abbrev pub argument_checks : Float → Bool → List Check
 argument_checks arg none = refuse ArgumentNotFinite (not (is_finite arg)) arg ∷ refuse NoAdmissibleRow none arg ∷ []
 
-abbrev pub row_sweeps : Selected → ℕ
-row_sweeps NoRow = 0
-row_sweeps (Row s m) = s
-
-abbrev pub row_degree : Selected → ℕ
-row_degree NoRow = 0
-row_degree (Row s m) = m
+-- the row found, of no sweep where there is none
+abbrev pub row_of : Option Row → Row
+row_of None = row 0 0
+row_of (Some r) = r
 
 abbrev pub schedule : ℕ → Float → Float → Schedule
 schedule m_max norm tau =
-    record { checked = first (schedule_checks m_max norm tau); s = row_sweeps (select_s_m m_max (argument tau norm)); m = row_degree (select_s_m m_max (argument tau norm)) }
+    record { checked = first (schedule_checks m_max norm tau); row = row_of (select_s_m m_max (argument tau norm)) }
 
 abbrev pub host_checks : Shape → Float → ℕ → ℕ → ℕ → List Check
 host_checks g tau cap d memory = schedule_checks cap g.norm tau ++ memory_checks memory (taylor_need g.n d g.stored)
@@ -50,8 +46,7 @@ job_of g tau cap d checks inv b =
       need = taylor_need g.n d g.stored;
       inv = inv;
       b = b;
-      s = (schedule cap g.norm tau).s;
-      m = (schedule cap g.norm tau).m;
+      row = (schedule cap g.norm tau).row;
     }
 
 abbrev pub combination_job : Shape → Float → ℕ → ℕ → List Float → ℕ → Job

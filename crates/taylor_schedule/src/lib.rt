@@ -7,7 +7,7 @@ ghost use Rattle.combination.specs.Checks.{taylor_need};
 ghost use Rattle.taylor_schedule.specs.Inner.{argument_checks, schedule, host_checks, job_of};
 
 use checks::{Checked, Reason, Refusal};
-use expmv::Selected;
+use expmv::Option Row;
 use generator_action::Shape;
 use phi_action_helpers::Coupling;
 
@@ -34,26 +34,22 @@ fn check_argument(arg: f64, no_row: bool) -> Checked
 #[derive(Clone, Copy)]
 pub struct Schedule {
     pub checked: Checked,
-    pub s: u32,
-    pub m: u32,
+    pub row: Row,
 }
 
 pub fn check_schedule(m_max: u32, norm: f64, tau: f64) -> Schedule
     ensures { result ≡ schedule m_max norm tau }
 {
     let arg = phi_shift::argument(tau, norm);
-    let row = expmv::select_s_m(m_max, arg);
-    let Selected::Row(s, m) = row else {
+    let Some(row) = expmv::select_s_m(m_max, arg) else {
         return Schedule {
             checked: check_argument(arg, true),
-            s: 0,
-            m: 0,
+            row: Row { s: 0, m: 0 },
         };
     };
     Schedule {
         checked: check_argument(arg, false),
-        s: s,
-        m: m,
+        row,
     }
 }
 
@@ -68,8 +64,7 @@ pub struct Job {
     pub need: usize,
     pub inv: f64,
     pub b: Coupling,
-    pub s: u32,
-    pub m: u32,
+    pub row: Row,
 }
 
 // What a job needs of the lent memory.
@@ -100,14 +95,13 @@ pub fn plan_job(
     let host = combination::and_then(planned, combination::check_memory(memory, need));
     Job {
         checked: combination::and_then(before, host),
-        g: g,
-        tau: tau,
-        cap: cap,
-        d: d,
-        need: need,
-        inv: inv,
-        b: b,
-        s: schedule.s,
-        m: schedule.m,
+        g,
+        tau,
+        cap,
+        d,
+        need,
+        inv,
+        b,
+        row: schedule.row,
     }
 }

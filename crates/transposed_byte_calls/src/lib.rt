@@ -69,8 +69,8 @@ fn solve(
                 k,
                 v,
                 KrylovPhiOptions {
-                    tol: tol,
-                    m: m,
+                    tol,
+                    m,
                     max_substeps: limit,
                 },
                 out,

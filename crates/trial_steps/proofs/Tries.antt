@@ -7,6 +7,7 @@ use native.Mathlib.Numerals.{add-one}
 use native.Mathlib.Omega.{arith}
 use lib.ListN.{take}
 use lib.Ieee.{Float}
+use Rattle.std.specs.Prelude.{Result, Ok, Err}
 use Rattle.lists.specs.Walk.{Turn, on, walk}
 use Rattle.lists.specs.Window.{window}
 use Rattle.lists.proofs.Walk.{Left, left_out}
@@ -20,8 +21,8 @@ use Rattle.hess_exp.specs.HessExp.{column, hess_exp_e1}
 use Rattle.hess_exp.specs.Parts.{small_of}
 use Rattle.hess_exp.specs.declared.SmallExp.{SmallExp}
 use Rattle.gram_schmidt.specs.declared.Krylov.{Krylov}
-use Rattle.gram_schmidt.specs.declared.BasisAnswer.{BasisAnswer}
-use Rattle.gram_schmidt.specs.declared.BasisAnswer.TheVariants.{Breakdown, Full}
+use Rattle.gram_schmidt.specs.declared.Broken.{Broken}
+use Rattle.gram_schmidt.specs.declared.Full.{Full}
 use Rattle.gram_schmidt.specs.Memory.{setting_at, basis_at}
 use Rattle.trial_steps.specs.Trials.{Trying, Tried, local_error, verdict, judge, try_step, exact_step, trials}
 use Rattle.trial_steps.specs.Memory.{outcome_at, Within}
@@ -70,11 +71,11 @@ left_ended f (Accepted s) g h = left_out h _ refl
 left_ended f (NoPlan arg) g h = left_out h _ refl
 
 -- ---- all lengths on one basis
-module _ (l : Layout) (b : Coupling) (k : Krylov) (q : Csr) (vectors : List Float) (beta next remaining : Float) (work h : List Float) (o : Turn Trying Tried) (basis : BasisAnswer) (s : window k.h ((k.m + 2) * (k.m + 2)) work ≡ h) where
-  pub on_breakdown : (a mb : ℕ) (hn : Float) → basis ≡ Breakdown a mb hn → o ≡ exact_step beta hn remaining (hess_exp_e1 h (k.m + 2) mb remaining) → o ≡ trials (setting_at l b k q vectors) beta next remaining (basis_at l k basis work)
+module _ (l : Layout) (b : Coupling) (k : Krylov) (q : Csr) (vectors : List Float) (beta next remaining : Float) (work h : List Float) (o : Turn Trying Tried) (basis : Result Full Broken) (s : window k.h ((k.m + 2) * (k.m + 2)) work ≡ h) where
+  pub on_breakdown : (e : Broken) → basis ≡ Err e → o ≡ exact_step beta e.hn remaining (hess_exp_e1 h (k.m + 2) e.mb remaining) → o ≡ trials (setting_at l b k q vectors) beta next remaining (basis_at l k basis work)
   unfolding trials basis_at
-  on_breakdown a mb hn e d = d ∙ rw (e, s)
+  on_breakdown e is d = d ∙ rw (is, s)
 
-  pub on_full : (a : ℕ) (avnorm t : Float) → basis ≡ Full a avnorm → t ≡ min_num next remaining → o ≡ walk (try_step (setting_at l b k q vectors) beta h avnorm) 11 0 (on (record { rejections = 0; t = t })) → o ≡ trials (setting_at l b k q vectors) beta next remaining (basis_at l k basis work)
+  pub on_full : (full : Full) (t : Float) → basis ≡ Ok full → t ≡ min_num next remaining → o ≡ walk (try_step (setting_at l b k q vectors) beta h full.avnorm) 11 0 (on (record { rejections = 0; t = t })) → o ≡ trials (setting_at l b k q vectors) beta next remaining (basis_at l k basis work)
   unfolding trials basis_at
-  on_full a avnorm t e g d = d ∙ rw (e, s, g)
+  on_full full t e g d = d ∙ rw (e, s, g)

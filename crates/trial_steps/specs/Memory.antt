@@ -1,10 +1,10 @@
 -- What the answers of the functions that try lengths stand for. Definitions only.
-use Rattle.std.specs.Prelude.{◌≡◌, List, ℕ, ◌+◌, ◌≤◌, length, Float}
+use Rattle.std.specs.Prelude.{Result, Ok, Err, ◌≡◌, List, ℕ, ◌+◌, ◌≤◌, length, Float}
 use Rattle.lists.specs.Walk.{Turn, on, out}
 use Rattle.lists.specs.Window.{window}
 use Rattle.gram_schmidt.specs.declared.Krylov.{Krylov}
-use Rattle.gram_schmidt.specs.declared.BasisAnswer.{BasisAnswer}
-use Rattle.gram_schmidt.specs.declared.BasisAnswer.TheVariants.{Breakdown, Full}
+use Rattle.gram_schmidt.specs.declared.Broken.{Broken}
+use Rattle.gram_schmidt.specs.declared.Full.{Full}
 use Rattle.trial_steps.specs.Trials.{MAX_REJECT, Trying, Tried, accepted, stuck}
 use Rattle.trial_steps.specs.declared.Trial.{Trial}
 use Rattle.trial_steps.specs.declared.Outcome.{Outcome}
@@ -30,6 +30,6 @@ pub record Modest (i columns : ℕ) (o : Trial) : Type 0 where
   pub within : Within i columns o.outcome
 
 -- how many columns a basis has
-abbrev pub columns_in : Krylov → BasisAnswer → ℕ
-columns_in k (Breakdown applied mb hn) = mb
-columns_in k (Full applied avnorm) = k.m + 1
+abbrev pub columns_in : Krylov → Result Full Broken → ℕ
+columns_in k (Ok b) = k.m + 1
+columns_in k (Err e) = e.mb

@@ -13,7 +13,7 @@ ghost use Rattle.gram_schmidt.specs.Memory.{setting_at, basis_at, Counted};
 ghost use Rattle.trial_steps.specs.Trials.{MAX_REJECT, local_error, try_step, exact_step, trials};
 ghost use Rattle.trial_steps.specs.Memory.{trial_at, Modest, columns_in};
 
-use gram_schmidt::{BasisAnswer, Krylov};
+use gram_schmidt::{Broken, Full, Krylov};
 
 // How many lengths may be rejected on one basis.
 const MAX_REJECT: usize = 10;
@@ -57,26 +57,25 @@ fn local_error(m: usize, beta: f64, avnorm: f64, f: &[f64]) -> Estimate
     let phi1 = float::abs(beta * f[m]);
     let phi2 = float::abs(beta * f[m + 1] * avnorm);
     if phi1 > 10.0 * phi2 {
-        return Estimate {
+        Estimate {
             err: phi2,
             order: m,
-        };
-    }
-    if phi1 > phi2 {
-        return Estimate {
+        }
+    } else if phi1 > phi2 {
+        Estimate {
             err: phi1 * phi2 / (phi1 - phi2),
             order: m,
-        };
-    }
-    if m > 2 {
-        return Estimate {
+        }
+    } else if m > 2 {
+        Estimate {
             err: phi1,
             order: m - 1,
-        };
-    }
-    Estimate {
-        err: phi1,
-        order: 1,
+        }
+    } else {
+        Estimate {
+            err: phi1,
+            order: 1,
+        }
     }
 }
 
@@ -128,7 +127,7 @@ fn try_lengths(h: &[f64], k: Krylov, beta: f64, avnorm: f64, t: f64) -> Trial
         outcome: Outcome::Next(0, t),
         f: [0.0; 130],
     };
-    for i in 0..MAX_REJECT + 1 {
+    for _ in 0..MAX_REJECT + 1 {
         let s = o.outcome;
         let Outcome::Next(rejections, length) = s else {
             return o;
@@ -172,7 +171,7 @@ pub fn trial_steps(
     beta: f64,
     next: f64,
     remaining: f64,
-    basis: BasisAnswer,
+    basis: Result<Full, Broken>,
 ) -> Trial
     requires m_bound { (k.m ≤ 128) × Counted k.m basis }
     requires h_len { length h.now ≡ (k.m + 2) * (k.m + 2) }
@@ -180,11 +179,7 @@ pub fn trial_steps(
     ensures modest { Modest (MAX_REJECT + 1) (columns_in k basis) result }
 {
     match basis {
-        BasisAnswer::Breakdown(applied, mb, hn) => {
-            exact_step(h, k.m + 2, mb, beta, hn, remaining)
-        }
-        BasisAnswer::Full(applied, avnorm) => {
-            try_lengths(h, k, beta, avnorm, float::min(next, remaining))
-        }
+        Ok(b) => try_lengths(h, k, beta, b.avnorm, float::min(next, remaining)),
+        Err(e) => exact_step(h, k.m + 2, e.mb, beta, e.hn, remaining),
     }
 }

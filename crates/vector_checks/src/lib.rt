@@ -2,7 +2,7 @@
 #![tactic(auto)]
 
 ghost use Rattle.std.specs.Prelude.{◌≡◌, List, ◌++◌, ◌+◌, ◌*◌, ◌≤◌, length};
-ghost use Rattle.lists.specs.Find.{find};
+ghost use Rattle.lists.specs.Positions.{IsPosition};
 ghost use Rattle.checks.specs.First.{Check, first};
 ghost use Rattle.combination.specs.Checks.{length_checks, not_finite_at, finite_checks, vector_checks_by};
 
@@ -27,27 +27,19 @@ pub fn check_lengths(output: usize, wanted: usize, vectors: usize, expected: usi
     Ok(())
 }
 
-fn first_not_finite(w: &[f64]) -> usize
-    ensures { result ≡ find (not_finite_at w.now) (length w.now) }
+#[tactic(auto, unfolding(combination::specs::Checks::not_finite_at))]
+fn first_not_finite(w: &[f64]) -> Option<usize>
+    ensures { IsPosition (not_finite_at w.now) (length w.now) result }
 {
-    for i in 0..w.len() {
-        if !float::is_finite(w[i]) {
-            return i;
-        }
-    }
-    w.len()
+    w.iter().position(|x| !float::is_finite(*x))
 }
 
 // 17.
 pub fn check_finite(w: &[f64]) -> Checked
     ensures { result ≡ first (finite_checks w.now) }
 {
-    let i = first_not_finite(w);
-    if i < w.len() {
-        return Err(Refusal {
-            reason: Reason::VectorNotFinite,
-            value: w[i],
-        });
+    if let Some(i) = first_not_finite(w) {
+        return Err(Refusal { reason: Reason::VectorNotFinite, value: w[i] });
     }
     Ok(())
 }

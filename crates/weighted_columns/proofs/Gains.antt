@@ -8,7 +8,7 @@ use native.Mathlib.Omega.{arith}
 use lib.Ieee.{Float, nan}
 use lib.Dec.{ltb}
 use borrow.Author.Tests.{lt-ltb, ltb-true}
-use Rattle.lists.specs.Find.{find, exists}
+use Rattle.lists.specs.Find.{exists}
 use Rattle.lists.proofs.Find.{find_ext}
 use Rattle.lists.proofs.Loop.{get_d_tabulate, tabulate_ext}
 use Rattle.doubles.specs.F64.{◌⊗◌, 1f, at}
@@ -21,11 +21,6 @@ use Rattle.combination.specs.Checks.{bad_gain, magnitude_checks}
 use Rattle.weighted_columns.specs.Inner.{powers_of, not_finite_by, power_checks, reversed_by, weights_by, weights}
 use Rattle.weighted_columns.specs.declared.Powers.{Powers}
 use Rattle.weighted_columns.specs.declared.Weights.{Weights}
-
--- a search that ends below n
-pub found_some : (p : ℕ → Bool) (n : ℕ) {i : ℕ} → i ≡ find p n → i < n → exists p n ≡ true
-unfolding exists
-found_some p n {i} e l = rw (← e) (lt-ltb i n l)
 
 -- ---- 21 and 22
 module _ (n : ℕ) (f : List Float) (tau : Float) (d : ℕ) (few : d ≤ 3) where

@@ -1,12 +1,14 @@
 // The weighted columns of a combination: powers of tau, their sum, eta, and what 21 and 22 refuse.
+// The loops are by index: j is the place and tells the vector too, so that an iterator over the places reads no plainer.
 #![tactic(auto)]
 
-ghost use Rattle.std.specs.Prelude.{◌≡◌, List, ◌+◌, ◌*◌, ◌≤◌, length, Float};
-ghost use Rattle.lists.specs.Find.{find};
+ghost use Rattle.std.specs.Prelude.{◌≡◌, List, ◌+◌, ◌*◌, ◌≤◌, length, not, Float};
+ghost use Rattle.std.specs.List.{list_any};
+ghost use Rattle.doubles.specs.F64.{◌⊗◌, is_finite};
 ghost use Rattle.checks.specs.First.{first};
 ghost use Rattle.pow2.specs.Pow2.{sup};
 ghost use Rattle.combination.specs.Combination.{vector, column_places};
-ghost use Rattle.weighted_columns.specs.Inner.{share_of, powers_of, not_finite_by, power_checks, reversed_by, weights_by, weights};
+ghost use Rattle.weighted_columns.specs.Inner.{share_of, powers_of, power_checks, reversed_by, weights_by, weights};
 
 use checks::{Checked, Reason, Refusal};
 use phi_action_helpers::Coupling;
@@ -40,7 +42,7 @@ fn share_of(n: usize, further: &[f64], tau: f64, j: usize, s: f64) -> Share
     }
     let gain = power::power(tau, (j + 1) as u64);
     Share {
-        gain: gain,
+        gain,
         sum: s + gain * w_sup,
     }
 }
@@ -64,23 +66,14 @@ pub fn powers_of(n: usize, further: &[f64], tau: f64, d: usize) -> Powers
         gains[j] = next.gain;
         sum = next.sum;
     }
-    Powers {
-        gains: gains,
-        sum: sum,
-    }
+    Powers { gains, sum }
 }
 
-// The first j whose tau^(j+1) eta is not finite, d if there is none.
-fn first_bad_gain(gains: [f64; 3], d: usize, eta: f64) -> usize
-    requires { d ≤ 3 }
-    ensures { result ≡ find (not_finite_by gains eta) d }
+// Some tau^(j+1) eta is not finite.
+fn has_bad_gain(gains: &[f64], eta: f64) -> bool
+    ensures { result ≡ list_any (λ g. not (is_finite (g ⊗ eta))) gains.now }
 {
-    for j in 0..d {
-        if !float::is_finite(gains[j] * eta) {
-            return j;
-        }
-    }
-    d
+    gains.iter().any(|g| !float::is_finite(*g * eta))
 }
 
 // 21 and 22.
@@ -94,11 +87,8 @@ fn check_magnitude(sum: f64, gains: [f64; 3], d: usize, eta: f64) -> Checked
             value: sum,
         });
     }
-    if first_bad_gain(gains, d, eta) < d {
-        return Err(Refusal {
-            reason: Reason::GainNotFinite,
-            value: float::not_a_number(),
-        });
+    if has_bad_gain(&gains[..d], eta) {
+        return Err(Refusal { reason: Reason::GainNotFinite, value: float::not_a_number() });
     }
     Ok(())
 }
@@ -149,7 +139,7 @@ pub fn weigh_by(n: usize, d: usize, p: Powers, eta: Scaling) -> Weights
     Weights {
         checked: check_magnitude(p.sum, powers, d, eta.eta),
         inv: eta.inv,
-        b: b,
+        b,
     }
 }
 

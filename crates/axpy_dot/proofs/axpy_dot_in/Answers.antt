@@ -1,9 +1,8 @@
 -- `axpy_dot::axpy_dot_in` meets its contract. Assumes nothing.
-use borrow.Author.Rules.{rules}
 use native.Mathlib.Omega.{arith}
 use mathlib.Core.Path.{◌≡◌, ap, ◌∙◌}
 use lib.ListN.{length, take, drop}
-use Prim.Native.Nat.{◌+◌, ◌-◌, ◌*◌, ◌/◌, ◌%◌, ◌≤◌}
+use Prim.Native.Nat.{◌+◌, ◌-◌, ◌*◌, ◌/◌, ◌%◌}
 use Rattle.lists.proofs.Bounds.{within_apart}
 use Rattle.lists.proofs.Window.{part_window, length_window}
 use Rattle.lists.proofs.Loop.{Filled}

@@ -1,5 +1,4 @@
 -- `axpy_dot::axpy_dot_pair` meets its contract. Assumes nothing.
-use borrow.Author.Rules.{rules}
 use native.Mathlib.Omega.{arith}
 use lib.ListN.{length-set}
 use Rattle.axpy_dot.proofs.axpy_dot_pair.Goals as goal

@@ -1,9 +1,9 @@
 -- `axpy_dot::axpy_dot_pairs` meets its contract. Assumes nothing.
 use native.Mathlib.Omega.{arith}
 use mathlib.Core.Path.{◌≡◌, ◌∙◌}
-use Prim.Native.Nat.{◌+◌, ◌-◌, ◌*◌, ◌≤◌}
-use Rattle.lists.proofs.Loop.{Filled, started}
-use Rattle.dot.proofs.Blocks.{sum_at, product_at, products, product_here, product_next, pair_filled, pair_at, pair_none, pair_turn, pair_lanes, ended}
+use Prim.Native.Nat.{◌*◌}
+use Rattle.lists.proofs.Loop.{started}
+use Rattle.dot.proofs.Blocks.{product_at, products, product_here, product_next, pair_filled, pair_none, pair_turn, pair_lanes, ended}
 use Rattle.axpy_dot.proofs.axpy_dot_pairs.Goals as goal
 
 pub loop-b-init : goal.loop-b-init

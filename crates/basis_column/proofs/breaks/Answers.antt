@@ -7,10 +7,10 @@ pub returns-then-j-l : goal.returns-then-j-l
 unfolding broken
 returns-then-j-l c = λ b starts cols entries vectors. rw (← c.max.ensures, c.if-hn-max.true, eq-eqb _ _ c.if-j-l.true)
 
-pub returns-then-hn-max : goal.returns-then-hn-max
+pub returns-else-j-l : goal.returns-else-j-l
 unfolding broken
-returns-then-hn-max c = λ b starts cols entries vectors. rw (← c.max.ensures, c.if-hn-max.true, ne_eqb _ _ c.if-j-l.false)
+returns-else-j-l c = λ b starts cols entries vectors. rw (← c.max.ensures, c.if-hn-max.true, ne_eqb _ _ c.if-j-l.false)
 
-pub returns : goal.returns
+pub returns-else-hn-max : goal.returns-else-hn-max
 unfolding broken
-returns c = λ b starts cols entries vectors. rw (← c.max.ensures, c.if-hn-max.false)
+returns-else-hn-max c = λ b starts cols entries vectors. rw (← c.max.ensures, c.if-hn-max.false)

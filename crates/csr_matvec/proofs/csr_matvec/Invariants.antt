@@ -10,7 +10,4 @@ use Rattle.csr_matvec.proofs.csr_matvec.Given as goal
 
 abbrev pub invariant-loop-i : goal.invariant-loop-i
 invariant-loop-i l =
-    (l.i ≤ l.n) × Filled 0 l.i (λ k. row_product l.cols l.vals l.src (get_or l.starts k 0) (get_or l.starts (k + 1) 0)) l.initial.dst l.dst × (l.from ≡ get_or l.starts l.i 0)
-
-abbrev pub decreases-loop-i : goal.decreases-loop-i
-decreases-loop-i l = l.n - l.i
+    Filled 0 l.i (λ k. row_product l.cols l.vals l.src (get_or l.starts k 0) (get_or l.starts (k + 1) 0)) l.initial.dst l.dst × (l.from ≡ get_or l.starts l.i 0)

@@ -1,24 +1,13 @@
 -- `csr_shift::midpoint` meets its contract. Assumes nothing.
 use native.Mathlib.Omega.{arith}
-use borrow.Author.Rules.{rules}
-use Prim.Native.Nat.{◌-◌, ◌≤◌}
 use mathlib.Core.Path.{◌≡◌, sym, ◌∙◌}
-use lib.Ieee.{nan_bits}
+use lib.Ieee.{div, neg, of_bits}
 use Rattle.lists.proofs.Loop.{iter_none, iter_turn}
-use Rattle.general_operator.specs.Csr.{csr}
-use Rattle.csr_shift.specs.Shift.{generator_row, high, low, midpoint}
+use Rattle.csr_shift.specs.Shift.{high, low, midpoint}
 use Rattle.csr_shift.proofs.midpoint.Goals as goal
 
-pub float_from_bits-high : goal.float_from_bits-high
-unfolding nan_bits
-float_from_bits-high c = search rules
-
-pub float_from_bits-low : goal.float_from_bits-low
-unfolding nan_bits
-float_from_bits-low c = search rules
-
 pub loop-i-init : goal.loop-i-init
-unfolding high low
+unfolding high low of_bits div neg
 loop-i-init c = (omega arith, sym (iter_none _ _), sym (iter_none _ _))
 
 pub loop-i-preserved : goal.loop-i-preserved

@@ -1,12 +1,8 @@
 -- `csr_shift::midpoint` meets its contract. Assumes nothing.
-use native.Mathlib.Omega.{arith}
-use borrow.Author.Rules.{rules}
 use Prim.Native.Nat.{◌-◌, ◌≤◌}
-use mathlib.Core.Path.{◌≡◌, sym, ◌∙◌}
-use lib.Ieee.{nan_bits}
-use Rattle.lists.proofs.Loop.{iter_none, iter_turn}
+use mathlib.Core.Path.{◌≡◌}
 use Rattle.general_operator.specs.Csr.{csr}
-use Rattle.csr_shift.specs.Shift.{generator_row, high, low, midpoint}
+use Rattle.csr_shift.specs.Shift.{generator_row, high, low}
 use Rattle.csr_shift.proofs.midpoint.Given as goal
 
 abbrev pub invariant-loop-i : goal.invariant-loop-i

@@ -1,21 +1,10 @@
 -- `dense_la::halvings` meets its contract. The loop's invariant: the halvings that are left give the whole. Assumes nothing.
 use Prim.Native.Nat.{◌<◌}
-use native.Mathlib.Omega.{arith}
 use Rattle.dense_la.proofs.Halved.{halved_start, halved_turn, halved_stop, halved_end, halved_whole}
 use Rattle.dense_la.proofs.halvings.Goals as goal
 
 pub loop-scale-init : goal.loop-scale-init
 loop-scale-init c = halved_start c.args.norm
-
-pub overflow_add-squarings : goal.overflow_add-squarings
-overflow_add-squarings c =
-    let more : c.loop-scale.squarings < 1100 = c.if-squarings-lt1100.true in
-    omega (arith, more)
-
-pub loop-scale-smaller : goal.loop-scale-smaller
-loop-scale-smaller c =
-    let more : c.loop-scale.squarings < 1100 = c.if-squarings-lt1100.true in
-    omega (arith, more)
 
 pub loop-scale-preserved : goal.loop-scale-preserved
 loop-scale-preserved c =

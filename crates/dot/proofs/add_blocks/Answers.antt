@@ -18,26 +18,20 @@ unfolding lane
 next l x y from j s {v} e d = sum_turn (from + j) (λ i. at x (4 * i + l) ⊗ at y (4 * i + l)) s v e d ∙ ap (λ m. sum m (λ i. at x (4 * i + l) ⊗ at y (4 * i + l))) (add_assoc from j 1)
 
 pub loop-j-init : goal.loop-j-init
-unfolding lanes
-loop-j-init c =
-    let e = c.requires.acc_value in
-    (omega arith, rw add-zero (ap (λ r. r.acc0) e), rw add-zero (ap (λ r. r.acc1) e), rw add-zero (ap (λ r. r.acc2) e), rw add-zero (ap (λ r. r.acc3) e))
+loop-j-init c = rw add-zero c.requires.acc_value
 
 pub loop-j-preserved : goal.loop-j-preserved
-unfolding lane
+unfolding lanes
 loop-j-preserved c =
     let a = c.args in
-    let inv = c.loop-j.invariant in (
-      omega arith,
-      next 0 a.x.now a.y.now a.from c.loop-j.j _ inv.1 (c.term-acc0.ensures ∙ rw add-zero),
-      next 1 a.x.now a.y.now a.from c.loop-j.j _ inv.2 c.term-acc1.ensures,
-      next 2 a.x.now a.y.now a.from c.loop-j.j _ inv.3 c.term-acc2.ensures,
-      next 3 a.x.now a.y.now a.from c.loop-j.j _ inv.4 c.term-acc3.ensures,
-    )
+    let e = c.loop-j.invariant in
+    let zero = next 0 a.x.now a.y.now a.from c.loop-j.j _ (ap (λ r. r.acc0) e) (c.term.ensures ∙ rw add-zero) in
+    let one = next 1 a.x.now a.y.now a.from c.loop-j.j _ (ap (λ r. r.acc1) e) c.term-in-loop-j.ensures in
+    let two = next 2 a.x.now a.y.now a.from c.loop-j.j _ (ap (λ r. r.acc2) e) c.term-in-loop-j-2.ensures in
+    let three = next 3 a.x.now a.y.now a.from c.loop-j.j _ (ap (λ r. r.acc3) e) c.term-in-loop-j-3.ensures in
+    λ i. record { acc0 = zero i; acc1 = one i; acc2 = two i; acc3 = three i }
 
 pub returns : goal.returns
-unfolding lanes
 returns c =
     let e : c.loop-j.j ≡ c.args.count = omega arith in
-    let inv = rw e at c.loop-j.invariant in
-    λ i. record { acc0 = inv.1 i; acc1 = inv.2 i; acc2 = inv.3 i; acc3 = inv.4 i }
+    rw e at c.loop-j.invariant

@@ -2,7 +2,6 @@
 use native.Mathlib.Omega.{arith}
 use mathlib.Core.Path.{refl, sym, ap, ◌∙◌}
 use Prim.Native.Nat.{◌+◌}
-use Rattle.lists.proofs.Frame.{kept_all}
 use Rattle.lists.proofs.Window.{part_window}
 use Rattle.pow2.specs.Pow2.{pow2_scale}
 use Rattle.krylov_advance.specs.Run.{expv, expv_by, idle}
@@ -18,20 +17,16 @@ overflow_add-end-2 c = omega (arith, c.requires.room.then_av, c.requires.room.la
 pub slice_bounds-pow2_scale-end : goal.slice_bounds-pow2_scale-end
 slice_bounds-pow2_scale-end c = omega (arith, c.requires.room.then_av, c.requires.room.laid.av_in)
 
-pub returns-in-None : goal.returns-in-None
+pub returns-in_default-clause-work_after : goal.returns-in_default-clause-work_after
 unfolding expv expv_by idle end_at
-returns-in-None c =
+returns-in_default-clause-work_after c =
     let a = c.args in
-    let p = sym (c.pow2_scale-scale.ensures ∙ ap pow2_scale (part_window a.k.y (a.l.n + a.l.d) a.work.now)) ∙ c.in-None.is in
-    record { work_after = rw p refl; kept = kept_all _ _ _ _ }
+    let p = sym (c.pow2_scale.ensures ∙ ap pow2_scale (part_window a.k.y (a.l.n + a.l.d) a.work.now)) ∙ c.in_default.is in
+    rw p refl
 
-pub shape_of-work-in-By : goal.shape_of-work-in-By
-shape_of-work-in-By c = c.scaled_run.ensures.kept.long
-
-pub returns-in-By : goal.returns-in-By
+pub returns-clause-work_after : goal.returns-clause-work_after
 unfolding expv
-returns-in-By c =
-    let r = c.scaled_run.ensures in
+returns-clause-work_after c =
     let a = c.args in
-    let p = sym (c.pow2_scale-scale.ensures ∙ ap pow2_scale (part_window a.k.y (a.l.n + a.l.d) a.work.now)) ∙ c.in-By.is in
-    record { work_after = rw p r.work_after; kept = r.kept }
+    let p = sym (c.pow2_scale.ensures ∙ ap pow2_scale (part_window a.k.y (a.l.n + a.l.d) a.work.now)) ∙ c.in-Some.is in
+    rw p c.scaled_run.ensures.work_after

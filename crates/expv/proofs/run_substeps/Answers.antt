@@ -28,37 +28,37 @@ over l k (On c r) w t h = absurd (t c r refl)
 over l k (Finished c r) w t h = left_out h _ refl
 over l k (Refused n c r) w t h = left_out h _ refl
 
-pub loop-i-init : goal.loop-i-init
+pub loop-init : goal.loop-init
 unfolding progress_at
-loop-i-init c =
+loop-init c =
     let p = c.requires.m_bound in (omega arith, (omega (arith, p.2), omega (arith, p.3), omega (arith, p.4)), kept_all _ _ _ _, left_start _ _ _)
 
 pub shape_of-work-in_default : goal.shape_of-work-in_default
-shape_of-work-in_default c = c.loop-i.invariant.2.long
+shape_of-work-in_default c = c.loop.invariant.2.long
 
 pub returns-in_default : goal.returns-in_default
 unfolding progress_at
-returns-in_default c = record { work_after = over c.args.l c.args.k c.loop-i.o c.loop-i.work c.in_default.not-On c.loop-i.invariant.3; kept = c.loop-i.invariant.2 }
+returns-in_default c = record { work_after = over c.args.l c.args.k c.loop.o c.loop.work c.in_default.not-On c.loop.invariant.3; kept = c.loop.invariant.2 }
 
 pub substep-o-requires : goal.substep-o-requires
 substep-o-requires c =
     let p = c.requires in
-    let f = subst (Moderate c.loop-i.i) c.in-On.is c.loop-i.invariant.1 in
-    record { room = room_kept _ _ _ c.loop-i.invariant.2 p.room; m_bound = (p.m_bound.0, omega (arith, f.0, p.m_bound.1), omega (arith, f.1, p.m_bound.1), omega (arith, f.2, p.m_bound.1)) }
+    let f = subst (Moderate c.loop.counter) c.in-On.is c.loop.invariant.1 in
+    record { room = room_kept _ _ _ c.loop.invariant.2 p.room; m_bound = (p.m_bound.0, omega (arith, f.0, p.m_bound.1), omega (arith, f.1, p.m_bound.1), omega (arith, f.2, p.m_bound.1)) }
 
-pub loop-i-preserved : goal.loop-i-preserved
-loop-i-preserved c =
+pub loop-preserved : goal.loop-preserved
+loop-preserved c =
     let a = c.args in
     let p = c.requires in
-    let f = subst (Moderate c.loop-i.i) c.in-On.is c.loop-i.invariant.1 in
+    let f = subst (Moderate c.loop.counter) c.in-On.is c.loop.invariant.1 in
     let g = c.substep-o.ensures in
-    let e = values_kept a.l.mass a.l.q a.vals.now a.work.now c.loop-i.work c.loop-i.invariant.2 in
+    let e = values_kept a.l.mass a.l.q a.vals.now a.work.now c.loop.work c.loop.invariant.2 in
     let t = rw e at g.work_after in
-    (omega arith, moderate_turn a.l a.k _ c.loop-i.i _ _ c.loop-i.work _ _ p.m_bound.0 f t, kept_on c.loop-i.invariant.2 g.kept, left_turn c.loop-i.invariant.3 _ _ (omega arith) (seen_on a.l a.k _ _ _ _ c.in-On.is) t)
+    (omega arith, moderate_turn a.l a.k _ c.loop.counter _ _ c.loop.work _ _ p.m_bound.0 f t, kept_on c.loop.invariant.2 g.kept, left_turn c.loop.invariant.3 _ _ (omega arith) (seen_on a.l a.k _ _ _ _ c.in-On.is) t)
 
 pub shape_of-work : goal.shape_of-work
-shape_of-work c = c.loop-i.invariant.2.long
+shape_of-work c = c.loop.invariant.2.long
 
 pub returns : goal.returns
 unfolding progress_at
-returns c = record { work_after = left_none c.loop-i.invariant.3 (omega arith); kept = c.loop-i.invariant.2 }
+returns c = record { work_after = left_none c.loop.invariant.3 (omega arith); kept = c.loop.invariant.2 }

@@ -9,9 +9,6 @@ use Rattle.krylov_advance.specs.Run.{substep}
 use Rattle.krylov_advance.specs.Memory.{progress_at, Moderate}
 use Rattle.expv.proofs.run_substeps.Given as goal
 
-abbrev pub invariant-loop-i : goal.invariant-loop-i
-invariant-loop-i l =
-    (l.i ≤ l.limit) × Moderate l.i l.o × Kept 0 l.l.q +0 l.initial.work l.work × Left (λ _. substep (setting_at l.l l.b l.k (matrix_at l.l l.starts l.cols l.vals l.initial.work) l.vectors)) l.limit l.i (progress_at l.l l.k l.initial.o l.initial.work) (progress_at l.l l.k l.o l.work)
-
-abbrev pub decreases-loop-i : goal.decreases-loop-i
-decreases-loop-i l = l.limit - l.i
+abbrev pub invariant-loop : goal.invariant-loop
+invariant-loop l =
+    (l.counter ≤ l.limit) × Moderate l.counter l.o × Kept 0 l.l.q +0 l.initial.work l.work × Left (λ _. substep (setting_at l.l l.b l.k (matrix_at l.l l.starts l.cols l.vals l.initial.work) l.vectors)) l.limit l.counter (progress_at l.l l.k l.initial.o l.initial.work) (progress_at l.l l.k l.o l.work)

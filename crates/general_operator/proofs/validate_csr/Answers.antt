@@ -9,16 +9,18 @@ pub returns-in_err-check_shape : goal.returns-in_err-check_shape
 unfolding matrix_checks
 returns-in_err-check_shape c = rw (passed_on c.from_residual.ensures.1) (refused_up _ _ refl c.in_err-check_shape.ensures)
 
-pub check_rows-requires : goal.check_rows-requires
-check_rows-requires c = search (shape_rows, c.in_ok-check_shape.ensures)
-
 pub returns-in_err-check_rows : goal.returns-in_err-check_rows
 unfolding matrix_checks
-returns-in_err-check_rows c = rw (passed_on c.from_residual-in_err-check_rows.ensures.1) (sound_on _ _ refl c.in_ok-check_shape.ensures (refused_up _ _ refl c.in_err-check_rows.ensures))
+returns-in_err-check_rows c =
+    let rows = rw (shape_rows _ _ _ _ refl c.in_ok-check_shape.ensures) at c.in_err-check_rows.ensures in
+    rw (passed_on c.from_residual-in_err-check_rows.ensures.1)
+    (sound_on _ _ refl c.in_ok-check_shape.ensures (refused_up _ _ refl rows))
 
 pub check_entries-requires : goal.check_entries-requires
 check_entries-requires c = search (shape_paired, c.in_ok-check_shape.ensures)
 
 pub returns : goal.returns
 unfolding matrix_checks
-returns c = search (sound_on, c.in_ok-check_shape.ensures, c.in_ok-check_rows.ensures, c.check_entries.ensures)
+returns c =
+    let rows = rw (shape_rows _ _ _ _ refl c.in_ok-check_shape.ensures) at c.in_ok-check_rows.ensures in
+    sound_on _ _ refl c.in_ok-check_shape.ensures (sound_on _ _ refl rows c.check_entries.ensures)

@@ -1,5 +1,4 @@
 -- `generator_checks::check_generator` meets its contract. Assumes nothing.
-use borrow.Author.Rules.{rules}
 use native.Mathlib.Omega.{arith}
 use mathlib.Core.Path.{sym, ◌∙◌}
 use Rattle.checks.proofs.First.{passed_on}

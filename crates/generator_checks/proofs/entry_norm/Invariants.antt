@@ -1,12 +1,7 @@
 -- `generator_checks::entry_norm` meets its contract. Assumes nothing.
-use native.Mathlib.Omega.{arith}
-use Prim.Native.Nat.{◌+◌, ◌-◌, ◌≤◌}
-use Rattle.general_operator.specs.Csr.{csr, row_sum}
-use Rattle.general_operator.proofs.Rows.{row_within}
-use Rattle.generator_action.proofs.Leading.{Leading, leading_start, leading_turn, leading_end}
-use Rattle.generator_action.proofs.Ways.{answered_refusal, answered_norm, refused_norm, sound_norm, entries_nonneg}
-use mathlib.Core.Path.{ap}
-use mathlib.Core.Bool.{not}
+use Prim.Native.Nat.{◌-◌, ◌≤◌}
+use Rattle.general_operator.specs.Csr.{csr}
+use Rattle.generator_action.proofs.Leading.{Leading}
 use Rattle.generator_checks.proofs.entry_norm.Given as goal
 
 abbrev pub invariant-loop-row : goal.invariant-loop-row

@@ -1,16 +1,9 @@
 -- `generator_checks::quotient_norm` meets its contract. Assumes nothing.
-use native.Mathlib.Omega.{arith}
-use mathlib.Core.Path.{sym, ap, ◌∙◌}
-use mathlib.Core.Bool.{not}
-use Prim.Native.Nat.{◌+◌, ◌-◌, ◌≤◌}
-use Rattle.lists.proofs.Find.{Passed, passed_start, passed_next}
-use Rattle.doubles.specs.F64.{is_finite}
+use Prim.Native.Nat.{◌-◌, ◌≤◌}
+use Rattle.lists.proofs.Find.{Passed}
 use Rattle.general_operator.specs.Csr.{csr}
-use Rattle.general_operator.proofs.Rows.{row_within}
 use Rattle.generator_action.specs.Mass.{normalise, bad_sum}
-use Rattle.generator_action.proofs.Quotients.{row_sum_normalise}
-use Rattle.generator_action.proofs.Leading.{Leading, leading_start, leading_turn, leading_end}
-use Rattle.generator_action.proofs.Ways.{answered_refusal, answered_norm, refused_sum, sound_sums, quotients_nonneg}
+use Rattle.generator_action.proofs.Leading.{Leading}
 use Rattle.generator_checks.proofs.quotient_norm.Given as goal
 
 abbrev pub invariant-loop-i : goal.invariant-loop-i

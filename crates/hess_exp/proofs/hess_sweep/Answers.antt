@@ -6,7 +6,6 @@ use mathlib.Core.Path.{◌≡◌, sym, ap, ◌∙◌}
 use lib.ListN.{length}
 use Rattle.lists.specs.Loop.{iter}
 use Rattle.lists.proofs.Loop.{iter_none, iter_turn}
-use Rattle.lists.proofs.Window.{copy_whole}
 use Rattle.hess_exp.specs.HessExp.{Terms, term_step, hess_sweep}
 use Rattle.hess_exp.specs.Parts.{terms}
 use Rattle.hess_exp.proofs.hess_sweep.Goals as goal
@@ -21,6 +20,4 @@ pub returns : goal.returns
 unfolding hess_sweep
 returns c =
     let e : c.loop-k.k ≡ c.args.deg = omega arith in
-    let p = c.requires.y_len in
-    let copied = c.copy_from.ensures ∙ copy_whole _ _ _ p.0 p.1 in
-    ap (λ (t : Terms). t.y) (rw (e, copied) at c.loop-k.invariant.1)
+    ap (λ (t : Terms). t.y) (rw (e, c.copy_from_slice.ensures.after) at c.loop-k.invariant.1)

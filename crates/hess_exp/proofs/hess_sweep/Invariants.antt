@@ -6,7 +6,6 @@ use mathlib.Core.Path.{◌≡◌, sym, ap, ◌∙◌}
 use lib.ListN.{length}
 use Rattle.lists.specs.Loop.{iter}
 use Rattle.lists.proofs.Loop.{iter_none, iter_turn}
-use Rattle.lists.proofs.Window.{copy_whole}
 use Rattle.hess_exp.specs.HessExp.{Terms, term_step, hess_sweep}
 use Rattle.hess_exp.specs.Parts.{terms}
 use Rattle.hess_exp.proofs.hess_sweep.Given as goal

@@ -1,5 +1,4 @@
 -- `hess_product::put_four` meets its contract. Assumes nothing.
-use borrow.Author.Rules.{rules}
 use native.Mathlib.Omega.{arith}
 use lib.ListN.{length-set}
 use Rattle.hess_product.proofs.put_four.Goals as goal

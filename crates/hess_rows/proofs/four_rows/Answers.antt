@@ -3,32 +3,23 @@ use native.Mathlib.Omega.{arith}
 use Prim.Native.Nat.{◌+◌, ◌*◌, ◌≤◌}
 use mathlib.Core.Path.{◌≡◌, refl, ◌∙◌}
 use lib.ListN.{length}
-use Rattle.hess_rows.proofs.Rows.{fewer, four_within, four_turn}
+use Rattle.lists.proofs.Folds.{length_part}
+use Rattle.hess_rows.proofs.Rows.{fewer, four_more}
 use Rattle.hess_rows.proofs.four_rows.Goals as goal
 
 pub four_starts-s-requires : goal.four_starts-s-requires
 four_starts-s-requires c = record { leading = fewer c.requires.leading _ (omega arith); r_bound = (omega arith, omega arith) }
 
-pub loop-j-init : goal.loop-j-init
-loop-j-init c = (omega arith, omega arith, c.four_starts-s.ensures)
+pub loop-k-init : goal.loop-k-init
+loop-k-init c =
+    let e : c.args.r + 3 + 0 ≡ c.args.r + 3 = omega arith in
+    rw e c.four_starts-s.ensures
 
-pub overflow_mul-j : goal.overflow_mul-j
-overflow_mul-j c =
-    let inside : (let a = c.args in c.loop-j.j * a.dim + a.r + 4 ≤ length a.h.now) = four_within c.requires.leading c.args.r c.loop-j.j (omega arith) (omega arith) in
-    omega (arith, inside)
-
-pub overflow_add-j : goal.overflow_add-j
-overflow_add-j c =
-    let inside : (let a = c.args in c.loop-j.j * a.dim + a.r + 4 ≤ length a.h.now) = four_within c.requires.leading c.args.r c.loop-j.j (omega arith) (omega arith) in
-    omega (arith, inside)
-
-pub add_four-s-requires : goal.add_four-s-requires
-add_four-s-requires c =
-    let inside : (let a = c.args in c.loop-j.j * a.dim + a.r + 4 ≤ length a.h.now) = four_within c.requires.leading c.args.r c.loop-j.j (omega arith) (omega arith) in
-    inside
-
-pub loop-j-preserved : goal.loop-j-preserved
-loop-j-preserved c = (omega arith, omega arith, c.add_four-s.ensures ∙ four_turn _ _ _ _ _ _ c.loop-j.invariant.0 _ refl c.loop-j.invariant.2)
+pub loop-k-preserved : goal.loop-k-preserved
+loop-k-preserved c = c.add_four-s.ensures ∙ four_more _ _ _ _ _ _ _ _ _ (omega arith) c.loop-k-test.true (omega arith) refl c.loop-k.invariant
 
 pub returns : goal.returns
-returns c = let e : c.loop-j.j ≡ c.args.to = omega arith in rw e at c.loop-j.invariant.2
+returns c =
+    let a = c.args in
+    let e : a.r + 3 + c.loop-k.k ≡ a.to = omega (arith, length_part (a.r + 3) a.to a.w.now (omega arith)) in
+    rw e at c.loop-k.invariant

@@ -1,40 +1,29 @@
 -- `hess_rows::row_part` meets its contract. Assumes nothing.
 use native.Mathlib.Omega.{arith}
-use Prim.Native.Nat.{◌+◌, ◌-◌, ◌*◌, ◌<◌}
+use Prim.Native.Nat.{◌+◌, ◌-◌, ◌*◌, ◌<◌, ◌≤◌}
 use mathlib.Core.Path.{◌≡◌, sym, ◌∙◌}
 use lib.ListN.{length}
 use Rattle.lists.proofs.Bounds.{cell_within}
-use Rattle.hess_rows.proofs.Rows.{part_none, part_turn}
+use Rattle.lists.proofs.Folds.{length_part}
+use Rattle.hess_rows.proofs.Rows.{part_none, part_more, row_within}
 use Rattle.hess_rows.proofs.row_part.Goals as goal
 
 pub left_product-s-requires : goal.left_product-s-requires
 left_product-s-requires c = λ l. omega (arith, cell_within (c.args.r - 1) c.args.to c.args.dim c.args.r (omega arith) (omega arith), c.requires.leading.down)
 
-pub loop-j-init : goal.loop-j-init
-loop-j-init c = (omega arith, omega arith, c.left_product-s.ensures ∙ sym (part_none _ _ _ _ _))
+pub loop-k-init : goal.loop-k-init
+loop-k-init c =
+    let e : c.args.r + 0 ≡ c.args.r = omega arith in
+    rw e (c.left_product-s.ensures ∙ sym (part_none _ _ _ _ _))
 
-pub overflow_mul-s : goal.overflow_mul-s
-overflow_mul-s c =
-    let inside : (let a = c.args in c.loop-j.j * a.dim + a.r < length a.h.now) = omega (arith, cell_within c.loop-j.j c.args.to c.args.dim c.args.r (omega arith) (omega arith), c.requires.leading.down) in
-    omega (arith, inside)
+pub bounds-h-r : goal.bounds-h-r
+bounds-h-r c = row_within c.requires.leading c.args.w.now _ _ (omega arith) (omega arith) c.loop-k-test.true
 
-pub overflow_add-s : goal.overflow_add-s
-overflow_add-s c =
-    let inside : (let a = c.args in c.loop-j.j * a.dim + a.r < length a.h.now) = omega (arith, cell_within c.loop-j.j c.args.to c.args.dim c.args.r (omega arith) (omega arith), c.requires.leading.down) in
-    omega (arith, inside)
-
-pub offset_bounds-h-j : goal.offset_bounds-h-j
-offset_bounds-h-j c =
-    let inside : (let a = c.args in c.loop-j.j * a.dim + a.r < length a.h.now) = omega (arith, cell_within c.loop-j.j c.args.to c.args.dim c.args.r (omega arith) (omega arith), c.requires.leading.down) in
-    omega (arith, inside)
-
-pub bounds-h-j : goal.bounds-h-j
-bounds-h-j c =
-    let inside : (let a = c.args in c.loop-j.j * a.dim + a.r < length a.h.now) = omega (arith, cell_within c.loop-j.j c.args.to c.args.dim c.args.r (omega arith) (omega arith), c.requires.leading.down) in
-    inside
-
-pub loop-j-preserved : goal.loop-j-preserved
-loop-j-preserved c = (omega arith, omega arith, part_turn _ _ _ _ _ _ c.loop-j.invariant.0 c.loop-j.invariant.2)
+pub loop-k-preserved : goal.loop-k-preserved
+loop-k-preserved c = part_more _ _ _ _ _ _ _ c.loop-k-test.true (omega arith) c.loop-k.invariant
 
 pub returns : goal.returns
-returns c = let e : c.loop-j.j ≡ c.args.to = omega arith in rw e at c.loop-j.invariant.2
+returns c =
+    let a = c.args in
+    let e : a.r + c.loop-k.k ≡ a.to = omega (arith, length_part a.r a.to a.w.now (omega arith)) in
+    rw e at c.loop-k.invariant

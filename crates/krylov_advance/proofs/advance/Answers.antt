@@ -24,11 +24,11 @@ returns-then-unfinished c =
     let e = c.combine_columns.ensures in
     record { work_after = λ b q vectors. goes_on a.l a.k a.c a.r a.applied a.s a.trial.f a.work.now c.combine_columns.new.work (omega (arith, p.0, p.4)) p.1 p.3 e (setting_at a.l b a.k q vectors) _ _ _ c.next_length.ensures (c.norm2.ensures ∙ ap norm2 (part_window _ _ _)) c.max-err.ensures c.counted-report.ensures (sym (c.unfinished.ensures _ _) ∙ c.if-unfinished.true); kept = step_kept a.l a.k a.c a.r a.applied a.s a.trial.f a.work.now c.combine_columns.new.work (omega (arith, p.0, p.4)) p.1 p.3 e a.l.q p.2 }
 
-pub shape_of-work : goal.shape_of-work
-shape_of-work c = ap length c.combine_columns.ensures ∙ length_splice _ _ _
+pub shape_of-work-else-unfinished : goal.shape_of-work-else-unfinished
+shape_of-work-else-unfinished c = ap length c.combine_columns.ensures ∙ length_splice _ _ _
 
-pub returns : goal.returns
-returns c =
+pub returns-else-unfinished : goal.returns-else-unfinished
+returns-else-unfinished c =
     let a = c.args in
     let p = c.requires.count_bound in
     let e = c.combine_columns.ensures in

@@ -8,6 +8,6 @@ pub returns-then-substeps-eq0 : goal.returns-then-substeps-eq0
 unfolding shorter
 returns-then-substeps-eq0 c = rw (eq-eqb _ _ c.if-substeps-eq0.true) refl
 
-pub returns : goal.returns
+pub returns-else-substeps-eq0 : goal.returns-else-substeps-eq0
 unfolding shorter
-returns c = rw (ne_eqb _ _ c.if-substeps-eq0.false, c.min.ensures) refl
+returns-else-substeps-eq0 c = rw (ne_eqb _ _ c.if-substeps-eq0.false, c.min.ensures) refl

@@ -11,4 +11,4 @@ returns c =
     let e = c.powers_of-p.ensures in
     let r = c.admit_weighed.ensures _ (c.weigh_by-weights.ensures _ _ e) in
     r
-    ∙ ap (λ (s : Scaling). run_job_by a.g a.tau a.d a.further.now s a.o a.m a.memory) (c.scaling_by-scaling.ensures ∙ ap (λ (p : Powers). scaling_by a.eta p.sum) e)
+    ∙ ap (λ (s : Scaling). run_job_by a.g a.tau a.d a.further.now s a.o a.m a.memory) (c.scaling_by-scaling.ensures ∙ ap (λ (p : Powers). scaling_by a.began p.sum) e)

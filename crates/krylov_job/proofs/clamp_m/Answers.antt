@@ -1,15 +1,10 @@
 -- `krylov_job::clamp_m` meets its contract. Assumes nothing.
-use Rattle.krylov_job.proofs.Places.{clamp_low, clamp_short, clamp_in, clamp_high}
+use mathlib.Core.Path.{ap, ◌∙◌}
+use Prim.Native.Nat.{ℕ, min, max}
+use Rattle.krylov_job.proofs.Places.{clamp_is}
 use Rattle.krylov_job.proofs.clamp_m.Goals as goal
 
-pub returns-then-m-lt2 : goal.returns-then-m-lt2
-returns-then-m-lt2 c = search clamp_low
-
-pub returns-then-len-lt2 : goal.returns-then-len-lt2
-returns-then-len-lt2 c = search clamp_short
-
-pub returns-then-m-len : goal.returns-then-m-len
-returns-then-m-len c = search clamp_in
-
 pub returns : goal.returns
-returns c = search clamp_high
+returns c =
+    let a = c.args in
+    c.clamp.ensures ∙ ap (λ (high : ℕ). max 2 (min a.m high)) c.max.ensures ∙ clamp_is a.m a.len

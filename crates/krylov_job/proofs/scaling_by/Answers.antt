@@ -3,10 +3,10 @@ use mathlib.Core.Path.{refl}
 use Rattle.krylov_job.specs.Inner.{scaling_by}
 use Rattle.krylov_job.proofs.scaling_by.Goals as goal
 
-pub returns-in-Own : goal.returns-in-Own
+pub returns-in-None : goal.returns-in-None
 unfolding scaling_by
-returns-in-Own c = rw c.in-Own.is c.eta_scaling.ensures
+returns-in-None c = rw c.in-None.is c.eta_scaling.ensures
 
-pub returns-in-Began : goal.returns-in-Began
+pub returns-in-Some : goal.returns-in-Some
 unfolding scaling_by
-returns-in-Began c = rw c.in-Began.is refl
+returns-in-Some c = rw c.in-Some.is refl

@@ -6,7 +6,4 @@ use Rattle.le_bytes.specs.Bytes.{double_at, doubles_of}
 use Rattle.le_bytes.proofs.unpack_doubles.Given as goal
 
 abbrev pub invariant-loop-k : goal.invariant-loop-k
-invariant-loop-k l = (l.k ≤ l.k-end) × Filled 0 l.k (λ j. double_at l.src (8 * j)) l.initial.dst l.dst
-
-abbrev pub decreases-loop-k : goal.decreases-loop-k
-decreases-loop-k l = l.k-end - l.k
+invariant-loop-k l = Filled 0 l.k (λ j. double_at l.src (8 * j)) l.initial.dst l.dst

@@ -6,11 +6,11 @@ use Rattle.le_bytes.specs.Bytes.{word, words_of}
 use Rattle.le_bytes.proofs.unpack_words.Goals as goal
 
 pub loop-k-init : goal.loop-k-init
-loop-k-init c = (omega arith, started _ _ _)
+loop-k-init c = started _ _ _
 
 pub loop-k-preserved : goal.loop-k-preserved
-loop-k-preserved c = (omega arith, turned₀ c.loop-k.invariant.1 c.word_at.ensures)
+loop-k-preserved c = turned₀ c.loop-k.invariant c.word_at.ensures
 
 pub returns : goal.returns
 unfolding words_of
-returns c = finished_all c.loop-k.invariant.1 _ (omega arith) (omega arith) (omega arith)
+returns c = finished_all c.loop-k.invariant _ (omega arith) (omega arith) (omega arith)

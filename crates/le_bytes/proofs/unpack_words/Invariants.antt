@@ -6,7 +6,4 @@ use Rattle.le_bytes.specs.Bytes.{word, words_of}
 use Rattle.le_bytes.proofs.unpack_words.Given as goal
 
 abbrev pub invariant-loop-k : goal.invariant-loop-k
-invariant-loop-k l = (l.k ≤ l.k-end) × Filled 0 l.k (λ j. word l.src (8 * j)) l.initial.dst l.dst
-
-abbrev pub decreases-loop-k : goal.decreases-loop-k
-decreases-loop-k l = l.k-end - l.k
+invariant-loop-k l = Filled 0 l.k (λ j. word l.src (8 * j)) l.initial.dst l.dst

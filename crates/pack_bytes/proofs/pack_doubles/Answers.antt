@@ -8,17 +8,17 @@ use Rattle.le_bytes.proofs.Over.{byte_of, next}
 use Rattle.pack_bytes.proofs.pack_doubles.Goals as goal
 
 pub loop-k-init : goal.loop-k-init
-loop-k-init c = (omega arith, started _ _ _)
+loop-k-init c = started _ _ _
 
 pub put-requires : goal.put-requires
-put-requires c = omega (arith, c.loop-k.invariant.1.long)
+put-requires c = omega (arith, c.loop-k.invariant.long)
 
 pub loop-k-preserved : goal.loop-k-preserved
-loop-k-preserved c = (omega arith, next c.args.src.now _ _ _ _ c.loop-k.invariant.1 refl c.put.ensures)
+loop-k-preserved c = next c.args.src.now _ _ _ _ c.loop-k.invariant refl c.put.ensures
 
 pub shape_of-dst : goal.shape_of-dst
-shape_of-dst c = c.loop-k.invariant.1.long
+shape_of-dst c = c.loop-k.invariant.long
 
 pub returns : goal.returns
 unfolding written_over
-returns c = finished c.loop-k.invariant.1 _ (omega arith) (omega arith)
+returns c = finished c.loop-k.invariant _ (omega arith) (omega arith)

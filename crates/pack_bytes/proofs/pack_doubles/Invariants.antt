@@ -8,7 +8,4 @@ use Rattle.le_bytes.proofs.Over.{byte_of, next}
 use Rattle.pack_bytes.proofs.pack_doubles.Given as goal
 
 abbrev pub invariant-loop-k : goal.invariant-loop-k
-invariant-loop-k l = (l.k ≤ l.k-end) × Filled 0 (8 * l.k) (byte_of l.src l.initial.dst) l.initial.dst l.dst
-
-abbrev pub decreases-loop-k : goal.decreases-loop-k
-decreases-loop-k l = l.k-end - l.k
+invariant-loop-k l = Filled 0 (8 * l.k) (byte_of l.src l.initial.dst) l.initial.dst l.dst

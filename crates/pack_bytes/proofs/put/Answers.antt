@@ -5,20 +5,16 @@ use Prim.Native.Nat.{◌-◌, ◌*◌, ◌/◌, ◌%◌, ◌^◌, ◌≤◌}
 use mathlib.Core.Path.{refl}
 use Rattle.lists.proofs.Loop.{Filled, started, turned, finished}
 use Rattle.le_bytes.proofs.Over.{left, put}
+use mathlib.Core.Path.{◌∙◌}
+use Prim.Native.Nat.{◌*◌, ◌/◌, ◌^◌, ◌%◌}
+use Rattle.le_bytes.proofs.Written.{eight_bytes, copied}
 use Rattle.pack_bytes.proofs.put.Goals as goal
 
 pub returns-then-stays : goal.returns-then-stays
 returns-then-stays c = left c.args.x _ c.args.p (omega arith) c.stays.ensures c.if-stays.true
 
-pub loop-j-init : goal.loop-j-init
-loop-j-init c = (omega arith, started _ _ _)
-
-pub loop-j-preserved : goal.loop-j-preserved
-loop-j-preserved c = (omega arith, turned c.loop-j.invariant.1 refl)
-
-pub shape_of-dst : goal.shape_of-dst
-shape_of-dst c = c.loop-j.invariant.1.long
-
 pub returns : goal.returns
 returns c =
-    put c.args.x _ c.args.p c.pattern-w.result c.stays.ensures c.if-stays.false c.pattern-w.ensures (finished c.loop-j.invariant.1 8 (omega arith) (omega arith))
+    let w = c.pattern-w.result in
+    put c.args.x _ c.args.p w c.stays.ensures c.if-stays.false c.pattern-w.ensures
+    (copied c.args.p 8 (λ j. w / 2 ^ (8 * j) % 256) _ _ (omega arith) c.copy_from_slice.ensures.len (c.copy_from_slice.ensures.after ∙ c.to_le_bytes.ensures ∙ eight_bytes w))

@@ -1,6 +1,5 @@
 -- `phi_action_helpers::aug_matvec` meets its contract. Assumes nothing.
 use native.Mathlib.Omega.{arith}
-use borrow.Author.Rules.{rules}
 use lib.ListN.{length-take, length-drop}
 use Rattle.lists.proofs.Window.{part_window}
 use Rattle.csr_matvec.proofs.Values.{not_scaled}

@@ -1,5 +1,4 @@
 -- `phi_action_helpers::aug_product` meets its contract. Assumes nothing.
-use borrow.Author.Rules.{rules}
 use native.Mathlib.Omega.{arith}
 use Rattle.lists.proofs.Window.{part_window}
 use Rattle.csr_matvec.proofs.Values.{stored_behind}

@@ -1,13 +1,12 @@
 -- `phi_action_helpers::chain_in` meets its contract. Assumes nothing.
 use native.Mathlib.Omega.{arith}
-use Prim.Native.Nat.{◌+◌, ◌-◌, ◌≤◌}
+use Prim.Native.Nat.{◌+◌, ◌≤◌}
 use mathlib.Core.Path.{◌∙◌}
 use lib.ListN.{length}
 use lib.Ieee.{nan}
-use Rattle.lists.specs.Window.{window}
 use Rattle.lists.proofs.Window.{part_window, length_window}
-use Rattle.lists.proofs.Loop.{Filled, started, turned, finished, read_window}
-use Rattle.phi_action_helpers.specs.Augmented.{chain_term, bottom}
+use Rattle.lists.proofs.Loop.{started, turned, finished, read_window}
+use Rattle.phi_action_helpers.specs.Augmented.{bottom}
 use Rattle.phi_action_helpers.proofs.Augmented.{chain_reads}
 use Rattle.phi_action_helpers.proofs.chain_in.Goals as goal
 

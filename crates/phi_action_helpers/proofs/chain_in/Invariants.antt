@@ -1,14 +1,8 @@
 -- `phi_action_helpers::chain_in` meets its contract. Assumes nothing.
-use native.Mathlib.Omega.{arith}
-use Prim.Native.Nat.{◌+◌, ◌-◌, ◌≤◌}
-use mathlib.Core.Path.{◌∙◌}
-use lib.ListN.{length}
-use lib.Ieee.{nan}
+use Prim.Native.Nat.{◌-◌, ◌≤◌}
 use Rattle.lists.specs.Window.{window}
-use Rattle.lists.proofs.Window.{part_window, length_window}
-use Rattle.lists.proofs.Loop.{Filled, started, turned, finished, read_window}
-use Rattle.phi_action_helpers.specs.Augmented.{chain_term, bottom}
-use Rattle.phi_action_helpers.proofs.Augmented.{chain_reads}
+use Rattle.lists.proofs.Loop.{Filled}
+use Rattle.phi_action_helpers.specs.Augmented.{chain_term}
 use Rattle.phi_action_helpers.proofs.chain_in.Given as goal
 
 abbrev pub invariant-loop-i : goal.invariant-loop-i

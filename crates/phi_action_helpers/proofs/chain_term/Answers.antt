@@ -1,6 +1,4 @@
 -- `phi_action_helpers::chain_term` meets its contract. Assumes nothing.
-use borrow.Author.Rules.{rules}
-use borrow.Author.Rules.{rules}
 use borrow.Author.Tests.{lt-ltb, le-ltb}
 use Rattle.phi_action_helpers.specs.Augmented.{chain_term}
 use Rattle.phi_action_helpers.proofs.chain_term.Goals as goal

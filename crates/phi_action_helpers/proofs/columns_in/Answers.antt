@@ -1,12 +1,6 @@
 -- `phi_action_helpers::columns_in` meets its contract. Assumes nothing.
 use native.Mathlib.Omega.{arith}
-use Prim.Native.Nat.{◌+◌, ◌-◌, ◌≤◌}
 use mathlib.Core.Path.{◌≡◌, refl, ◌∙◌}
-use lib.ListN.{length}
-use Rattle.lists.specs.Loop.{tabulate}
-use Rattle.lists.specs.Window.{splice}
-use Rattle.doubles.specs.F64.{at}
-use Rattle.phi_action_helpers.specs.Augmented.{coupled}
 use Rattle.phi_action_helpers.proofs.Augmented.{no_column, next_column}
 use Rattle.phi_action_helpers.proofs.columns_in.Goals as goal
 

@@ -1,12 +1,8 @@
 -- `phi_action_helpers::generator_terms_in` meets its contract. Assumes nothing.
-use borrow.Author.Rules.{rules}
 use native.Mathlib.Omega.{arith}
-use Prim.Native.Nat.{◌+◌, ◌-◌, ◌≤◌}
 use mathlib.Core.Path.{◌∙◌}
 use lib.Ieee.{nan}
-use Rattle.lists.proofs.Loop.{Filled, started, turned, finished, read_here, read_apart}
-use Rattle.doubles.specs.F64.{at}
-use Rattle.phi_action_helpers.specs.Augmented.{generator_term}
+use Rattle.lists.proofs.Loop.{started, turned, finished, read_here, read_apart}
 use Rattle.phi_action_helpers.proofs.generator_terms_in.Goals as goal
 
 pub loop-i-init : goal.loop-i-init

@@ -1,10 +1,6 @@
 -- `phi_action_helpers::generator_terms_in` meets its contract. Assumes nothing.
-use borrow.Author.Rules.{rules}
-use native.Mathlib.Omega.{arith}
 use Prim.Native.Nat.{◌+◌, ◌-◌, ◌≤◌}
-use mathlib.Core.Path.{◌∙◌}
-use lib.Ieee.{nan}
-use Rattle.lists.proofs.Loop.{Filled, started, turned, finished, read_here, read_apart}
+use Rattle.lists.proofs.Loop.{Filled}
 use Rattle.doubles.specs.F64.{at}
 use Rattle.phi_action_helpers.specs.Augmented.{generator_term}
 use Rattle.phi_action_helpers.proofs.generator_terms_in.Given as goal

@@ -1,10 +1,7 @@
 -- `phi_action_helpers::scalars` meets its contract. Assumes nothing.
 use native.Mathlib.Omega.{arith}
-use Prim.Native.Nat.{◌-◌, ◌≤◌}
 use mathlib.Core.Path.{refl, ◌∙◌}
-use lib.ListN.{replicate}
-use Rattle.lists.proofs.Loop.{Filled, started, turned₀, finished, front_filled}
-use Rattle.doubles.specs.F64.{◌⊗◌, +0, at}
+use Rattle.lists.proofs.Loop.{started, turned₀, finished, front_filled}
 use Rattle.phi_action_helpers.specs.Augmented.{scalars}
 use Rattle.phi_action_helpers.proofs.scalars.Goals as goal
 

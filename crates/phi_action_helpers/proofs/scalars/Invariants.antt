@@ -1,11 +1,8 @@
 -- `phi_action_helpers::scalars` meets its contract. Assumes nothing.
-use native.Mathlib.Omega.{arith}
 use Prim.Native.Nat.{◌-◌, ◌≤◌}
-use mathlib.Core.Path.{refl, ◌∙◌}
 use lib.ListN.{replicate}
-use Rattle.lists.proofs.Loop.{Filled, started, turned₀, finished, front_filled}
+use Rattle.lists.proofs.Loop.{Filled}
 use Rattle.doubles.specs.F64.{◌⊗◌, +0, at}
-use Rattle.phi_action_helpers.specs.Augmented.{scalars}
 use Rattle.phi_action_helpers.proofs.scalars.Given as goal
 
 abbrev pub invariant-loop-j : goal.invariant-loop-j

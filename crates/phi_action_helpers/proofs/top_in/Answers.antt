@@ -1,5 +1,4 @@
 -- `phi_action_helpers::top_in` meets its contract. Assumes nothing.
-use borrow.Author.Rules.{rules}
 use native.Mathlib.Omega.{arith}
 use Prim.Native.Nat.{◌+◌}
 use lib.Ieee.{nan}

@@ -1,5 +1,4 @@
 -- `phi_shift::cheaper_shifted` meets its contract. Assumes nothing.
-use borrow.Author.Rules.{rules}
 use Rattle.phi_shift.proofs.Ways.{no_shifted_row, costs_less, costs_as_much}
 use Rattle.phi_shift.proofs.cheaper_shifted.Goals as goal
 

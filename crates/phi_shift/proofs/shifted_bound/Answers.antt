@@ -1,5 +1,4 @@
 -- `phi_shift::shifted_bound` meets its contract. Assumes nothing.
-use borrow.Author.Rules.{rules}
 use Rattle.phi_shift.specs.Plan.{shifted_bound}
 use Rattle.phi_shift.proofs.shifted_bound.Goals as goal
 

@@ -1,5 +1,4 @@
 -- `phi_shift::with_shift` meets its contract. Assumes nothing.
-use borrow.Author.Rules.{rules}
 use Rattle.phi_shift.proofs.Ways.{no_shift, not_usable, is_usable}
 use Rattle.phi_shift.proofs.with_shift.Goals as goal
 

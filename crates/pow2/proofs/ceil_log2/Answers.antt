@@ -1,13 +1,13 @@
 -- `pow2::ceil_log2` meets its contract. Assumes nothing.
 use borrow.Author.Tests.{eq-eqb, ne_eqb}
-use mathlib.Core.Path.{◌≡◌, sym, ap, ◌∙◌}
+use mathlib.Core.Path.{◌≡◌, refl, sym, ◌∙◌}
+use mathlib.Core.Bool.{true, true≢false}
 use Prim.Native.Nat.{◌%◌}
 use lib.Dec.{lit<}
 use lib.IntN.{ℤ, pos, negsuc, ◌+ℤ◌}
-use lib.Ieee.{Float, binary64, to_bits}
+use lib.Ieee.{Float, nan, inf, fin, is_nan, binary64, to_bits}
 use mir.Syntax.{w32}
 use mir.Val.{to_z, of_z}
-use Rattle.doubles.proofs.Magnitude.{no_nan, nan_of_ne}
 use Rattle.pow2.specs.Pow2.{ceil_log2, field}
 use Rattle.pow2.proofs.Integers.{exp_of, exp_fits, exp_is, next_fits, next_is}
 use Rattle.pow2.proofs.ceil_log2.Goals as goal
@@ -28,12 +28,14 @@ module _ (x : Float) (r : ℤ) (e : r ≡ pos (field (to_bits binary64 x))) wher
         next_is (to_bits binary64 x) r e (pos 1) (lit< tt)
         ∙ rw (ne_eqb (field (to_bits binary64 x)) 0 (rw e at n), ne_eqb (to_bits binary64 x % 4503599627370496) 0 h)
 
-pub returns-then-x : goal.returns-then-x
-unfolding ceil_log2 to_bits
-returns-then-x c = ap ceil_log2 (sym (nan_of_ne c.args.x c.if-x.true))
+no_number : (x : Float) → is_nan x ≡ true → pos 1025 ≡ ceil_log2 x
+unfolding is_nan ceil_log2 to_bits
+no_number nan h = refl
+no_number (inf s) h = absurd (true≢false (sym h))
+no_number (fin s m e) h = absurd (true≢false (sym h))
 
-pub float_to_bits-bits : goal.float_to_bits-bits
-float_to_bits-bits c = no_nan c.args.x c.if-x.false
+pub returns-then-is_nan : goal.returns-then-is_nan
+returns-then-is_nan c = no_number c.args.x (sym c.is_nan.ensures.value ∙ c.if-is_nan.true)
 
 pub returns-then-field-eq0 : goal.returns-then-field-eq0
 returns-then-field-eq0 c = zero-way c.args.x _ c.field-field.ensures c.if-field-eq0.true

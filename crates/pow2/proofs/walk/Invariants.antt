@@ -5,8 +5,8 @@ use lib.IntN.{nat_abs}
 use Rattle.pow2.proofs.Toward.{end}
 use Rattle.pow2.proofs.walk.Given as goal
 
-abbrev pub invariant-loop-pair : goal.invariant-loop-pair
-invariant-loop-pair l = (nat_abs l.e < 2041) × (end (l.e) ≡ end l.exp)
+abbrev pub invariant-loop-e : goal.invariant-loop-e
+invariant-loop-e l = (nat_abs l.e < 2041) × (end (l.e) ≡ end l.exp)
 
-abbrev pub decreases-loop-pair : goal.decreases-loop-pair
-decreases-loop-pair l = nat_abs l.e
+abbrev pub decreases-loop-e : goal.decreases-loop-e
+decreases-loop-e l = nat_abs l.e

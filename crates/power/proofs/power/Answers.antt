@@ -11,16 +11,14 @@ more y i h = sym (ap (times y) (next i h))
     next : (i : ℕ) → 1 ≤ i → i + 1 - 1 ≡ suc (i - 1)
     next i h = omega arith
 
-last : (i q : ℕ) → i - 1 ≤ q - 1 → q ≤ i → i - 1 ≡ q - 1
-last i q a b = omega arith
-
-pub loop-i-init : goal.loop-i-init
+pub loop-init : goal.loop-init
 unfolding times
-loop-i-init c = (omega arith, omega arith, refl)
+loop-init c = (omega arith, refl)
 
-pub loop-i-preserved : goal.loop-i-preserved
-loop-i-preserved c =
-    (omega arith, omega arith, ap (λ (x : Float). mul binary64 x c.args.y) c.loop-i.invariant.2 ∙ more c.args.y c.loop-i.i c.loop-i.invariant.0)
+pub loop-preserved : goal.loop-preserved
+loop-preserved c = (omega arith, ap (λ (x : Float). mul binary64 x c.args.y) c.loop.invariant.1 ∙ more c.args.y c.loop.counter (omega arith))
 
 pub returns : goal.returns
-returns c = c.loop-i.invariant.2 ∙ ap (times c.args.y) (last c.loop-i.i c.args.q c.loop-i.invariant.1 c.loop-i-test.false)
+returns c =
+    let last : c.loop.counter - 1 ≡ c.args.q - 1 = omega (arith, c.loop.invariant.0) in
+    c.loop.invariant.1 ∙ ap (times c.args.y) last

@@ -1,6 +1,6 @@
 -- `power::root` meets its contract. Assumes nothing.
 use Rattle.std.proofs.Common.{ap, ◌∙◌}
-use lib.Ieee.{binary64, of_bits, nan_bits}
+use lib.Ieee.{binary64, of_bits}
 use Rattle.doubles.proofs.Patterns.{finite_no_nan}
 use Rattle.doubles.proofs.Time.{above_zero}
 use Rattle.power.proofs.Cases.{when_zero, when_number, when_endless, when_not}
@@ -8,10 +8,6 @@ use Rattle.power.proofs.root.Goals as goal
 
 pub returns-then-t : goal.returns-then-t
 returns-then-t c = when_zero c.args.t c.args.q c.if-t.true
-
-pub float_from_bits-t-4 : goal.float_from_bits-t-4
-unfolding nan_bits
-float_from_bits-t-4 c = tt
 
 pub root_bits-requires : goal.root_bits-requires
 root_bits-requires c = above_zero c.args.t c.if-t-2.true
@@ -26,4 +22,5 @@ pub returns-then-t-2 : goal.returns-then-t-2
 returns-then-t-2 c = when_endless c.args.t c.args.q c.if-t-2.true c.if-t-3.false
 
 pub returns : goal.returns
+unfolding of_bits
 returns c = when_not c.args.t c.args.q c.if-t.false c.if-t-2.false

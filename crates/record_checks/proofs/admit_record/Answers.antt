@@ -12,4 +12,4 @@ returns c =
     let a = c.args in
     let p = c.powers_of_products-p.ensures in
     let x = own_weights a.g.n (scale a.level a.load.now) a.duration 1 p c.eta_scaling-eta.ensures (c.weigh_by-weights.ensures _ _ p) in
-    rw (x, c.less-lent.ensures) at (c.plan_job.ensures _ (ap (λ (r : Weights). r.checked) x))
+    rw (x, c.saturating_sub-lent.ensures) at (c.plan_job.ensures _ (ap (λ (r : Weights). r.checked) x))

@@ -1,27 +1,29 @@
 -- `replay::cleared_up_to` meets its contract. Assumes nothing.
-use borrow.Author.Count.{below_more}
-use mathlib.Core.Path.{◌≡◌, refl, sym, ap, ◌∙◌}
-use mathlib.Core.Bool.{true≢false, cond}
-use mathlib.Core.List.{List}
-use Prim.Native.Nat.{ℕ}
-use native.Mathlib.Omega.{arith}
-use lib.Dec.{ltb}
-use lib.ListN.{get_or}
-use lib.Seq.{ext_get_or}
-use Rattle.lists.proofs.Loop.{length_tabulate, get_d_tabulate}
+use Rattle.std.proofs.Common.{rules, arith, cond, length, ltb, eqb, ℕ, suc, true, List, [], ◌∷◌, ◌≡◌, ◌+◌, ◌↔◌, ap, sym, ◌∙◌, refl, inl, inr, zero-add, add-zero, true≢false}
+use Rattle.std.specs.List.{list_all, enumerate_from}
+use Rattle.std.proofs.lemmas.Bool.Decides.{eqb_tells}
+use Rattle.std.proofs.lemmas.Iterator.{YieldsList-from_slice}
+use Rattle.std.proofs.lemmas.Iterator.Consumers.{YieldsList-from_enumerate}
+use Rattle.std.proofs.lemmas.Iterator.Search.{all_from_yields_List}
+use borrow.Author.Tests.{tests}
+use Rattle.lists.specs.Loop.{tabulate}
 use Rattle.replay.proofs.cleared_up_to.Goals as goal
 
-pub loop-k-init : goal.loop-k-init
-loop-k-init c = (omega arith, λ i l. absurd (omega arith))
-
-pub returns-then-work-k : goal.returns-then-work-k
-returns-then-work-k c =
-    ((λ e. absurd (true≢false (sym e))), λ e. absurd (c.if-work-k.true (ap (λ (l : List ℕ). get_or l c.loop-k.k 0) e ∙ get_d_tabulate _ (λ k. cond (ltb k c.args.cleared) 0 90) c.loop-k.k 0 (omega (arith, c.loop-k-test.true)) ∙ sym c.left_at.ensures)))
-
-pub loop-k-preserved : goal.loop-k-preserved
-loop-k-preserved c =
-    (omega arith, below_more (λ (i : ℕ). get_or c.args.work.now i 0 ≡ cond (ltb i c.args.cleared) 0 90) _ c.loop-k.invariant.1 (c.if-work-k.false ∙ c.left_at.ensures))
+-- each element is f of its place
+all_tabulate : (f g : ℕ → ℕ) (n : ℕ) (xs : List ℕ) → ((k : ℕ) → g k ≡ f (n + k)) → (list_all (λ (p : ℕ × ℕ). eqb p.1 (f p.0)) (enumerate_from n xs) ≡ true) ↔ (xs ≡ tabulate (length xs) g)
+unfolding tabulate
+all_tabulate f g n [] h = (λ _. refl, λ _. refl)
+all_tabulate f g n (x ∷ xs) h =
+    let here : g 0 ≡ f n = h 0 ∙ ap f (add-zero n) in
+    let rest = all_tabulate f (λ k. g (suc k)) (n + 1) xs (λ k. h (suc k) ∙ ap f (omega arith)) in
+    elim (eqb_tells x (f n)) [
+      | inl t ↦ (λ e. let r = rest.0 (rw t.0 at e) in cc, λ e. rw t.0 (rest.1 cc))
+      | inr t ↦ (λ e. absurd (true≢false (sym (rw t.0 at e))), λ e. absurd (t.1 cc))
+    ]
 
 pub returns : goal.returns
 returns c =
-    ((λ e. ext_get_or 0 _ _ (sym (length_tabulate _ (λ k. cond (ltb k c.args.cleared) 0 90))) (λ i l. c.loop-k.invariant.1 i (omega (arith, c.loop-k-test.false)) ∙ sym (get_d_tabulate _ (λ k. cond (ltb k c.args.cleared) 0 90) i 0 l))), λ e. refl)
+    let f : ℕ → ℕ = λ k. cond (ltb k c.args.cleared) 0 90 in
+    let e =
+    all_from_yields_List (λ (p : ℕ × ℕ). eqb p.1 (f p.0)) _ _ c.all.result c.all.ensures.ran (YieldsList-from_enumerate (YieldsList-from_slice c.args.work.now cc) cc) (λ x b q k. search (rules, tests)) in
+    rw e (all_tabulate f f 0 c.args.work.now (λ k. ap f (sym (zero-add k))))

@@ -1,17 +1,19 @@
 -- `rotation::count_in` meets its contract. Assumes nothing.
+use mathlib.Core.Path.{◌≡◌, ap, ◌∙◌, subst}
+use Prim.Native.Nat.{ℕ}
 use native.Mathlib.Omega.{arith}
-use borrow.Author.Tests.{le-leb, lt-leb}
-use Rattle.lists.proofs.Find.{passed_start, passed_next, found_at, found_none}
+use lib.Dec.{leb}
+use lib.ListN.{length, get_or}
+use Rattle.std.specs.Prelude.{Option, unwrap_or, position}
+use Rattle.lists.specs.Find.{find}
+use Rattle.lists.proofs.Firsts.{position_find}
 use Rattle.rotation.proofs.count_in.Goals as goal
 
-pub loop-k-init : goal.loop-k-init
-loop-k-init c = (omega arith, passed_start _)
-
-pub returns-then-queue-k-ge16 : goal.returns-then-queue-k-ge16
-returns-then-queue-k-ge16 c = found_at c.loop-k.invariant.1 16 (omega arith) (le-leb _ _ c.if-queue-k-ge16.true)
-
-pub loop-k-preserved : goal.loop-k-preserved
-loop-k-preserved c = (omega arith, passed_next c.loop-k.invariant.1 (lt-leb _ _ c.if-queue-k-ge16.false))
-
 pub returns : goal.returns
-returns c = found_none c.loop-k.invariant.1 16 (omega arith)
+returns c =
+    let queue = c.args.queue in
+    let p = λ (k : ℕ). leb 16 k in
+    let n : length queue ≡ 16 = omega arith in
+    c.unwrap_or.ensures
+    ∙ ap (λ (k : Option ℕ). unwrap_or k 16) c.queue_end.ensures
+    ∙ subst (λ (m : ℕ). unwrap_or (position p queue) m ≡ find (λ k. p (get_or queue k 0)) m) n (position_find p queue 0)

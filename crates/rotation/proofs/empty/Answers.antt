@@ -5,4 +5,4 @@ use Rattle.rotation.proofs.empty.Goals as goal
 
 pub returns : goal.returns
 unfolding empty
-returns c = rw c.vacant-run.ensures refl
+returns c = rw c.vacant.ensures refl

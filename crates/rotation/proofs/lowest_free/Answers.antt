@@ -1,19 +1,21 @@
 -- `rotation::lowest_free` meets its contract. Assumes nothing.
+use mathlib.Core.Path.{◌≡◌, ap, ◌∙◌, subst}
+use Prim.Native.Nat.{ℕ}
 use native.Mathlib.Omega.{arith}
-use Rattle.lists.proofs.Find.{passed_start, passed_next, found_at, found_none}
-use Rattle.rotation.specs.Unit.{lowest_free}
+use lib.ListN.{length, get_or}
+use Rattle.std.specs.Prelude.{Option, unwrap_or, position}
+use Rattle.lists.specs.Find.{find}
+use Rattle.lists.proofs.Firsts.{position_find}
+use Rattle.paused_run.specs.declared.PausedRun.{PausedRun}
+use Rattle.rotation.specs.Unit.{lowest_free, unread}
 use Rattle.rotation.proofs.lowest_free.Goals as goal
-
-pub loop-p-init : goal.loop-p-init
-loop-p-init c = (omega arith, passed_start _)
-
-pub returns-then-run : goal.returns-then-run
-unfolding lowest_free
-returns-then-run c = found_at c.loop-p.invariant.1 16 (omega arith) c.if-run.true
-
-pub loop-p-preserved : goal.loop-p-preserved
-loop-p-preserved c = (omega arith, passed_next c.loop-p.invariant.1 c.if-run.false)
 
 pub returns : goal.returns
 unfolding lowest_free
-returns c = found_none c.loop-p.invariant.1 16 (omega arith)
+returns c =
+    let places = c.args.unit.places in
+    let p = λ (run : PausedRun). run.ended in
+    let n : length places ≡ 16 = omega arith in
+    c.unwrap_or.ensures
+    ∙ ap (λ (k : Option ℕ). unwrap_or k 16) c.first_ended.ensures
+    ∙ subst (λ (m : ℕ). unwrap_or (position p places) m ≡ find (λ k. p (get_or places k unread)) m) n (position_find p places unread)

@@ -1,43 +1,24 @@
 -- `round2::decade` meets its contract. Assumes nothing.
-use mathlib.Core.Path.{◌≡◌, sym, subst}
-use mathlib.Core.Bool.{true, false}
-use Prim.Native.Nat.{ℕ, ◌≤◌}
-use native.Mathlib.Omega.{arith}
-use lib.Dec.{lit≤, lit<}
-use lib.Ieee.{Float, le}
-use Rattle.lists.proofs.Descent.{Seek, seek_begin, next_fits, seek_taken, seek_left, seek_end}
-use Rattle.round2.specs.Rounded.{reaches, decade}
-use Rattle.round2.proofs.Powers.{decade_from, reach_yes, reach_no, reach_past}
+use Rattle.std.proofs.Common.{◌≡◌, ◌-◌, ◌<◌, ◌≤◌, rules}
+use Rattle.std.proofs.lemmas.List.Sorted.{IsPartitionPoint-from_clause}
+use lib.Ieee.{le}
+use Rattle.round2.specs.declared.TheConstants.{TENS}
+use Rattle.round2.specs.Rounded.{decade}
+use Rattle.round2.proofs.Powers.{parted, decade_found}
+use Rattle.round2.proofs.Table.{table_is}
 use Rattle.round2.proofs.decade.Goals as goal
+use Rattle.round2.proofs.decade.Goals.{After-partition_point}
 
-pub loop-k-init : goal.loop-k-init
-loop-k-init c = seek_begin (reaches c.args.x) 10 632 (lit< tt)
+found : (c : After-partition_point) → (1 ≤ c.partition_point.result) × (c.partition_point.result - 1 ≡ decade c.args.x) × (1 ≤ c.partition_point.result - 1) × (c.partition_point.result - 1 < 632)
+found c =
+    let x = c.args.x in
+    let p = c.partition_point in
+    decade_found x c.requires TENS table_is p.result
+    (IsPartitionPoint-from_clause (λ t. le t x) TENS p.result p.ensures.partitioned (parted x c.requires TENS table_is) (λ a r q k. search rules))
+    p.ensures.bound
 
-pub overflow_shl-next : goal.overflow_shl-next
-overflow_shl-next c = omega (arith, c.loop-k.invariant.digits)
-
-pub overflow_add-next : goal.overflow_add-next
-overflow_add-next c = record { fits = next_fits _ 10 632 _ _ c.loop-k.invariant (lit≤ tt) c.loop-k-test.true }
-
-pub ten-requires : goal.ten-requires
-ten-requires c = c.if-next-lt632.true
-
-pub loop-k-preserved-then-ten-x : goal.loop-k-preserved-then-ten-x
-loop-k-preserved-then-ten-x c =
-    seek_taken _ 10 632 _ _ c.loop-k.invariant (lit≤ tt) c.loop-k-test.true c.if-next-lt632.true
-    (reach_yes _ _ c.if-next-lt632.true (subst (λ (y : Float). le y c.args.x ≡ true) c.ten.ensures c.if-ten-x.true))
-
-pub loop-k-preserved-else-ten-x : goal.loop-k-preserved-else-ten-x
-loop-k-preserved-else-ten-x c =
-    seek_left _ 10 632 _ _ c.loop-k.invariant (lit≤ tt) c.loop-k-test.true
-    (reach_no _ _ c.if-next-lt632.true (subst (λ (y : Float). le y c.args.x ≡ false) c.ten.ensures c.if-ten-x.false))
-
-pub loop-k-preserved : goal.loop-k-preserved
-loop-k-preserved c = seek_left _ 10 632 _ _ c.loop-k.invariant (lit≤ tt) c.loop-k-test.true (reach_past _ _ c.if-next-lt632.false)
+pub overflow_sub-result : goal.overflow_sub-result
+overflow_sub-result c = (found (goal.at.overflow_sub-result c).After-partition_point).0
 
 pub returns : goal.returns
-unfolding decade
-returns c =
-    let x = c.args.x in
-    let e : c.loop-k.lo ≡ decade x = seek_end (reaches x) 10 632 _ _ c.loop-k.invariant c.loop-k-test.false in
-    (e, subst (λ (n : ℕ). 1 ≤ n) (sym e) (decade_from x c.requires), c.loop-k.invariant.low)
+returns c = let f = found (goal.at.returns c).After-partition_point in (f.1, f.2, f.3)

@@ -1,14 +1,11 @@
 -- `row_product::row_product` meets its contract. Assumes nothing.
-use native.Mathlib.Omega.{arith}
-use mathlib.Core.Path.{◌≡◌, refl, sym, ap, ◌∙◌}
+use mathlib.Core.Path.{◌≡◌}
 use mathlib.Core.List.{List}
-use Prim.Native.Nat.{ℕ, ◌+◌, ◌-◌, ◌≤◌}
+use Prim.Native.Nat.{ℕ, ◌+◌, ◌-◌}
 use lib.ListN.{get_or}
-use lib.Ieee.{Float, neg}
-use Rattle.doubles.specs.F64.{◌⊕◌, ◌⊗◌, at}
+use lib.Ieee.{Float}
+use Rattle.doubles.specs.F64.{◌⊗◌, at}
 use Rattle.doubles.specs.Sum.{sum}
-use Rattle.doubles.proofs.Sum.{sum_none, sum_turn}
-use Rattle.general_operator.specs.Csr.{row_product}
 use Rattle.row_product.proofs.row_product.Given as goal
 
 -- the product of entry k
@@ -20,7 +17,4 @@ abbrev pub part : (ℕ → Float) → ℕ → ℕ → Float
 part f from k = sum (k - from) (λ j. f (from + j))
 
 abbrev pub invariant-loop-k : goal.invariant-loop-k
-invariant-loop-k l = (l.from ≤ l.k) × (l.k ≤ l.to) × (l.s ≡ part (product l.cols l.vals l.x) l.from l.k)
-
-abbrev pub decreases-loop-k : goal.decreases-loop-k
-decreases-loop-k l = l.to - l.k
+invariant-loop-k l = l.s ≡ part (product l.cols l.vals l.x) l.from l.k

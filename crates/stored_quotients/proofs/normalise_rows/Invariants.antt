@@ -11,6 +11,3 @@ use Rattle.stored_quotients.proofs.normalise_rows.Given as goal
 
 abbrev pub invariant-loop-i : goal.invariant-loop-i
 invariant-loop-i l = (l.i ≤ l.n) × Filled l.q_at (get_or l.starts l.i 0) (quotient (csr l.n l.starts l.cols l.vals) l.mass) l.initial.work l.work
-
-abbrev pub decreases-loop-i : goal.decreases-loop-i
-decreases-loop-i l = l.n - l.i

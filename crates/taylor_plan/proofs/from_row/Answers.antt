@@ -19,4 +19,4 @@ pub returns : goal.returns
 returns c =
     let p = c.requires in
     let el = c.quotients_alone-l.ensures in
-    record { value = shifted_is _ p.passed _ p.stored_in_bounds el c.store_quotients.ensures _ _ _ _ c.shift_at-shift.ensures c.with_shift.ensures; work_after = c.store_quotients.ensures }
+    record { value = shifted_is _ p.passed _ p.stored_in_bounds el c.store_quotients.ensures _ _ _ c.shift_at-shift.ensures c.with_shift.ensures; work_after = c.store_quotients.ensures }

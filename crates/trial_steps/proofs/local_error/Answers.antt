@@ -15,6 +15,6 @@ pub returns-then-m-gt2 : goal.returns-then-m-gt2
 unfolding local_error
 returns-then-m-gt2 c = rw (← c.abs-phi1.ensures, ← c.abs-phi2.ensures, c.if-phi1-phi2.false, c.if-phi1-phi2-2.false, lt-ltb _ _ c.if-m-gt2.true)
 
-pub returns : goal.returns
+pub returns-else-m-gt2 : goal.returns-else-m-gt2
 unfolding local_error
-returns c = rw (← c.abs-phi1.ensures, ← c.abs-phi2.ensures, c.if-phi1-phi2.false, c.if-phi1-phi2-2.false, le-ltb _ _ c.if-m-gt2.false)
+returns-else-m-gt2 c = rw (← c.abs-phi1.ensures, ← c.abs-phi2.ensures, c.if-phi1-phi2.false, c.if-phi1-phi2-2.false, le-ltb _ _ c.if-m-gt2.false)

@@ -24,9 +24,6 @@ use Rattle.trial_steps.specs.contracts.Outcome.{the_type}
 use Rattle.trial_steps.proofs.Tries.{within_more, seen_next, left_ended}
 use Rattle.trial_steps.proofs.try_lengths.Given as goal
 
-abbrev pub invariant-loop-i : goal.invariant-loop-i
-invariant-loop-i live =
-    (live.i ≤ 11) × Modest live.i (live.k.m + 1) live.o × ((l : Layout) (b : Coupling) (q : Csr) (vectors : List Float) → Left (try_step (setting_at l b live.k q vectors) live.beta live.h live.avnorm) 11 live.i (on (record { rejections = 0; t = live.t })) (trial_at live.o))
-
-abbrev pub decreases-loop-i : goal.decreases-loop-i
-decreases-loop-i live = 11 - live.i
+abbrev pub invariant-loop : goal.invariant-loop
+invariant-loop live =
+    (live.counter ≤ 11) × Modest live.counter (live.k.m + 1) live.o × ((l : Layout) (b : Coupling) (q : Csr) (vectors : List Float) → Left (try_step (setting_at l b live.k q vectors) live.beta live.h live.avnorm) 11 live.counter (on (record { rejections = 0; t = live.t })) (trial_at live.o))

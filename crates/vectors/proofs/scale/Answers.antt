@@ -6,14 +6,12 @@ use Rattle.lists.proofs.Loop.{started, turned₀, finished₀, read_after, map_t
 use Rattle.vectors.specs.Vectors.{scale}
 use Rattle.vectors.proofs.scale.Goals as goal
 
-pub loop-i-init : goal.loop-i-init
-loop-i-init c = (omega arith, started _ _ _)
+pub loop-x-init : goal.loop-x-init
+loop-x-init c = started _ _ _
 
-pub loop-i-preserved : goal.loop-i-preserved
-loop-i-preserved c =
-    let inv = c.loop-i.invariant in
-    (omega arith, turned₀ inv.1 (rw (read_after inv.1 c.loop-i.i nan (omega arith))))
+pub loop-x-preserved : goal.loop-x-preserved
+loop-x-preserved c = turned₀ c.loop-x.invariant (rw (read_after c.loop-x.invariant c.loop-x.x-index nan (omega arith)))
 
 pub returns : goal.returns
 unfolding scale
-returns c = finished₀ c.loop-i.invariant.1 (omega arith) (omega arith) ∙ rw (map_tabulate _ _ nan)
+returns c = finished₀ c.loop-x.invariant (omega arith) (omega arith) ∙ rw (map_tabulate _ _ nan)
