@@ -22,8 +22,6 @@ use Rattle.krylov_job.specs.Memory.{krylov}
 use Rattle.krylov_job.specs.declared.KrylovPhiOptions.{KrylovPhiOptions}
 use Rattle.krylov_job.specs.KrylovCall.{KrylovAnswer}
 use Rattle.krylov_job.specs.declared.RunJob.{RunJob}
-use Rattle.krylov_job.specs.declared.Eta.{Eta}
-use Rattle.krylov_job.specs.declared.Eta.TheVariants.{None, Some}
 use Rattle.checks.specs.Reasons.{Sound}
 use Rattle.std.specs.Prelude.{Ok, Err}
 

@@ -51,7 +51,6 @@ use Rattle.paused_run.specs.Paused.{Job, Input, PausedCall, leaves, rows, field_
 use Rattle.paused_run.specs.Inner.{job_over, other_checks_by, setting_for, turned, after_of}
 use Rattle.paused_run.specs.declared.PausedRun.{PausedRun}
 use Rattle.paused_run.specs.declared.StepRefusal.{StepRefusal}
-use Rattle.paused_run.specs.declared.Tolerance.{Tolerance}
 use Rattle.std.specs.Prelude.{Result, Ok, Err}
 use Rattle.std.specs.Result.{MatchResult, IsOkAnd, IsErrAnd}
 use Rattle.std.proofs.lemmas.Result.{err_from_is_err_and}

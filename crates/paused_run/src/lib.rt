@@ -31,13 +31,6 @@ pub struct PausedRun {
     pub ended: bool,
 }
 
-// Whether a step brings a new tolerance.
-#[derive(Clone, Copy)]
-pub enum Option Float {
-    Same,
-    New(f64),
-}
-
 // Why a step is refused, and the run that it leaves.
 #[derive(Clone, Copy)]
 pub struct StepRefusal {

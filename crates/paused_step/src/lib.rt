@@ -15,8 +15,7 @@ ghost use Rattle.paused_run.specs.Inner.{job_over};
 use checks::{Reason, Refusal};
 use generator_action::Shape;
 use gram_schmidt::Krylov;
-use krylov_job::Eta;
-use paused_run::{PausedRun, StepRefusal, Tolerance};
+use paused_run::{PausedRun, StepRefusal};
 
 // A step over a generator that passed its checks, of a run that 31 does not refuse.
 pub fn stepped(

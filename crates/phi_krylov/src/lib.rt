@@ -15,7 +15,7 @@ ghost use Rattle.krylov_job.specs.KrylovCall.{phi_combination_krylov};
 use checks::Refusal;
 use generator_action::Shape;
 use krylov_advance::KrylovPhiReport;
-use krylov_job::{Eta, KrylovPhiOptions};
+use krylov_job::KrylovPhiOptions;
 
 // The combination over a generator that passed its checks.
 pub fn combined(

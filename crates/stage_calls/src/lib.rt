@@ -20,7 +20,7 @@ ghost use Rattle.stage_calls.specs.Inner.{Whole, stage_end};
 use checks::Refusal;
 use generator_action::Shape;
 use krylov_advance::KrylovPhiReport;
-use krylov_job::{Eta, KrylovPhiOptions};
+use krylov_job::KrylovPhiOptions;
 use phi_solver::{PhiReport, PhiSolver};
 use schedule_checks::Stage;
 use taylor_job::TaylorReport;

@@ -12,8 +12,6 @@ use Rattle.phi_action_helpers.specs.Augmented.{Augmented}
 use Rattle.phi_action_helpers.specs.Sweeps.{run_sweeps}
 use Rattle.phi_action_helpers.specs.declared.SweepPlan.{SweepPlan}
 use Rattle.phi_shift.specs.Plan.{argument, sweep_plan}
-use Rattle.phi_shift.specs.declared.PlanAnswer.{PlanAnswer}
-use Rattle.phi_shift.specs.declared.PlanAnswer.TheVariants.{NoPlan, Plan}
 use Rattle.combination.specs.Combination.{further, eta_of, combination_operator, combination_start, action_operator, init_aug_vector}
 use Rattle.combination.specs.Call.{Call, ends, unless_refused, cleared, open_call}
 use Rattle.combination.specs.Checks.{plan_checks, vector_checks, sweep_checks, job_checks, taylor_need, open_checks}
@@ -38,7 +36,7 @@ report p applied = Ok (record { s = p.s; m = p.m; mu = p.mu; applications = appl
 
 -- an accepted job leaves its fields and clears what it needed; that there is no plan is refusal 25 of the list already
 unfoldable pub after_plan : ℕ → Float → Float → List Float → List Float → Option SweepPlan → (SweepPlan → Fields) → Call TaylorAnswer
-after_plan need tau norm output memory NoPlan run = ends (Refused NoAdmissibleRow (argument tau norm)) output memory
+after_plan need tau norm output memory None run = ends (Refused NoAdmissibleRow (argument tau norm)) output memory
 after_plan need tau norm output memory (Some p) run = ends (report p (run p).applied) (run p).fields (cleared need memory)
 
 -- the n values of the field after the sweeps
