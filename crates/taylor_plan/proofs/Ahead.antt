@@ -147,7 +147,7 @@ module _ (g : Generator) (tau : Float) (cap : ℕ) where
     result_planned {r} f = go (first cs) refl f
       where
         of_plan_answer : Sound ≡ first cs → (p : Option SweepPlan) → sweep_plan cap tau g.matrix norm ≡ p → (after_plan need tau norm output memory p run).answer ≡ Ok r → Planned r
-        of_plan_answer e NoPlan h i = let z : zero ≡ 1 = cc in absurd (omega (arith, z))
+        of_plan_answer e None h i = let z : zero ≡ 1 = cc in absurd (omega (arith, z))
         of_plan_answer e (Some p) h i = record { sound = e; plan = p; has_plan = h; is = ok_is i }
 
         go : (c : Checked) → c ≡ first cs → (unless_refused Refused c output memory (after_plan need tau norm output memory (sweep_plan cap tau g.matrix norm) run)).answer ≡ Ok r → Planned r
