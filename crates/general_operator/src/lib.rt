@@ -71,7 +71,10 @@ fn check_rows(starts: &[u32]) -> Checked
     ensures { result ≡ first (row_checks (length starts.now - 1) starts.now) }
 {
     if let Some(i) = first_fall(starts) {
-        return Err(Refusal { reason: Reason::RowStartsFall, value: float::count(i) });
+        return Err(Refusal {
+            reason: Reason::RowStartsFall,
+            value: float::count(i),
+        });
     }
     Ok(())
 }
@@ -103,9 +106,15 @@ fn check_entries(n: usize, cols: &[u32], vals: &[f64]) -> Checked
     };
     let c = cols[k] as usize;
     if n <= c {
-        return Err(Refusal { reason: Reason::ColumnRange, value: float::count(c) });
+        return Err(Refusal {
+            reason: Reason::ColumnRange,
+            value: float::count(c),
+        });
     }
-    Err(Refusal { reason: Reason::EntryNotFinite, value: vals[k] })
+    Err(Refusal {
+        reason: Reason::EntryNotFinite,
+        value: vals[k],
+    })
 }
 
 // 1 to 6.

@@ -39,7 +39,10 @@ pub fn check_mass(n: usize, starts: &[u32], mass: &[f64]) -> Checked
         });
     }
     if let Some(i) = first_bad_mass(mass) {
-        return Err(Refusal { reason: Reason::MassRange, value: mass[i] });
+        return Err(Refusal {
+            reason: Reason::MassRange,
+            value: mass[i],
+        });
     }
     if starts[0] != 0 {
         return Err(Refusal {

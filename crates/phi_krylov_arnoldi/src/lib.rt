@@ -14,7 +14,7 @@ ghost use Rattle.krylov_advance.specs.declared.KrylovPhiReport.{KrylovPhiReport}
 ghost use Rattle.krylov_advance.specs.Memory.{products, state_at, progress_at};
 
 use checks::{Reason, Refusal};
-use gram_schmidt::{BasisAnswer, Krylov};
+use gram_schmidt::{Broken, Full, Krylov};
 use krylov_advance::{Control, KrylovPhiReport, Progress};
 use phi_action_helpers::{Coupling, Layout};
 use trial_steps::Outcome;

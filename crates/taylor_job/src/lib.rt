@@ -16,7 +16,7 @@ ghost use Rattle.taylor_job.specs.Inner.{layout, plan_by, operator_by, job_end, 
 ghost use Rattle.taylor_job.specs.Calls.{report, swept_fields};
 
 use checks::Refusal;
-use csr_shift::Shift;
+use csr_shift::Shifted;
 use phi_action_helpers::{Layout, SweepArgs, SweepPlan};
 use taylor_schedule::Job;
 

@@ -17,6 +17,7 @@ ghost use Rattle.taylor_plan.specs.Inner.{quotients_alone, admitted};
 ghost use Rattle.taylor_plan.specs.TaylorPlan.{taylor_plan};
 
 use checks::Refusal;
+use expmv::Row;
 use generator_action::Shape;
 use phi_action_helpers::{Layout, SweepPlan};
 use taylor_job::TaylorReport;
@@ -86,10 +87,10 @@ fn planned(
     requires { Passed (csr g.n starts.now cols.now vals.now) (given g.with_mass mass.now) g }
     ensures { (gs : List Check) → Sound ≡ first gs → ends result [] work.new ≡ taylor_plan (after_checks gs (csr g.n starts.now cols.now vals.now) (given g.with_mass mass.now) g) tau cap work.old }
 {
-    let row = admit_plan(g, tau, cap, work.len());
-    row.checked?;
-    let p = from_row(starts, cols, vals, mass, work, g, tau, cap, row.s, row.m);
-    let cost = expmv::cost(p.s, p.m);
+    let Schedule { checked, row } = admit_plan(g, tau, cap, work.len());
+    checked?;
+    let p = from_row(starts, cols, vals, mass, work, g, tau, cap, row);
+    let cost = Row { s: p.s, m: p.m }.cost();
     taylor_job::finish(work, g.stored, p, cost)
 }
 

@@ -24,7 +24,7 @@ use Rattle.expmv.specs.declared.Row.{Row}
 use Rattle.phi_shift.specs.Plan.{argument}
 use Rattle.combination.specs.Combination.{vector, eta_of, column_places, combination_start, init_aug_vector}
 use Rattle.combination.specs.Checks.{no_row, count_checks, index_checks, plan_checks, length_checks, finite_checks, magnitude_checks, schedule_checks, memory_checks, vector_checks_by, vector_checks, sweep_checks, job_checks}
-use Rattle.taylor_schedule.specs.Inner.{row_sweeps, row_degree, one_column, Coupled}
+use Rattle.taylor_schedule.specs.Inner.{row_of, one_column, Coupled}
 use Rattle.checks.specs.Reasons.{Sound}
 
 -- ---- 12 to 17

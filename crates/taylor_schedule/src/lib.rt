@@ -7,7 +7,7 @@ ghost use Rattle.combination.specs.Checks.{taylor_need};
 ghost use Rattle.taylor_schedule.specs.Inner.{argument_checks, schedule, host_checks, job_of};
 
 use checks::{Checked, Reason, Refusal};
-use expmv::Option Row;
+use expmv::Row;
 use generator_action::Shape;
 use phi_action_helpers::Coupling;
 

@@ -39,7 +39,10 @@ pub fn check_finite(w: &[f64]) -> Checked
     ensures { result ≡ first (finite_checks w.now) }
 {
     if let Some(i) = first_not_finite(w) {
-        return Err(Refusal { reason: Reason::VectorNotFinite, value: w[i] });
+        return Err(Refusal {
+            reason: Reason::VectorNotFinite,
+            value: w[i],
+        });
     }
     Ok(())
 }

@@ -88,7 +88,10 @@ fn check_magnitude(sum: f64, gains: [f64; 3], d: usize, eta: f64) -> Checked
         });
     }
     if has_bad_gain(&gains[..d], eta) {
-        return Err(Refusal { reason: Reason::GainNotFinite, value: float::not_a_number() });
+        return Err(Refusal {
+            reason: Reason::GainNotFinite,
+            value: float::not_a_number(),
+        });
     }
     Ok(())
 }
