@@ -10,7 +10,6 @@ use lib.ListN.{length, get_or}
 use lib.Ieee.{Float}
 use Rattle.doubles.specs.F64.{nat}
 use Rattle.checks.specs.First.{Check, first, before}
-use Rattle.checks.specs.First.{Checked}
 use Rattle.checks.proofs.First.{passes, stops, not_ne}
 use Rattle.general_operator.specs.Csr.{Csr, csr}
 use Rattle.general_operator.specs.Checks.{wrong_rows, wrong_entries, shape_checks, row_checks, entry_checks, matrix_checks}
@@ -30,7 +29,7 @@ not_n : (n l : ℕ) → n ≤ 64 → 512 ≤ l → not (eqb l n) ≡ true
 not_n n l few h = not_ne {a = l} {b = n} (λ e. absurd (omega (arith, few, h, e)))
 
 -- ---- 1 to 6, and whatever stands behind them
-pub alike_starts : (n : ℕ) (s t cols : List ℕ) (vals : List Float) → n ≤ 64 → 512 < length s → 512 ≤ length t → Alike 1 (nat (length s)) (first (matrix_checks (csr n s cols vals))) (first (matrix_checks (csr n t cols vals)))
+pub alike_starts : (n : ℕ) (s t cols : List ℕ) (vals : List Float) → n ≤ 64 → 512 < length s → 512 ≤ length t → Alike RowStartsLength (nat (length s)) (first (matrix_checks (csr n s cols vals))) (first (matrix_checks (csr n t cols vals)))
 unfolding matrix_checks shape_checks
 alike_starts n s t cols vals few ls lt = stopped (nat (length t)) _ _ (wrong n (length s) few (omega (arith, ls))) (wrong n (length t) few lt)
 
@@ -38,7 +37,7 @@ none_7 : (a : Csr) → before MassLength (matrix_checks a) ≡ matrix_checks a
 unfolding before matrix_checks shape_checks row_checks entry_checks
 none_7 a = refl
 
-pub alike_mass : (a : Csr) (m p : List Float) (cs ds : List Check) → a.n ≤ 64 → 512 < length m → 512 ≤ length p → Alike 7 (nat (length m)) (first (matrix_checks a ++ (mass_checks a m ++ cs))) (first (matrix_checks a ++ (mass_checks a p ++ ds)))
+pub alike_mass : (a : Csr) (m p : List Float) (cs ds : List Check) → a.n ≤ 64 → 512 < length m → 512 ≤ length p → Alike MassLength (nat (length m)) (first (matrix_checks a ++ (mass_checks a m ++ cs))) (first (matrix_checks a ++ (mass_checks a p ++ ds)))
 unfolding mass_checks
 alike_mass a m p cs ds few lm lp =
     behind (matrix_checks a) _ _ (none_7 a) (stopped (nat (length p)) _ _ (not_n a.n (length m) few (omega (arith, lm))) (not_n a.n (length p) few lp))
@@ -57,8 +56,8 @@ pub other_columns : (n : ℕ) (vals : List Float) (s cols other : List ℕ) → 
 other_columns n vals s cols other h h' = go (wrong_rows n (length s)) refl
   where
     go : (b : Bool) → wrong_rows n (length s) ≡ b → Both (first (matrix_checks (csr n s cols vals))) (first (matrix_checks (csr n s other vals)))
-    go true e = record { number = 1; reported = nat (length s); here = by_rows n vals s cols e; there = by_rows n vals s other e }
-    go false e = record { number = 2; reported = nat (length vals); here = by_entries n vals s cols e h; there = by_entries n vals s other e h' }
+    go true e = record { reason = RowStartsLength; reported = nat (length s); here = by_rows n vals s cols e; there = by_rows n vals s other e }
+    go false e = record { reason = EntryCount; reported = nat (length vals); here = by_entries n vals s cols e h; there = by_entries n vals s other e h' }
 
 -- ---- 1 to 11
 none_15 : (a : Csr) (mass : Mass) → before OutputLength (generator_checks a mass) ≡ generator_checks a mass

@@ -42,7 +42,7 @@ use Rattle.taylor_job.specs.Calls.{Fields, after_plan, combination_checks, combi
 use Rattle.demand_3.specs.Taylor.{norm_of, row_fits, TaylorCost, NoRowFits, Exactly25, Exactly33, ValueRefused, Exactly17, TaylorClaim}
 use Rattle.demand_3.specs.Demand3.{start_of, operator_of, action_start, action_of}
 use Rattle.demand_3.proofs.Products.{Made, one_made, batch_made}
-use Rattle.checks.specs.Reasons.{Sound, Refused}
+use Rattle.checks.specs.Reasons.{number, Sound, Refused}
 use Rattle.std.specs.Prelude.{Ok, Err}
 use Rattle.checks.specs.declared.Reason.{Reason}
 use Rattle.checks.specs.declared.Reason.TheVariants.{VectorNotFinite, ArgumentNotFinite, NoAdmissibleRow, WorkLength, SubstepLimit, DegreeRange}
@@ -102,7 +102,7 @@ row_none : (s : Option Row) → no_row s ≡ true → s ≡ None
 row_none None e = refl
 row_none (Some r) e = absurd (true≢false (sym e))
 
-none_fits : (cap : Reason) (arg : Float) → T (is_finite arg) → T (+0 ⩽ arg) → Least.Refused cap arg → (j : ℕ) → j < 22 → admissible cap arg j ≡ false
+none_fits : (cap : ℕ) (arg : Float) → T (is_finite arg) → T (+0 ⩽ arg) → Least.Refused cap arg → (j : ℕ) → j < 22 → admissible cap arg j ≡ false
 none_fits cap arg f g (Least.not_finite e) = absurd (true≢false (sym (is_true (is_finite arg) f) ∙ e))
 none_fits cap arg f g (Least.below_zero e) = absurd (⋖_not arg +0 (holds e) g)
 none_fits cap arg f g (Least.no_row h) = h
@@ -145,8 +145,8 @@ module _ (gs xs ys : List Check) (tau : Float) (cap : ℕ) (norm : Float) (memor
     unfolding memory_checks first
     not_26 {x} e = go (ltb memory need) (e ∙ first_cons WorkLength (ltb memory need) nan [])
       where
-        go : (b : Bool) → Refused NoAdmissibleRow x ≡ unless b 26 nan Sound → ⊥
-        go true e = let n : ◌≡◌ {A = ℕ} 25 26 = cc in absurd (omega (arith, n))
+        go : (b : Bool) → Refused NoAdmissibleRow x ≡ unless b WorkLength nan Sound → ⊥
+        go true e = let n = ap number (same_reason e) in absurd (omega (arith, n))
         go false e = let z : zero ≡ 1 = cc in absurd (omega (arith, z))
 
     -- what holds where 14 and 24 pass, and the generator's checks
@@ -253,8 +253,8 @@ refused_outside cap (inr l) = rw (lt-ltb 30 cap l) (or_true (eqb cap 0))
 module _ (cs gs xs ys : List Check) (cap : ℕ) (c : Call TaylorAnswer) (listed : ByList c cs) where
   exactly_33 : cs ≡ gs ++ (xs ++ (refuse DegreeRange (eqb cap 0 || ltb 30 cap) nan ∷ ys)) → before DegreeRange gs ≡ gs → before DegreeRange xs ≡ xs → before DegreeRange ys ≡ ys → Exactly33 c cs cap
   exactly_33 e ng nx ny x = (
-    (λ f. let h = only_by DegreeRange _ nan gs xs ys ng nx ny ((listed 33 x).0 f ∙ ap first e) in record { earlier = h.0 ∙ ap (λ (r : List Check). first (before DegreeRange r)) (sym e); outside = outside cap h.1.0; told = h.1.1 }),
-    (λ r. (listed 33 x).1 (if_by DegreeRange _ nan gs xs ys ng nx ny (r.earlier ∙ ap (λ (l : List Check). first (before DegreeRange l)) e) (refused_outside cap r.outside) r.told ∙ ap first (sym e))),
+    (λ f. let h = only_by DegreeRange _ nan gs xs ys ng nx ny ((listed DegreeRange x).0 f ∙ ap first e) in record { earlier = h.0 ∙ ap (λ (r : List Check). first (before DegreeRange r)) (sym e); outside = outside cap h.1.0; told = h.1.1 }),
+    (λ r. (listed DegreeRange x).1 (if_by DegreeRange _ nan gs xs ys ng nx ny (r.earlier ∙ ap (λ (l : List Check). first (before DegreeRange l)) e) (refused_outside cap r.outside) r.told ∙ ap first (sym e))),
   )
 
 not_true : (b : Bool) → not b ≡ true → b ≡ false
@@ -271,7 +271,7 @@ module _ (cs gs xs ys : List Check) (v : List Float) (c : Call TaylorAnswer) (li
     where
       only : c.answer ≡ Refused VectorNotFinite x → ValueRefused cs v x
       only f =
-          let h = only_by VectorNotFinite _ _ gs xs ys ng nx ny ((listed 17 x).0 f ∙ ap first e) in
+          let h = only_by VectorNotFinite _ _ gs xs ys ng nx ny ((listed VectorNotFinite x).0 f ∙ ap first e) in
           let l = ltb-true (find bad (length v)) (length v) h.1.0 in
           record {
             earlier = h.0 ∙ ap (λ (r : List Check). first (before VectorNotFinite r)) (sym e);
@@ -285,7 +285,7 @@ module _ (cs gs xs ys : List Check) (v : List Float) (c : Call TaylorAnswer) (li
       only_if : ValueRefused cs v x → c.answer ≡ Refused VectorNotFinite x
       only_if r =
           let p = found_at {p = bad} (record { none = λ j m. ap not (r.finite_before j m) }) (length v) r.below (ap not r.not_finite) in
-          (listed 17 x).1 (if_by VectorNotFinite _ _ gs xs ys ng nx ny (r.earlier ∙ ap (λ (l : List Check). first (before VectorNotFinite l)) e) (rw (← p) (lt-ltb _ _ r.below)) (r.told ∙ ap (at v) p) ∙ ap first (sym e))
+          (listed VectorNotFinite x).1 (if_by VectorNotFinite _ _ gs xs ys ng nx ny (r.earlier ∙ ap (λ (l : List Check). first (before VectorNotFinite l)) e) (rw (← p) (lt-ltb _ _ r.below)) (r.told ∙ ap (at v) p) ∙ ap first (sym e))
 
 -- ---- the three calls
 module _

@@ -22,10 +22,8 @@ use Rattle.generator_action.specs.Generator.{forward}
 use Rattle.taylor_schedule.proofs.Stored.{quotients_rows}
 use Rattle.krylov_job.specs.KrylovCall.{krylov_checks, krylov_checks_by}
 use Rattle.krylov_job.specs.declared.KrylovPhiOptions.{KrylovPhiOptions}
-use Rattle.paused_run.specs.Paused.{Job, Input, PausedCall, leaves, rows, degree, field_checks, start_checks, start_unless, start, step}
+use Rattle.paused_run.specs.Paused.{Job, Input, PausedCall, leaves, rows, degree, field_checks, start_checks, StartAnswer, start_unless, start, StepAnswer, step}
 use Rattle.paused_run.specs.declared.PausedRun.{PausedRun}
-use Rattle.paused_run.specs.Paused.{StartAnswer}
-use Rattle.paused_run.specs.Paused.{StepAnswer}
 use Rattle.exports_paused.specs.Told.{fits, run_of, State, told, start_state, step_state, state_checks, start_told, step_told}
 use Rattle.checks.specs.Reasons.{Sound, Refused}
 use Rattle.std.specs.Prelude.{Ok, Err}
@@ -114,7 +112,7 @@ module _ (o : KrylovPhiOptions) (j : Job) (out w₀ field numbers : List Float) 
   refused_both : (r : Checked) → (Sound ≡ r → ⊥) → {c : PausedCall StartAnswer} → c ≡ start_unless r o j out w₀ []
       → told (start_state c.answer numbers counts) c.output c.memory field ≡ told (start_state (start_unless r o j out w₀ field).answer numbers counts) (start_unless r o j out w₀ field).output (start_unless r o j out w₀ field).memory (start_unless r o j out w₀ field).field
   unfolding start_unless
-  refused_both (Err r) n h = ap (λ (r.value : PausedCall StartAnswer). told (start_state r.value.answer numbers counts) r.value.output r.value.memory field) h
+  refused_both (Err r) n h = ap (λ (x : PausedCall StartAnswer). told (start_state x.answer numbers counts) x.output x.memory field) h
   refused_both (Ok _) n h = absurd (n refl)
 
   pub told_not : {c : PausedCall StartAnswer} → fits numbers counts ≡ false → (Sound ≡ first (krylov_checks j.g j.tau j.count j.w o (length out) (length w₀)) → 0 < rows j) → c ≡ start o j out w₀ []

@@ -13,8 +13,7 @@ use lib.Ieee.{Float, nan}
 use borrow.Author.Tests.{ltb-true, ltb-false, ne_eqb, eqb-true, not-false}
 use Rattle.std.specs.Prelude.{Option}
 use Rattle.doubles.specs.F64.{nat}
-use Rattle.checks.specs.First.{Check, refuse, first, before}
-use Rattle.checks.specs.First.{Checked}
+use Rattle.checks.specs.First.{Check, refuse, first, Checked, same, before}
 use Rattle.checks.proofs.First.{and_then, first_append, sound_append, sound_cons}
 use Rattle.checks.proofs.Numbers.{before_append, before_number}
 use Rattle.general_operator.specs.Csr.{Csr, csr, row_sum_norm}
@@ -33,12 +32,13 @@ use Rattle.answers.specs.Told.{options}
 use Rattle.exports_paused.proofs.Slices.{fitting}
 use Rattle.exports_paused.specs.Told.{fits, run_of, no_run, ran, told, state, start_state, step_state, state_checks, start_told, step_told, tolerance}
 use Rattle.byte_arrays.proofs.Parts.{Part, Columns}
+use Rattle.byte_arrays.proofs.Alike.{alike_before}
 use Rattle.byte_arrays.proofs.Cuts.{Recut, retold, Uncut, job_cut}
 use Rattle.byte_arrays.proofs.Forward.{forward_refuses}
 use Rattle.paused_byte_calls.specs.Inner.{job, called_run}
 use Rattle.paused_byte_calls.specs.declared.RunCall.{RunCall}
 use Rattle.paused_byte_calls.specs.declared.RunCall.TheVariants.{Start, Step}
-use Rattle.checks.specs.Reasons.{Sound, Refused}
+use Rattle.checks.specs.Reasons.{number, Sound, Refused}
 use Rattle.std.specs.Prelude.{Ok, Err}
 use Rattle.checks.specs.declared.Reason.TheVariants.{RowStartsLength, MassLength, VectorCount, OutputLength, VectorLength, WorkLength, SubstepLimit, LengthsRejected, NoInnerPlan, RunEnded}
 use Rattle.checks.specs.declared.Reason.{Reason}
@@ -73,9 +73,9 @@ behind_27 : (s : PausedRun) (field : ℕ) (t : Option Float) (j : Job) (output m
 unfolding before vector_checks_by count_checks time_checks length_checks finite_checks option_checks run_checks magnitude_checks argument_checks memory_checks field_checks other_checks
 behind_27 s field t j output memory = (refl, refl, refl)
 
-other : (k : ℕ) (b : Bool) (g l : List Check) {j : Reason} {x : Float} → eqb 31 k ≡ false → before k g ≡ g → before k l ≡ l → Refused j x ≡ first (refuse RunEnded b nan ∷ (g ++ l)) → j ≡ k → ⊥
+other : (k : Reason) (b : Bool) (g l : List Check) {j : Reason} {x : Float} → same RunEnded k ≡ false → before k g ≡ g → before k l ≡ l → Refused j x ≡ first (refuse RunEnded b nan ∷ (g ++ l)) → number j ≡ number k → ⊥
 unfolding before
-other k b g l e eg el f = before_number k (refuse RunEnded b nan ∷ (g ++ l)) (f ∙ ap first (sym none))
+other k b g l {j} e eg el f n = before_number j (refuse RunEnded b nan ∷ (g ++ l)) (f ∙ ap first (sym (alike_before j k n (refuse RunEnded b nan ∷ (g ++ l)) ∙ none))) refl
   where
     none : before k (refuse RunEnded b nan ∷ (g ++ l)) ≡ refuse RunEnded b nan ∷ (g ++ l)
     none = rw e (ap (λ (r : List Check). refuse RunEnded b nan ∷ r) (before_append k g l eg ∙ ap (λ (r : List Check). g ++ r) el))
@@ -89,17 +89,17 @@ not_ran k a b c = go (ltb 26 k) refl (ltb k 30) refl
     go true e true f = absurd (omega (arith, ltb-true 26 k e, ltb-true k 30 f, a, b, c))
 
 early : (s : PausedRun) (field : ℕ) (t : Option Float) (a : Csr) (mass : Mass) (tau : Float) (count : ℕ) (w output memory : List Float) {k : Reason} {x : Float}
-    → first (step_checks s field (record { tolerance = t; job = job a mass tau count w; output = output; memory = memory })) ≡ Refused k x → ran k ≡ false
+    → first (step_checks s field (record { tolerance = t; job = job a mass tau count w; output = output; memory = memory })) ≡ Refused k x → ran (number k) ≡ false
 early s field t a mass tau count w output memory {k} {x} e =
     let j = job a mass tau count w in
     let l = behind_matrix s field t j output memory ++ field_checks field (rows j + degree j) in
     let g = generator_checks a mass in
     let f : Refused k x ≡ first (refuse RunEnded (over s) nan ∷ (g ++ l)) = sym e ∙ ap first (step_on s field t j output memory) in
-    not_ran k (other 27 (over s) g l refl (not_27 a mass).0 (behind_27 s field t j output memory).0 f) (other 28 (over s) g l refl (not_27 a mass).1 (behind_27 s field t j output memory).1 f) (other 29 (over s) g l refl (not_27 a mass).2 (behind_27 s field t j output memory).2 f)
+    not_ran (number k) (other SubstepLimit (over s) g l refl (not_27 a mass).0 (behind_27 s field t j output memory).0 f) (other LengthsRejected (over s) g l refl (not_27 a mass).1 (behind_27 s field t j output memory).1 f) (other NoInnerPlan (over s) g l refl (not_27 a mass).2 (behind_27 s field t j output memory).2 f)
 
 -- ---- a refused call changes nothing
 pub refused : (call : RunCall) (a : Csr) (mass : Mass) (tau : Float) (count : ℕ) (w output memory field numbers : List Float) (counts : List ℕ) {k : Reason} {x : Float}
-    → first (checks call (job a mass tau count w) output memory (length field) numbers counts) ≡ Refused k x → called_run call (job a mass tau count w) output memory field numbers counts ≡ told (state k x numbers counts) output memory field
+    → first (checks call (job a mass tau count w) output memory (length field) numbers counts) ≡ Refused k x → called_run call (job a mass tau count w) output memory field numbers counts ≡ told (state (number k) x numbers counts) output memory field
 unfolding checks called_run start_told start_unless start_state step_told step step_unless step_state
 refused (Start tol m limit) a mass tau count w output memory field numbers counts e = rw e refl
 refused (Step with_tol tol) a mass tau count w output memory field numbers counts e = rw (e, early (run_of numbers counts) (length field) (tolerance with_tol tol) a mass tau count w output memory e) refl
@@ -251,7 +251,7 @@ module _ (call : RunCall) (n : ℕ) (vals : List Float) (few : n ≤ 64) (entrie
   free (Start tol m most) = (refl, refl, refl, refl)
   free (Step with_tol tol) = (refl, refl, refl, refl)
 
-  low : limit.number ≤ 13
+  low : number limit.reason ≤ 13
   unfolding limit
   low = omega arith
 

@@ -5,8 +5,7 @@ use mathlib.Core.Path.{◌≡◌, refl, sym, ◌∙◌, ap}
 use Prim.Native.Nat.{ℕ, ◌/◌, ◌≤◌, ◌<◌}
 use lib.ListN.{length, get_or, take, drop}
 use lib.Ieee.{Float}
-use Rattle.checks.specs.First.{first}
-use Rattle.checks.specs.First.{Checked}
+use Rattle.checks.specs.First.{first, Checked}
 use Rattle.general_operator.specs.Csr.{csr}
 use Rattle.generator_action.specs.Mass.{Mass, given}
 use Rattle.paused_run.specs.Paused.{Job, rows}
@@ -83,9 +82,9 @@ module _ (call : RunCall) (n : ℕ) (vals : List Float) (few : n ≤ 64) (entrie
     replied_cut = go checked₁ refl
       where
         go : (c : Checked) → checked₁ ≡ c → mended (packs q₁ cuts) ≡ packs q wholes
-        go (Err refusal) e =
+        go (Err e₁) e =
             by_refusal bo bf bn bk (refused call (csr n (numbers_of (take a starts)) (numbers_of (take d cols)) vals) (given b (doubles_of (take m mass))) tau count (doubles_of (take p w)) (doubles_of (take r out)) (doubles_of work) (doubles_of (take f field)) (doubles_of (take h numbers)) (words_of (take k counts)) e)
-            (refused call (csr n (numbers_of starts) (numbers_of cols) vals) (given b (doubles_of mass)) tau count (doubles_of w) (doubles_of out) (doubles_of work) (doubles_of field) (doubles_of numbers) (words_of counts) (recut.told ∙ ap (retold (length starts / 4) (len / 8) (length out / 8) (length w / 8)) e ∙ retold_refused (length starts / 4) (len / 8) (length out / 8) (length w / 8) refusal.reason refusal.value))
+            (refused call (csr n (numbers_of starts) (numbers_of cols) vals) (given b (doubles_of mass)) tau count (doubles_of w) (doubles_of out) (doubles_of work) (doubles_of field) (doubles_of numbers) (words_of counts) (recut.told ∙ ap (retold (length starts / 4) (len / 8) (length out / 8) (length w / 8)) e ∙ retold_refused (length starts / 4) (len / 8) (length out / 8) (length w / 8) e₁.reason e₁.value))
         go (Ok _) e =
             let z = recut.same e in
             let u = z.0.0 in

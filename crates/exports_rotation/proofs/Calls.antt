@@ -18,10 +18,8 @@ use Rattle.checks.specs.First.{first}
 use Rattle.checks.specs.First.{Checked}
 use Rattle.krylov_job.specs.KrylovCall.{krylov_checks}
 use Rattle.krylov_job.specs.declared.KrylovPhiOptions.{KrylovPhiOptions}
-use Rattle.paused_run.specs.Paused.{Job, Input, PausedCall, leaves, rows, start_checks, start_unless, start}
+use Rattle.paused_run.specs.Paused.{Job, Input, PausedCall, leaves, rows, start_checks, StartAnswer, start_unless, start, StepAnswer}
 use Rattle.paused_run.specs.declared.PausedRun.{PausedRun}
-use Rattle.paused_run.specs.Paused.{StartAnswer}
-use Rattle.paused_run.specs.Paused.{StepAnswer}
 use Rattle.rotation.specs.Unit.{empty, waiting, next_place, UnitCall, unit_call, lowest_free, room, admitted_by, admitted, join, turn_of, turn}
 use Rattle.rotation.specs.declared.Rotation.{Rotation}
 use Rattle.rotation_joins.specs.declared.Joined.{Joined}

@@ -16,9 +16,8 @@ use Rattle.lists.specs.Loop.{tabulate, stack}
 use Rattle.lists.specs.Window.{window}
 use Rattle.lists.proofs.Loop.{length_tabulate, tabulate_ext, tabulate_get_or}
 use Rattle.krylov_job.specs.declared.KrylovPhiOptions.{KrylovPhiOptions}
-use Rattle.paused_run.specs.Paused.{Job, Input, PausedCall, leaves, start_unless, start}
+use Rattle.paused_run.specs.Paused.{Job, Input, PausedCall, leaves, StartAnswer, start_unless, start}
 use Rattle.paused_run.specs.declared.PausedRun.{PausedRun}
-use Rattle.paused_run.specs.Paused.{StartAnswer}
 use Rattle.rotation.specs.Unit.{unread, run_at, empty, next_place, UnitCall, lowest_free, room, admitted_by, admitted, join, turn_of, turn}
 use Rattle.rotation.specs.declared.Rotation.{Rotation}
 use Rattle.rotation.proofs.Queue.{has_room}

@@ -7,18 +7,15 @@ use lib.Dec.{ltb}
 use lib.ListN.{length}
 use lib.Ieee.{Float}
 use Rattle.lists.specs.Walk.{Turn, on, out}
-use Rattle.checks.specs.First.{first}
-use Rattle.checks.specs.First.{Checked}
+use Rattle.checks.specs.First.{first, Checked}
 use Rattle.krylov_advance.specs.Run.{State, End, finished, refused}
-use Rattle.paused_run.specs.Paused.{Input, moved, over, other_checks, step_checks, resumed, verdict, substep_of, after_substep, step_unless, step}
+use Rattle.paused_run.specs.Paused.{StepAnswer, StepRefused, Input, moved, over, other_checks, step_checks, resumed, verdict, substep_of, after_substep, step_unless, step}
 use Rattle.paused_run.specs.declared.PausedRun.{PausedRun}
-use Rattle.paused_run.specs.Paused.{StepAnswer}
 use Rattle.paused_claims.specs.History.{run_in}
 use Rattle.paused_claims.specs.Alike.{SameStep, Blind, number_in, double_in, run_with_tol, bringing, SameButTol, NewTol}
 use Rattle.checks.specs.Reasons.{Sound}
 use Rattle.std.specs.Prelude.{Ok, Err}
 use Rattle.checks.specs.declared.Reason.TheVariants.{SubstepLimit}
-use Rattle.paused_run.specs.Paused.{StepRefused}
 
 -- ---- what was lent does not matter
 pub blind : (s : PausedRun) (y : List Float) → Blind s y

@@ -21,8 +21,7 @@ use Rattle.pow2.specs.Pow2.{sup, eta_scaling, pow2_scale}
 use Rattle.pow2.specs.Pow2 as pow2
 use Rattle.pow2.specs.declared.Scale.{Scale}
 use Rattle.vectors.proofs.Laws.{length_scale}
-use Rattle.checks.specs.First.{Check, refuse, first, before, unless_named}
-use Rattle.checks.specs.First.{Checked}
+use Rattle.checks.specs.First.{Check, refuse, first, Checked, unless_named, same as same_number, before}
 use Rattle.checks.proofs.First.{and_then, unless, first_cons, first_append, never_holds, stops}
 use Rattle.checks.proofs.Numbers.{before_append, not_by, only_by, if_by}
 use Rattle.general_operator.specs.Csr.{row_sum_norm}
@@ -32,7 +31,7 @@ use Rattle.gram_schmidt.specs.Basis.{Setting}
 use Rattle.krylov_advance.specs.Run.{State, End}
 use Rattle.krylov_job.specs.KrylovCall.{bound, dimension, option_checks, bound_checks, run_checks, krylov_need, krylov_checks_by, krylov_checks}
 use Rattle.krylov_job.specs.declared.KrylovPhiOptions.{KrylovPhiOptions}
-use Rattle.paused_run.specs.Paused.{Job, rows, degree, leaves, field_checks, Input, tol_in, options_in, over, other_checks, step_checks, step_unless, step}
+use Rattle.paused_run.specs.Paused.{Job, rows, degree, leaves, field_checks, StepRefused, Input, tol_in, options_in, over, other_checks, step_checks, step_unless, step}
 use Rattle.paused_run.specs.declared.PausedRun.{PausedRun}
 use Rattle.demand_3.specs.Trace.{scaled, run_by, run_of, status_of}
 use Rattle.demand_3.proofs.Counts.{reached}
@@ -48,7 +47,6 @@ use Rattle.checks.specs.Reasons.{Sound, Refused}
 use Rattle.std.specs.Prelude.{Ok, Err}
 use Rattle.checks.specs.declared.Reason.TheVariants.{VectorLength, VectorNotFinite, MagnitudeNotFinite, GainNotFinite, SubstepLimit, LengthsRejected, NoInnerPlan, RunEnded}
 use Rattle.checks.specs.declared.Reason.{Reason}
-use Rattle.paused_run.specs.Paused.{StepRefused}
 
 -- ---- of a run as it was left 31 asks whether it has ended, and its field is n + d long
 module _ (o : KrylovPhiOptions) (j : Job) (output memory : ℕ) (sound : Sound ≡ first (krylov_checks j.g j.tau j.count j.w o output memory)) where
@@ -124,7 +122,7 @@ bad_exists j i d = ap (λ (n : ℕ). ltb n d) (find_ext _ _ d (λ k l. bad_is i 
 asked_alone : (b : Bool) (cs : List Check) → before GainNotFinite cs ≡ cs → map (asking_22 b) cs ≡ cs
 unfolding before
 asked_alone b [] h = refl
-asked_alone b (c ∷ cs) h = go (eqb c.number 22) h (asked_alone b cs)
+asked_alone b (c ∷ cs) h = go (same_number c.reason GainNotFinite) h (asked_alone b cs)
   where
     tail_of : {c d : Check} {cs ds : List Check} → c ∷ cs ≡ d ∷ ds → cs ≡ ds
     tail_of e = cc
@@ -138,7 +136,7 @@ map_append f [] ys = refl
 map_append f (x ∷ xs) ys = ap (λ (l : List Check). f x ∷ l) (map_append f xs ys)
 
 -- a check that holds hides those behind it
-hides : (xs : List Check) (k : ℕ) (x : Float) (cs : List Check) → first (xs ++ (refuse k true x ∷ cs)) ≡ first (xs ++ (refuse k true x ∷ []))
+hides : (xs : List Check) (k : Reason) (x : Float) (cs : List Check) → first (xs ++ (refuse k true x ∷ cs)) ≡ first (xs ++ (refuse k true x ∷ []))
 hides xs k x cs = first_append xs _ ∙ ap (and_then (first xs)) (first_cons k true x cs ∙ sym (first_cons k true x [])) ∙ sym (first_append xs _)
 
 module _ (s : PausedRun) (long : ℕ) (i : Input) where
@@ -162,7 +160,7 @@ module _ (s : PausedRun) (long : ℕ) (i : Input) where
   -- not over: those of the job, with the second 16 between
   not_over : over s ≡ false → first (step_checks s long i) ≡ first ((g.g.checks ++ (front ++ (other_checks s g ++ rest s.eta))) ++ field_checks long (rows g + degree g))
   unfolding step_checks krylov_checks_by vector_checks_by count_checks time_checks length_checks other_checks finite_checks
-  not_over e = first_cons RunEnded (over s) nan _ ∙ ap (λ (b : Bool). unless b 31 nan (first ((g.g.checks ++ (front ++ (other_checks s g ++ rest s.eta))) ++ field_checks long (rows g + degree g)))) e
+  not_over e = first_cons RunEnded (over s) nan _ ∙ ap (λ (b : Bool). unless b RunEnded nan (first ((g.g.checks ++ (front ++ (other_checks s g ++ rest s.eta))) ++ field_checks long (rows g + degree g)))) e
 
   and_sound : (r : Checked) → and_then r Sound ≡ r
   unfolding and_then
@@ -194,7 +192,7 @@ module _ (s : PausedRun) (long : ℕ) (i : Input) where
       not_over e
       ∙ ap first (append_assoc g.g.checks _ (field_checks long (rows g + degree g)) ∙ ap (λ (l : List Check). g.g.checks ++ l) (append_assoc front _ _) ∙ sym (append_assoc g.g.checks front _))
       ∙ ap (λ (b : Bool). first ((g.g.checks ++ front) ++ (refuse VectorLength b (nat (length g.w)) ∷ (rest s.eta ++ field_checks long (rows g + degree g))))) (differs n)
-      ∙ hides (g.g.checks ++ front) 16 (nat (length g.w)) _
+      ∙ hides (g.g.checks ++ front) VectorLength (nat (length g.w)) _
 
   -- as the landed list names them
   list_is : (eta : Float) → g.g.checks ++ (front ++ rest eta) ≡ krylov_checks_by g.g g.tau g.count g.w eta of_lengths o₁ (length i.memory)
@@ -205,23 +203,23 @@ module _ (s : PausedRun) (long : ℕ) (i : Input) where
   abbrev behind : List Check
   behind = front ++ (other_checks s g ++ rest s.eta)
 
-  none_numbered : (k : ℕ) → before k g.g.checks ≡ g.g.checks → before k behind ≡ behind → before k (field_checks long (rows g + degree g)) ≡ field_checks long (rows g + degree g)
+  none_numbered : (k : Reason) → before k g.g.checks ≡ g.g.checks → before k behind ≡ behind → before k (field_checks long (rows g + degree g)) ≡ field_checks long (rows g + degree g)
       → before k ((g.g.checks ++ behind) ++ field_checks long (rows g + degree g)) ≡ (g.g.checks ++ behind) ++ field_checks long (rows g + degree g)
   none_numbered k a b c =
       before_append k (g.g.checks ++ behind) (field_checks long (rows g + degree g)) (before_append k g.g.checks behind a ∙ ap (λ (l : List Check). g.g.checks ++ l) b)
       ∙ ap (λ (l : List Check). (g.g.checks ++ behind) ++ l) c
 
   -- no check of a step is numbered 27 to 29
-  pub early_number : Plain g.g → (k : Reason) (x : Float) → Refused k x ≡ first (step_checks s long i) → (k ≡ 27) ⊎ ((k ≡ 28) ⊎ (k ≡ 29)) → ⊥
+  pub early_number : Plain g.g → (k : Reason) (x : Float) → Refused k x ≡ first (step_checks s long i) → (k ≡ SubstepLimit) ⊎ ((k ≡ LengthsRejected) ⊎ (k ≡ NoInnerPlan)) → ⊥
   unfolding before count_checks time_checks length_checks other_checks finite_checks option_checks run_checks magnitude_checks bound_checks memory_checks field_checks step_checks krylov_checks_by vector_checks_by
-  early_number h k x e (inl n) = not_by SubstepLimit (step_checks s long i) (ap (λ (l : List Check). refuse RunEnded (over s) nan ∷ l) (none_numbered 27 h.no_27 refl refl)) (ap (λ (m : Reason). Refused m x) (sym n) ∙ e)
-  early_number h k x e (inr (inl n)) = not_by LengthsRejected (step_checks s long i) (ap (λ (l : List Check). refuse RunEnded (over s) nan ∷ l) (none_numbered 28 h.no_28 refl refl)) (ap (λ (m : Reason). Refused m x) (sym n) ∙ e)
-  early_number h k x e (inr (inr n)) = not_by NoInnerPlan (step_checks s long i) (ap (λ (l : List Check). refuse RunEnded (over s) nan ∷ l) (none_numbered 29 h.no_29 refl refl)) (ap (λ (m : Reason). Refused m x) (sym n) ∙ e)
+  early_number h k x e (inl n) = not_by SubstepLimit (step_checks s long i) (ap (λ (l : List Check). refuse RunEnded (over s) nan ∷ l) (none_numbered SubstepLimit h.no_27 refl refl)) (ap (λ (m : Reason). Refused m x) (sym n) ∙ e)
+  early_number h k x e (inr (inl n)) = not_by LengthsRejected (step_checks s long i) (ap (λ (l : List Check). refuse RunEnded (over s) nan ∷ l) (none_numbered LengthsRejected h.no_28 refl refl)) (ap (λ (m : Reason). Refused m x) (sym n) ∙ e)
+  early_number h k x e (inr (inr n)) = not_by NoInnerPlan (step_checks s long i) (ap (λ (l : List Check). refuse RunEnded (over s) nan ∷ l) (none_numbered NoInnerPlan h.no_29 refl refl)) (ap (λ (m : Reason). Refused m x) (sym n) ∙ e)
 
   -- none is numbered 31 but the first
   no_31_behind : Plain g.g → (x : Float) → over s ≡ false → Refused RunEnded x ≡ first (step_checks s long i) → ⊥
   unfolding before count_checks time_checks length_checks other_checks finite_checks option_checks run_checks magnitude_checks bound_checks memory_checks field_checks
-  no_31_behind h x e r = not_by RunEnded ((g.g.checks ++ behind) ++ field_checks long (rows g + degree g)) (none_numbered 31 h.no_31 refl refl) (r ∙ not_over e)
+  no_31_behind h x e r = not_by RunEnded ((g.g.checks ++ behind) ++ field_checks long (rows g + degree g)) (none_numbered RunEnded h.no_31 refl refl) (r ∙ not_over e)
 
 -- ---- the landed list of a job
 module _ (o : KrylovPhiOptions) (g : Job) (output memory : List Float) where

@@ -14,17 +14,15 @@ use Rattle.lists.specs.Walk.{Turn, on, out}
 use Rattle.doubles.specs.F64.{◌⋖◌, +0, 1f}
 use Rattle.pow2.specs.declared.Scale.{Scale}
 use Rattle.pow2.specs.Pow2.{pow2_scale}
-use Rattle.checks.specs.First.{first}
-use Rattle.checks.specs.First.{Checked}
+use Rattle.checks.specs.First.{first, Checked}
 use Rattle.krylov_advance.specs.Run.{State, End}
 use Rattle.combination.specs.Combination.{further}
 use Rattle.taylor_schedule.proofs.Admitted.{first_within}
 use Rattle.gram_schmidt.specs.Basis.{norm2}
 use Rattle.krylov_job.specs.KrylovCall.{krylov_checks}
 use Rattle.krylov_job.specs.declared.KrylovPhiOptions.{KrylovPhiOptions}
-use Rattle.paused_run.specs.Paused.{Job, rows, degree, PausedCall, leaves, start, Input, step_unless, step}
+use Rattle.paused_run.specs.Paused.{Job, rows, degree, PausedCall, leaves, start, StepAnswer, StepRefused, Input, step_unless, step}
 use Rattle.paused_run.specs.declared.PausedRun.{PausedRun}
-use Rattle.paused_run.specs.Paused.{StepAnswer}
 use Rattle.demand_3.specs.Trace.{Accepted, field_after, Run, status_of, accepted_by, time_of, field_of}
 use Rattle.demand_3.specs.Krylov.{euclidean, Each}
 use Rattle.demand_3.proofs.Counts.{run_recorded}
@@ -46,7 +44,7 @@ use Rattle.paused_claims.proofs.Steps.{step_done}
 use Rattle.checks.specs.Reasons.{Sound, Refused}
 use Rattle.std.specs.Prelude.{Ok, Err}
 use Rattle.checks.specs.declared.Reason.{Reason}
-use Rattle.paused_run.specs.Paused.{StepRefused}
+use Rattle.checks.specs.declared.Reason.TheVariants.{RunEnded}
 
 -- ---- lists
 some_front : {A : Type 0} (P : A → Type 0) (l l' : List A) → Some P l → Some P (l ++ l')
@@ -115,7 +113,7 @@ module _ {o : KrylovPhiOptions} {j : Job} {p : Past} (l : Left o j p) (i : Input
 
   -- an ended run stays so
   pub stays_ended : p.run.ended ≡ true → (run_in (call_on p i).answer).ended ≡ true
-  stays_ended h = ap (λ (z : PausedCall StepAnswer). (run_in z.answer).ended) (early_same p i 31 nan (if_31 l i h)) ∙ h
+  stays_ended h = ap (λ (z : PausedCall StepAnswer). (run_in z.answer).ended) (early_same p i RunEnded nan (if_31 l i h)) ∙ h
 
 -- ---- ended, so by one of the causes
 pub only_causes : {o : KrylovPhiOptions} {j : Job} {p : Past} → Left o j p → p.run.ended ≡ true → Causes j p

@@ -13,20 +13,17 @@ use Rattle.generator_action.specs.Generator.{forward}
 use Rattle.krylov_job.specs.declared.KrylovPhiOptions.{KrylovPhiOptions}
 use Rattle.checks.specs.First.{first}
 use Rattle.krylov_advance.specs.declared.KrylovPhiReport.{KrylovPhiReport}
-use Rattle.paused_run.specs.Paused.{Job, PausedCall, leaves, start_checks, start, Input, step, open_paused}
+use Rattle.paused_run.specs.Paused.{Job, PausedCall, leaves, StartAnswer, start_checks, start, StepAnswer, StepRefused, Input, step, open_paused}
 use Rattle.paused_run.specs.declared.PausedRun.{PausedRun}
-use Rattle.paused_run.specs.Paused.{StartAnswer}
-use Rattle.paused_run.specs.Paused.{StepAnswer}
 use Rattle.paused_claims.specs.History.{run_in}
 use Rattle.paused_claims.specs.Alike.{number_in, double_in}
-use Rattle.checks.specs.Reasons.{Sound, Refused}
-use Rattle.std.specs.Prelude.{Ok}
+use Rattle.checks.specs.Reasons.{Sound}
+use Rattle.std.specs.Prelude.{Ok, Err}
 use Rattle.checks.specs.declared.Reason.TheVariants.{NoInnerPlan, RunEnded}
-use Rattle.paused_run.specs.Paused.{StepRefused}
 
 -- the first step on what a start handed back; a refused start answers for it
 abbrev first_step : PausedCall StartAnswer → Input → PausedCall StepAnswer
-first_step c i = elim c.answer [ Refused k x ↦ leaves (StepRefused k x nothing) c.output c.memory c.field | Ok s ↦ step s c.field i ]
+first_step c i = elim c.answer [ Err e ↦ leaves (StepRefused e.reason e.value nothing) c.output c.memory c.field | Ok s ↦ step s c.field i ]
   where
     nothing : PausedRun
     nothing =
@@ -237,7 +234,7 @@ finished = refl
 met_29 : first_step ring_begun (on_ring (Some (bits 0x1)))
     ≡ (let y = 1f ∷ bits 0x3fe0_0000_0000_0000 ∷ bits 0x3fd0_0000_0000_0000 ∷ [] in
     leaves
-    (Refused NoInnerPlan nan
+    (StepRefused NoInnerPlan nan
     (ring_run +0 (bits 0x3f90_624d_d2f1_a9fc) (record { matvecs = 0; substeps = 0; rejected = 0; est_error = +0; shortest = +0; last = +0 }) hundredth true))
     y
     (replicate 34 +0)

@@ -2,7 +2,7 @@
 use mathlib.Core.Path.{◌≡◌, refl, sym, ap, ◌∙◌, subst}
 use mathlib.Core.Logic.{inl, inr}
 use mathlib.Core.Bool.{true≢false}
-use Prim.Native.Nat.{ℕ, ◌≤◌, ◌<◌}
+use Prim.Native.Nat.{ℕ, zero, ◌≤◌, ◌<◌}
 use native.Mathlib.Nat.{le_trans, le_of_eq}
 use native.Mathlib.Omega.{arith}
 use lib.Dec.{T}
@@ -10,9 +10,8 @@ use lib.ListN.{length}
 use lib.Ieee.{Float, lt, of_bits}
 use Rattle.doubles.specs.F64.{◌⋖◌, 1f}
 use Rattle.krylov_job.specs.declared.KrylovPhiOptions.{KrylovPhiOptions}
-use Rattle.paused_run.specs.Paused.{Job, Input}
+use Rattle.paused_run.specs.Paused.{Job, StepAnswer, StepRefused, Input}
 use Rattle.paused_run.specs.declared.PausedRun.{PausedRun}
-use Rattle.paused_run.specs.Paused.{StepAnswer}
 use Rattle.demand_3.specs.Trace.{Run}
 use Rattle.demand_3.specs.Krylov.{Finished}
 use Rattle.paused_claims.specs.History.{Past, call_on, Steps, in_force, made_with, next, Left, run_so_far}
@@ -22,7 +21,6 @@ use Rattle.paused_claims.proofs.Known.{some_limit}
 use Rattle.paused_claims.proofs.Standing.{left_sound, left_stands}
 use Rattle.paused_claims.proofs.Steps.{step_done}
 use Rattle.checks.specs.declared.Reason.TheVariants.{SubstepLimit}
-use Rattle.paused_run.specs.Paused.{StepRefused}
 use Rattle.std.specs.Prelude.{Ok, Err}
 
 module _ {o : KrylovPhiOptions} {j : Job} {p : Past} (l : Left o j p) (i : Input) (e : Steps p i) where
@@ -49,7 +47,10 @@ module _ {o : KrylovPhiOptions} {j : Job} {p : Past} (l : Left o j p) (i : Input
     where
       go : Ends (StepRefused SubstepLimit x s) → AtLimit limit u x
       go (inl g) = record { substeps = g.all; below_one = g.goes_on.below_one; norm_left = g.goes_on.norm_left (subst (λ (n : ℕ). 0 < n) (sym g.all) some); told = g.told }
-      go (inr g) = elim g.failed.number [ inl n ↦ absurd (omega (arith, n)) | inr n ↦ absurd (omega (arith, n)) ]
+      go (inr g) = elim g.failed.number [
+        | inl n ↦ (let z : zero ≡ 1 = cc in absurd (omega (arith, z)))
+        | inr n ↦ (let z : zero ≡ 1 = cc in absurd (omega (arith, z)))
+      ]
 
   not_reached : {x : Float} → AtLimit limit u x → Finished u → ⊥
   unfolding lt of_bits

@@ -6,7 +6,7 @@ use mathlib.Core.Bool.{Bool, true, false, not, true≢false}
 use mathlib.Core.List.{List, [], ◌∷◌, ◌++◌, append-nil}
 use Prim.Native.Nat.{ℕ, ◌+◌, ◌-◌, ◌*◌, ◌≤◌, ◌<◌, zero-le}
 use native.Mathlib.Omega.{arith}
-use borrow.Author.Tests.{eqb-true, ltb-true, lt-ltb, ne_eqb, not-false}
+use borrow.Author.Tests.{eqb-true, ltb-true, lt-ltb, not-false}
 use lib.Dec.{ltb, eqb}
 use lib.ListN.{length, replicate, length-append}
 use lib.Ieee.{Float}
@@ -16,9 +16,8 @@ use Rattle.doubles.specs.F64.{◌⊗◌, +0}
 use Rattle.vectors.specs.Vectors.{scale}
 use Rattle.pow2.specs.Pow2.{pow2_scale}
 use Rattle.pow2.specs.declared.Scale.{Scale}
-use Rattle.checks.specs.First.{first}
-use Rattle.checks.specs.First.{Checked}
-use Rattle.checks.proofs.First.{sound_cons, sound_append}
+use Rattle.checks.specs.First.{first, Checked, same}
+use Rattle.checks.proofs.First.{ok_is, sound_cons, sound_append}
 use Rattle.general_operator.proofs.Sound.{or_false}
 use Rattle.general_operator.specs.Csr.{row_sum_norm}
 use Rattle.combination.specs.Call.{cleared}
@@ -30,10 +29,8 @@ use Rattle.krylov_advance.specs.Run.{State, End, finished, refused, applied_of, 
 use Rattle.krylov_advance.specs.declared.KrylovPhiReport.{KrylovPhiReport}
 use Rattle.krylov_job.specs.KrylovCall.{bound, dimension, krylov_checks_by, krylov_checks}
 use Rattle.krylov_job.specs.declared.KrylovPhiOptions.{KrylovPhiOptions}
-use Rattle.paused_run.specs.Paused.{Job, rows, degree, PausedCall, setting_of, need_of, idle_run, first_run, begun, start, Input, tol_in, over, other_checks, step_checks, resumed, moved, verdict, field_after, substep_of, after_substep, step_unless, step}
+use Rattle.paused_run.specs.Paused.{Job, rows, degree, PausedCall, setting_of, need_of, idle_run, first_run, StartAnswer, begun, start, StepAnswer, StepRefused, Input, tol_in, over, other_checks, step_checks, resumed, moved, verdict, field_after, substep_of, after_substep, step_unless, step}
 use Rattle.paused_run.specs.declared.PausedRun.{PausedRun}
-use Rattle.paused_run.specs.Paused.{StartAnswer}
-use Rattle.paused_run.specs.Paused.{StepAnswer}
 use Rattle.demand_3.specs.Trace.{Run, runs, scaled, allowed, run_by, run_of, status_of}
 use Rattle.demand_3.specs.Krylov.{Each, euclidean}
 use Rattle.demand_3.specs.Demand3.{operator_of}
@@ -47,8 +44,8 @@ use Rattle.paused_claims.proofs.Known.{some_limit, long}
 use Rattle.paused_claims.proofs.Start.{started_is, the_start}
 use Rattle.checks.specs.Reasons.{Sound}
 use Rattle.std.specs.Prelude.{Ok, Err}
-use Rattle.checks.specs.declared.Reason.TheVariants.{SubstepLimit}
-use Rattle.paused_run.specs.Paused.{StepRefused}
+use Rattle.checks.specs.declared.Reason.TheVariants.{SubstepLimit, LengthsRejected, NoInnerPlan}
+use Rattle.checks.specs.declared.Reason.{Reason}
 
 -- ---- by where a run stands
 abbrev pub report_by : Float → Turn State End → KrylovPhiReport
@@ -64,7 +61,7 @@ ended_by limit (out e) = true
 abbrev pub Refuses : State → Turn State End → Type 0
 Refuses s (on t) = Unit {0}
 Refuses s (out (finished t)) = Unit {0}
-Refuses s (out (refused k x t)) = (t ≡ s) × ((k ≡ 28) ⊎ (k ≡ 29))
+Refuses s (out (refused k x t)) = (t ≡ s) × ((k ≡ LengthsRejected) ⊎ (k ≡ NoInnerPlan))
 
 standing_refuses : (s t : State) (b : Bool) → Refuses s (standing t b)
 standing_refuses s t true = tt
@@ -197,8 +194,8 @@ module _ (o : KrylovPhiOptions) (j : Job) (f : Scale) where
       go false = refl
   verdict_is tol now t (out (finished u)) h = refl
   verdict_is tol now t (out (refused k x u)) (e, n) =
-      let z : eqb k 27 ≡ false = ne_eqb k 27 (elim n [ inl a ↦ (λ b. omega (arith, a, b)) | inr a ↦ (λ b. omega (arith, a, b)) ]) in
-      ap (λ (b : Bool). standing_as (if b then now else tol) (out (refused k x t))) (sym z) ∙ ap (λ (w : State). standing_as (if eqb k 27 then now else tol) (out (refused k x w))) (sym e)
+      let z : same k SubstepLimit ≡ false = elim n [ inl a ↦ ap (λ (r : Reason). same r SubstepLimit) a | inr a ↦ ap (λ (r : Reason). same r SubstepLimit) a ] in
+      ap (λ (b : Bool). standing_as (if b then now else tol) (out (refused k x t))) (sym z) ∙ ap (λ (w : State). standing_as (if same k SubstepLimit then now else tol) (out (refused k x w))) (sym e)
 
   -- what a step leaves stands again
   made_long : (i : Job) (tol : Float) → rows i ≡ rows j → i.count ≡ j.count → len (made_with o j tol i) ≡ values_in j
@@ -324,8 +321,8 @@ pub left_sound : {o : KrylovPhiOptions} {j : Job} {p : Past} → Left o j p → 
 left_sound {o} {j} (history.started output memory field e) = (output, memory, ((the_start o j output memory field).only_accepted e).0)
 left_sound (history.stepped l i) = left_sound l
 
-pub same_run : {s t : PausedRun} → Ok s ≡ Ok t → s ≡ t
-same_run e = cc
+pub same_run : {s t : PausedRun} → ◌≡◌ {A = StartAnswer} (Ok s) (Ok t) → s ≡ t
+same_run e = ok_is e
 
 at_start_stands : (o : KrylovPhiOptions) (j : Job) (output memory field : List Float) {s : PausedRun} → (start o j output memory field).answer ≡ Ok s → (f : Option Scale) → pow2_scale (values_of j) ≡ f
     → Resting o j (at_start o s (start o j output memory field).field) ⊎ Moving o j (at_start o s (start o j output memory field).field)

@@ -13,17 +13,15 @@ use Rattle.std.specs.Prelude.{Option, Some, None}
 use Rattle.vectors.specs.Vectors.{scale}
 use Rattle.pow2.specs.Pow2.{pow2_scale}
 use Rattle.pow2.specs.declared.Scale.{Scale}
-use Rattle.checks.specs.First.{first}
-use Rattle.checks.specs.First.{Checked}
-use Rattle.checks.proofs.First.{and_then, unless, first_cons, first_none, first_append, sound_cons, sound_append}
+use Rattle.checks.specs.First.{first, Checked}
+use Rattle.checks.proofs.First.{and_then, unless, first_cons, first_none, first_append, err_is, ok_is, same_reason, same_double, sound_cons, sound_append}
 use Rattle.combination.specs.Call.{cleared}
 use Rattle.gram_schmidt.specs.Basis.{norm2}
 use Rattle.krylov_advance.specs.Run.{clamp_m}
 use Rattle.krylov_job.specs.KrylovCall.{dimension}
 use Rattle.krylov_job.specs.declared.KrylovPhiOptions.{KrylovPhiOptions}
-use Rattle.paused_run.specs.Paused.{Job, PausedCall, leaves, need_of, fresh, idle_run, first_run, field_checks, start_checks, begun, start_unless, start}
+use Rattle.paused_run.specs.Paused.{Job, PausedCall, leaves, StartAnswer, need_of, fresh, idle_run, first_run, field_checks, start_checks, begun, start_unless, start}
 use Rattle.paused_run.specs.declared.PausedRun.{PausedRun}
-use Rattle.paused_run.specs.Paused.{StartAnswer}
 use Rattle.demand_3.specs.Krylov.{Zeros}
 use Rattle.demand_3.proofs.Krylov.{none_zeros, zeros_none}
 use Rattle.paused_claims.specs.History.{values_in}
@@ -33,21 +31,22 @@ use Rattle.checks.specs.Reasons.{Sound, Refused}
 use Rattle.std.specs.Prelude.{Ok, Err}
 use Rattle.checks.specs.declared.Reason.TheVariants.{WorkLength}
 use Rattle.checks.specs.declared.Reason.{Reason}
+use Rattle.checks.specs.declared.Refusal.{Refusal}
 
 -- ---- the field's length
-field_told : (long wanted : ℕ) → first (field_checks long wanted) ≡ unless (not (eqb long wanted)) 26 nan Sound
+field_told : (long wanted : ℕ) → first (field_checks long wanted) ≡ unless (not (eqb long wanted)) WorkLength nan Sound
 unfolding field_checks
-field_told long wanted = first_cons WorkLength (not (eqb long wanted)) nan [] ∙ ap (unless (not (eqb long wanted)) 26 nan) first_none
+field_told long wanted = first_cons WorkLength (not (eqb long wanted)) nan [] ∙ ap (unless (not (eqb long wanted)) WorkLength nan) first_none
 
 pub field_sound : (long wanted : ℕ) → Sound ≡ first (field_checks long wanted) → long ≡ wanted
 unfolding field_checks
 field_sound long wanted e = eqb-true long wanted (not-false _ (sound_cons _ _ _ _ e).0)
 
 pub field_passes : (long wanted : ℕ) → long ≡ wanted → Sound ≡ first (field_checks long wanted)
-field_passes long wanted e = sym (field_told long wanted ∙ ap (λ (b : Bool). unless (not b) 26 nan Sound) (eq-eqb long wanted e))
+field_passes long wanted e = sym (field_told long wanted ∙ ap (λ (b : Bool). unless (not b) WorkLength nan Sound) (eq-eqb long wanted e))
 
 field_stops : (long wanted : ℕ) → (long ≡ wanted → ⊥) → first (field_checks long wanted) ≡ Refused WorkLength nan
-field_stops long wanted n = field_told long wanted ∙ ap (λ (b : Bool). unless (not b) 26 nan Sound) (ne_eqb long wanted n)
+field_stops long wanted n = field_told long wanted ∙ ap (λ (b : Bool). unless (not b) WorkLength nan Sound) (ne_eqb long wanted n)
 
 module _ (o : KrylovPhiOptions) (j : Job) (output memory field : List Float) where
   abbrev c : PausedCall StartAnswer
@@ -69,13 +68,13 @@ module _ (o : KrylovPhiOptions) (j : Job) (output memory field : List Float) whe
       not_started None y m g = let z : zero ≡ 1 = cc in omega (arith, z)
       not_started (Some f) y m g = let z : zero ≡ 1 = cc in omega (arith, z)
 
-      same : {i l : Reason} {a b : Float} → Refused i a ≡ Refused l b → Refused l b ≡ Refused i a
-      same g = cc
+      same : {d e : Refusal} → ◌≡◌ {A = StartAnswer} (Err d) (Err e) → ◌≡◌ {A = Checked} (Err e) (Err d)
+      same g = ap Err (sym (err_is g))
 
-      both : {i l : Reason} {a b : Float} → Refused i a ≡ Refused l b → (l ≡ i) × (b ≡ a)
-      both g = (cc, cc)
+      both : {i l : Reason} {a b : Float} → Refused {A = PausedRun} i a ≡ Refused {A = PausedRun} l b → (l ≡ i) × (b ≡ a)
+      both g = (sym (same_reason g), sym (same_double g))
 
-      go : (a : Checked) (t : Bool) → first (job_checks o j output memory) ≡ a → eqb (length field) (values_in j) ≡ t → (r : Checked) → r ≡ and_then a (unless (not t) 26 nan Sound)
+      go : (a : Checked) (t : Bool) → first (job_checks o j output memory) ≡ a → eqb (length field) (values_in j) ≡ t → (r : Checked) → r ≡ and_then a (unless (not t) WorkLength nan Sound)
           → (start_unless r o j output memory field).answer ≡ Refused k x → Refuses o j output memory field k x
       go (Err e) t ea et r er h = inl (same (subst (λ (z : Checked). (start_unless z o j output memory field).answer ≡ Refused k x) er h) ∙ sym ea)
       go (Ok _) true ea et r er h = absurd (not_started (pow2_scale (values_of j)) _ _ (subst (λ (z : Checked). (start_unless z o j output memory field).answer ≡ Refused k x) er h))
@@ -119,8 +118,8 @@ module _ (o : KrylovPhiOptions) (j : Job) (output memory field : List Float) whe
       go (Some f) = (_, refl)
 
   -- ---- every field of what it hands back
-  same_run : {s t : PausedRun} → Ok s ≡ Ok t → s ≡ t
-  same_run e = cc
+  same_run : {s t : PausedRun} → ◌≡◌ {A = StartAnswer} (Ok s) (Ok t) → s ≡ t
+  same_run e = ok_is e
 
   abbrev left : Option Scale → PausedCall StartAnswer
   left = begun o j (values_of j) (cleared (need_of j o.m) memory)

@@ -4,19 +4,15 @@ use mathlib.Core.Path.{◌≡◌, refl, sym, ap, ◌∙◌}
 use mathlib.Core.Logic.{◌⊎◌, inl, inr}
 use mathlib.Core.Bool.{Bool, true, false}
 use mathlib.Core.List.{List}
-use native.Mathlib.Omega.{arith}
-use borrow.Author.Tests.{ne_eqb}
-use lib.Dec.{ltb, eqb}
+use lib.Dec.{ltb}
 use lib.ListN.{length}
 use lib.Ieee.{Float}
 use Rattle.lists.specs.Walk.{Turn, on, out}
-use Rattle.checks.specs.First.{first}
-use Rattle.checks.specs.First.{Checked}
+use Rattle.checks.specs.First.{first, Checked, same}
 use Rattle.krylov_advance.specs.Run.{State, End, finished, refused}
 use Rattle.krylov_job.specs.declared.KrylovPhiOptions.{KrylovPhiOptions}
-use Rattle.paused_run.specs.Paused.{Job, Input, tol_in, setting_of, resumed, moved, step_checks, verdict, substep_of, after_substep, step_unless, step}
+use Rattle.paused_run.specs.Paused.{Job, StepAnswer, StepRefused, Input, tol_in, setting_of, resumed, moved, step_checks, verdict, substep_of, after_substep, step_unless, step}
 use Rattle.paused_run.specs.declared.PausedRun.{PausedRun}
-use Rattle.paused_run.specs.Paused.{StepAnswer}
 use Rattle.paused_claims.specs.History.{Past, run_in, in_force, tol_kept, Left}
 use Rattle.paused_claims.specs.History as history
 use Rattle.paused_claims.specs.Stays.{Stays, StepStays, LeftStays}
@@ -24,7 +20,7 @@ use Rattle.paused_claims.proofs.Standing.{Refuses, substep_refuses, tol_is, Rest
 use Rattle.checks.specs.Reasons.{Sound}
 use Rattle.std.specs.Prelude.{Ok, Err}
 use Rattle.checks.specs.declared.Reason.TheVariants.{SubstepLimit}
-use Rattle.paused_run.specs.Paused.{StepRefused}
+use Rattle.checks.specs.declared.Reason.{Reason}
 
 module _ (s : PausedRun) where
   pub stays_here : Stays s s
@@ -52,7 +48,7 @@ module _ (s : PausedRun) where
       go false = refl
   verdict_tol tol u (out (finished t)) h = refl
   verdict_tol tol u (out (refused k x t)) (e, n) =
-      let z : eqb k 27 ≡ false = ne_eqb k 27 (elim n [ inl a ↦ (λ b. omega (arith, a, b)) | inr a ↦ (λ b. omega (arith, a, b)) ]) in
+      let z : same k SubstepLimit ≡ false = elim n [ inl a ↦ ap (λ (r : Reason). same r SubstepLimit) a | inr a ↦ ap (λ (r : Reason). same r SubstepLimit) a ] in
       ap (λ (b : Bool). if b then tol else s.tol) (sym z)
 
   module _ (y : List Float) (i : Input) where

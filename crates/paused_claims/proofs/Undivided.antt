@@ -9,7 +9,7 @@ use native.Mathlib.Nat.{le_trans, le_of_eq, zero-add}
 use native.Mathlib.Numerals.{add-one}
 use native.Mathlib.Omega.{arith}
 use borrow.Author.Tests.{ltb-false, le-ltb}
-use lib.Dec.{ltb, eqb}
+use lib.Dec.{ltb}
 use lib.ListN.{length, replicate, length-append, length-replicate}
 use lib.Ieee.{Float}
 use Rattle.lists.specs.Walk.{Turn, on, out}
@@ -18,18 +18,15 @@ use Rattle.doubles.specs.F64.{◌⊗◌}
 use Rattle.vectors.specs.Vectors.{scale}
 use Rattle.pow2.specs.Pow2.{pow2_scale}
 use Rattle.pow2.specs.declared.Scale.{Scale}
-use Rattle.checks.specs.First.{first}
-use Rattle.checks.specs.First.{Checked}
+use Rattle.checks.specs.First.{first, Checked, same as same_number}
 use Rattle.general_operator.specs.Csr.{row_sum_norm}
 use Rattle.combination.specs.Call.{Call, ends, unless_refused, cleared}
 use Rattle.gram_schmidt.specs.Basis.{Setting, norm2}
 use Rattle.krylov_advance.specs.Run.{State, End, finished, refused, substep, spent, started, scaled_back, back, relative_report, clamp_m, idle, setting, expv_by, expv}
-use Rattle.krylov_job.specs.KrylovCall.{bound, dimension, krylov_checks, after_run, combination_run_krylov, phi_combination_krylov}
+use Rattle.krylov_job.specs.KrylovCall.{bound, dimension, krylov_checks, KrylovAnswer, after_run, combination_run_krylov, phi_combination_krylov}
 use Rattle.krylov_job.specs.declared.KrylovPhiOptions.{KrylovPhiOptions}
-use Rattle.krylov_job.specs.KrylovCall.{KrylovAnswer}
-use Rattle.paused_run.specs.Paused.{Job, rows, PausedCall, need_of, Input, moved, over, verdict, field_after, after_substep}
+use Rattle.paused_run.specs.Paused.{Job, rows, PausedCall, need_of, StepAnswer, StepRefused, Input, moved, over, verdict, field_after, after_substep}
 use Rattle.paused_run.specs.declared.PausedRun.{PausedRun}
-use Rattle.paused_run.specs.Paused.{StepAnswer}
 use Rattle.demand_3.specs.Trace.{Run, runs, status_of}
 use Rattle.demand_3.specs.Krylov.{Each, euclidean}
 use Rattle.demand_3.specs.Demand3.{operator_of}
@@ -55,7 +52,6 @@ use Rattle.checks.specs.Reasons.{Sound, Refused}
 use Rattle.std.specs.Prelude.{Ok, Err}
 use Rattle.checks.specs.declared.Reason.TheVariants.{SubstepLimit}
 use Rattle.checks.specs.declared.Reason.{Reason}
-use Rattle.paused_run.specs.Paused.{StepRefused}
 
 pub left_same : {o : KrylovPhiOptions} {j : Job} {p : Past} → LeftSame o j p → Left o j p
 left_same (same.started output memory field e) = history.started output memory field e
@@ -75,7 +71,7 @@ replicate_one a x = sym (replicate_more a 1 x) ∙ ap (λ (n : ℕ). replicate n
 tol_same : (c : Checked) (a : StepAnswer) (x : Float) → tol_kept c a x x ≡ x
 tol_same (Err r) a x = refl
 tol_same (Ok _) (Ok s) x = refl
-tol_same (Ok _) (Err r) x = go (eqb r.refusal.reason 27)
+tol_same (Ok _) (Err r) x = go (same_number r.refusal.reason SubstepLimit)
   where
     go : (b : Bool) → (if b then x else x) ≡ x
     go true = refl

@@ -1,22 +1,21 @@
 -- When a step on a run as it was left is refused early, and that it then changes nothing (document 02, N5: 'Early refusals leave the run unchanged'). Definitions only.
-use Rattle.std.specs.Prelude.{◌≡◌, Bool, true, false, not, ◌&&◌, List, [], ◌∷◌, ◌++◌, map, ℕ, ◌+◌, ◌-◌, ◌<◌, eqb, length, Float, if◌then◌else◌}
+use Rattle.std.specs.Prelude.{◌≡◌, Bool, true, false, not, ◌&&◌, List, [], ◌∷◌, ◌++◌, map, ℕ, ◌+◌, ◌-◌, ◌<◌, length, Float, if◌then◌else◌}
 use Rattle.std.specs.Float.{nan}
 use Rattle.std.specs.Float.Ieee.{eq}
 use Rattle.lists.specs.Find.{exists}
 use Rattle.doubles.specs.F64.{◌⊗◌, +0, nat, is_finite}
 use Rattle.power.specs.Power.{power}
 use Rattle.pow2.specs.Pow2.{sup}
-use Rattle.checks.specs.First.{Check, refuse, first, before}
+use Rattle.checks.specs.First.{Check, refuse, first, same as same_number, before}
 use Rattle.generator_action.specs.Generator.{Generator}
 use Rattle.combination.specs.Combination.{further, vector}
 use Rattle.krylov_job.specs.declared.KrylovPhiOptions.{KrylovPhiOptions}
-use Rattle.paused_run.specs.Paused.{Job, leaves, Input}
+use Rattle.paused_run.specs.Paused.{Job, leaves, StepRefused, Input}
 use Rattle.paused_claims.specs.History.{own_eta, Past, call_on, checked, in_force}
 use Rattle.paused_claims.specs.Start.{job_checks}
 use Rattle.checks.specs.Reasons.{Sound, Refused}
 use Rattle.checks.specs.declared.Reason.TheVariants.{VectorLength, VectorNotFinite, GainNotFinite, SubstepLimit, LengthsRejected, NoInnerPlan, RunEnded}
 use Rattle.checks.specs.declared.Reason.{Reason}
-use Rattle.paused_run.specs.Paused.{StepRefused}
 
 -- a generator whose own checks have none of the numbers that are told apart here: of jobs (17, 22), of runs (27 to 29) and of ended runs (31)
 pub record Plain (g : Generator) : Type 0 where
@@ -43,7 +42,7 @@ overflows i eta k =
 
 -- 22 asks b
 abbrev pub asking_22 : Bool → Check → Check
-asking_22 b c = if eqb c.number 22 then refuse GainNotFinite b c.reported else c
+asking_22 b c = if same_number c.reason GainNotFinite then refuse GainNotFinite b c.reported else c
 
 -- the start's n and count
 abbrev pub Fits : Job → Job → Type 0

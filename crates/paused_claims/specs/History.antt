@@ -1,22 +1,21 @@
 -- Paused runs as the last call left them, and what each substep so far was made with (document 02, N5: 'State and field come back at each step as the last one
 -- left them: what is claimed here and in N6 is claimed of such runs'). Definitions only.
-use Rattle.std.specs.Prelude.{◌≡◌, List, [], ◌∷◌, ◌++◌, ℕ, ◌+◌, ◌-◌, eqb, length, Float, if◌then◌else◌, Option, Some, None}
+use Rattle.std.specs.Prelude.{◌≡◌, List, [], ◌∷◌, ◌++◌, ℕ, ◌+◌, ◌-◌, length, Float, if◌then◌else◌, Option, Some, None}
 use Rattle.doubles.specs.F64.{◌⊗◌}
-use Rattle.checks.specs.First.{first}
-use Rattle.checks.specs.First.{Checked}
+use Rattle.checks.specs.First.{first, Checked, same}
 use Rattle.general_operator.specs.Csr.{row_sum_norm}
 use Rattle.combination.specs.Combination.{further, eta_of, combination_operator}
 use Rattle.gram_schmidt.specs.Basis.{Setting}
 use Rattle.krylov_advance.specs.Run.{setting}
 use Rattle.krylov_job.specs.KrylovCall.{bound}
 use Rattle.krylov_job.specs.declared.KrylovPhiOptions.{KrylovPhiOptions}
-use Rattle.paused_run.specs.Paused.{Job, PausedCall, start, Input, step_checks, step}
+use Rattle.paused_run.specs.Paused.{Job, PausedCall, start, StepAnswer, Input, step_checks, step}
 use Rattle.paused_run.specs.declared.PausedRun.{PausedRun}
-use Rattle.paused_run.specs.Paused.{StepAnswer}
 use Rattle.demand_3.specs.Trace.{Run}
 use Rattle.demand_3.specs.Krylov.{euclidean}
 use Rattle.demand_3.specs.Demand3.{krylov_run, clamped}
 use Rattle.checks.specs.Reasons.{Sound}
+use Rattle.checks.specs.declared.Reason.TheVariants.{SubstepLimit}
 use Rattle.std.specs.Prelude.{Ok, Err}
 
 -- ---- what the start alone gives
@@ -79,7 +78,7 @@ in_force (Some x) tol = x
 abbrev pub tol_kept : Checked → StepAnswer → Float → Float → Float
 tol_kept (Err r) a before now = before
 tol_kept (Ok _) (Ok s) before now = now
-tol_kept (Ok _) (Err r) before now = if eqb r.refusal.reason 27 then now else before
+tol_kept (Ok _) (Err r) before now = if same r.refusal.reason SubstepLimit then now else before
 
 -- one more setting, unless it was refused early
 abbrev pub one_more : Checked → Setting → List Setting

@@ -11,15 +11,15 @@ use Rattle.combination.specs.Call.{cleared}
 use Rattle.krylov_advance.specs.Run.{first_length}
 use Rattle.krylov_job.specs.KrylovCall.{bound, krylov_need, krylov_checks}
 use Rattle.krylov_job.specs.declared.KrylovPhiOptions.{KrylovPhiOptions}
-use Rattle.paused_run.specs.Paused.{Job, PausedCall, leaves}
+use Rattle.paused_run.specs.Paused.{Job, PausedCall, leaves, StartAnswer}
 use Rattle.paused_run.specs.declared.PausedRun.{PausedRun}
-use Rattle.paused_run.specs.Paused.{StartAnswer}
 use Rattle.demand_3.specs.Krylov.{euclidean, Zeros}
 use Rattle.demand_3.specs.Demand3.{start_of}
 use Rattle.paused_claims.specs.History.{values_in, dimension_in, own_eta}
 use Rattle.checks.specs.Reasons.{Sound, Refused}
 use Rattle.std.specs.Prelude.{Ok}
 use Rattle.checks.specs.declared.Reason.{Reason}
+use Rattle.checks.specs.declared.Reason.TheVariants.{WorkLength}
 
 -- the n + d values from which the whole call starts
 abbrev pub values_of : Job → List Float
@@ -34,9 +34,9 @@ abbrev pub need_in : KrylovPhiOptions → Job → Job → ℕ
 need_in o j i = krylov_need i.g.matrix.n (i.count - 1) (dimension_in o j) i.g.stored
 
 -- a start is refused by k with x exactly so: the whole call is refused early so; or not, and the lent field is not n + d doubles ('another length: 26')
-abbrev pub Refuses : KrylovPhiOptions → Job → List Float → List Float → List Float → ℕ → Float → Type 0
+abbrev pub Refuses : KrylovPhiOptions → Job → List Float → List Float → List Float → Reason → Float → Type 0
 Refuses o j output memory field k x =
-    (Refused k x ≡ first (job_checks o j output memory)) ⊎ ((Sound ≡ first (job_checks o j output memory)) × (length field ≡ values_in j → ⊥) × (k ≡ 26) × (x ≡ nan))
+    (Refused k x ≡ first (job_checks o j output memory)) ⊎ ((Sound ≡ first (job_checks o j output memory)) × (length field ≡ values_in j → ⊥) × (k ≡ WorkLength) × (x ≡ nan))
 
 -- 'elapsed time, .. report, .. eta, .. beside tol, m, limit, n, count': at time 0, with no substep
 pub record Unstepped (o : KrylovPhiOptions) (j : Job) (s : PausedRun) : Type 0 where

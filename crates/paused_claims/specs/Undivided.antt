@@ -2,12 +2,10 @@
 -- undivided one'). Whatever output and working memory its steps bring, and with steps refused early in between. Definitions only.
 use Rattle.std.specs.Prelude.{◌≡◌, true, false, List, [], ◌∷◌, ℕ, suc, ◌≤◌, length, Float}
 use Rattle.combination.specs.Call.{Call, ends}
-use Rattle.krylov_job.specs.KrylovCall.{phi_combination_krylov}
 use Rattle.krylov_job.specs.declared.KrylovPhiOptions.{KrylovPhiOptions}
-use Rattle.krylov_job.specs.KrylovCall.{KrylovAnswer}
-use Rattle.paused_run.specs.Paused.{Job, PausedCall, start, Input}
+use Rattle.krylov_job.specs.KrylovCall.{KrylovAnswer, phi_combination_krylov}
+use Rattle.paused_run.specs.Paused.{Job, PausedCall, start, StepAnswer, Input}
 use Rattle.paused_run.specs.declared.PausedRun.{PausedRun}
-use Rattle.paused_run.specs.Paused.{StepAnswer}
 use Rattle.demand_3.specs.Krylov.{Each, Zeros}
 use Rattle.paused_claims.specs.History.{Past, call_on, Steps, in_force, at_start, next}
 use Rattle.paused_claims.specs.Start.{values_of, need_in}

@@ -58,15 +58,12 @@ fn begin(
     let n = j.g.n;
     start_vectors::combination_start(n, w, j.d, j.eta.inv, field);
     vectors::clear_in(work, 0, j.need);
-    let scaling = pow2::pow2_scale(field);
-    match scaling {
-        None => {
-            vectors::copy_from(out, 0, field, 0, n);
-            let one = Scale { down: 1.0, up: 1.0 };
-            Ok(paused_run::fresh(o, j, one, 0.0, 0.0, true))
-        }
-        Some(f) => Ok(first_run(o, j, f, out, field)),
-    }
+    let Some(f) = pow2::pow2_scale(field) else {
+        vectors::copy_from(out, 0, field, 0, n);
+        let one = Scale { down: 1.0, up: 1.0 };
+        return Ok(paused_run::fresh(o, j, one, 0.0, 0.0, true));
+    };
+    Ok(first_run(o, j, f, out, field))
 }
 
 // A start over a generator that passed its checks.

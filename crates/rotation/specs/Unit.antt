@@ -6,15 +6,12 @@ use Rattle.lists.specs.Loop.{tabulate}
 use Rattle.doubles.specs.F64.{+0, 1f}
 use Rattle.krylov_advance.specs.Run.{empty_report}
 use Rattle.krylov_job.specs.declared.KrylovPhiOptions.{KrylovPhiOptions}
-use Rattle.paused_run.specs.Paused.{Job, Input, PausedCall, leaves, start, step}
+use Rattle.paused_run.specs.Paused.{Job, Input, PausedCall, leaves, StartAnswer, start, StepAnswer, StepRefused, step}
 use Rattle.paused_run.specs.declared.PausedRun.{PausedRun}
-use Rattle.paused_run.specs.Paused.{StartAnswer}
-use Rattle.paused_run.specs.Paused.{StepAnswer}
 use Rattle.rotation.specs.declared.Rotation.{Rotation}
 use Rattle.checks.specs.Reasons.{Refused}
 use Rattle.std.specs.Prelude.{Ok, Err}
 use Rattle.checks.specs.declared.Reason.TheVariants.{RunEnded, UnitFull}
-use Rattle.paused_run.specs.Paused.{StepRefused}
 
 -- ---- the unit: the runs by place, and a queue of places that ends at the first number above 15
 -- a place that was never taken: a run that has ended

@@ -12,10 +12,10 @@ use borrow.Author.Tests.{eqb-true, eqb-false, ne_eqb, lt-ltb, le-ltb}
 use Rattle.lists.proofs.Bounds.{lt_or_le}
 use Rattle.lists.proofs.Find.{found_at, found_none, find_before, find_holds}
 use Rattle.checks.specs.First.{before}
+use Rattle.checks.proofs.First.{same_reason, same_double}
 use Rattle.checks.proofs.Numbers.{not_by}
-use Rattle.paused_run.specs.Paused.{PausedCall, leaves}
+use Rattle.paused_run.specs.Paused.{PausedCall, leaves, StartAnswer}
 use Rattle.paused_run.specs.declared.PausedRun.{PausedRun}
-use Rattle.paused_run.specs.Paused.{StartAnswer}
 use Rattle.rotation.specs.Unit.{run_at, waiting, UnitCall, unit_call, lowest_free, room, seated, admitted_by, admitted, join}
 use Rattle.rotation.specs.declared.Rotation.{Rotation}
 use Rattle.demand_3.specs.Krylov.{Zeros}
@@ -28,17 +28,17 @@ use Rattle.rotation_claims.proofs.Queue.{Places, times_here, times_other, times_
 use Rattle.rotation_claims.proofs.Cases.{join_cases, place_is, was_free, waits_last}
 use Rattle.rotation_claims.proofs.Orderly.{Orderly, not_in, at_most, is_free, goes, orderly}
 use Rattle.rotation_claims.proofs.Numbers.{none_32}
-use Rattle.checks.specs.Reasons.{Refused}
+use Rattle.checks.specs.Reasons.{number, Refused}
 use Rattle.std.specs.Prelude.{Ok, Err}
 use Rattle.checks.specs.declared.Reason.TheVariants.{UnitFull}
 use Rattle.checks.specs.declared.Reason.{Reason}
 
 -- ---- any unit
-not_started : {k : Reason} {x : Float} {s : PausedRun} → Ok s ≡ Refused k x → ⊥
+not_started : {k : Reason} {x : Float} {s : PausedRun} → Ok s ≡ Refused {A = PausedRun} k x → ⊥
 not_started e = let z : zero ≡ 1 = cc in absurd (omega (arith, z))
 
-pub same_refused : {k l : Reason} {x y : Float} → Refused k x ≡ Refused l y → (k ≡ l) × (x ≡ y)
-same_refused e = (cc, cc)
+pub same_refused : {k l : Reason} {x y : Float} → Refused {A = PausedRun} k x ≡ Refused {A = PausedRun} l y → (k ≡ l) × (x ≡ y)
+same_refused e = (same_reason e, same_double e)
 
 module _ (u : Rotation) (c : Coming) where
   abbrev full : PausedCall StartAnswer
@@ -202,9 +202,9 @@ module _ (h : List Act) (c : Coming) where
 
   -- 32 of the start itself is of a generator that has a check of that number
   not_32 : before UnitFull c.j.g.checks ≡ c.j.g.checks → {x : Float} → (start_of c).answer ≡ Refused UnitFull x → ⊥
-  not_32 g {x} e = elim ((the_start c.o c.j c.output c.memory c.field).only_refused 32 x e) [
+  not_32 g {x} e = elim ((the_start c.o c.j c.output c.memory c.field).only_refused UnitFull x e) [
     | inl r ↦ not_by UnitFull _ (none_32 c.o c.j (length c.output) (length c.memory) g) r
-    | inr r ↦ (let z = r.2 in absurd (omega (arith, z)))
+    | inr r ↦ (let z = ap number r.2 in absurd (omega (arith, z)))
   ]
 
   only_32 : before UnitFull c.j.g.checks ≡ c.j.g.checks → (x : Float) → (join_to u c).call.answer ≡ Refused UnitFull x → Unfinished c × Full h

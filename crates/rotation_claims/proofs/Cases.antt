@@ -10,10 +10,8 @@ use lib.Seq.{get_or-set_same, get_or-set_other}
 use lib.Ieee.{Float, nan}
 use Rattle.lists.proofs.Find.{find_holds}
 use Rattle.krylov_job.specs.declared.KrylovPhiOptions.{KrylovPhiOptions}
-use Rattle.paused_run.specs.Paused.{Job, Input, PausedCall, leaves, start, step}
+use Rattle.paused_run.specs.Paused.{Job, Input, PausedCall, leaves, StartAnswer, start, StepAnswer, StepRefused, step}
 use Rattle.paused_run.specs.declared.PausedRun.{PausedRun}
-use Rattle.paused_run.specs.Paused.{StartAnswer}
-use Rattle.paused_run.specs.Paused.{StepAnswer}
 use Rattle.rotation.specs.Unit.{vacant, unread, run_at, waiting, UnitCall, unit_call, lowest_free, room, seated, admitted_by, admitted, join, run_left, back, passed_on, turn_of, turn}
 use Rattle.rotation.specs.declared.Rotation.{Rotation}
 use Rattle.rotation.proofs.Queue.{length_waiting, has_room}
@@ -23,7 +21,6 @@ use Rattle.rotation_claims.proofs.Queue.{Places, places_append, waiting_places, 
 use Rattle.checks.specs.Reasons.{Refused}
 use Rattle.std.specs.Prelude.{Ok, Err}
 use Rattle.checks.specs.declared.Reason.TheVariants.{RunEnded, UnitFull}
-use Rattle.paused_run.specs.Paused.{StepRefused}
 
 -- ---- a join: the run takes the lowest free place, or the unit is as it was
 pub record Seated (u : Rotation) (c : PausedCall StartAnswer) (r : UnitCall StartAnswer) : Type 0 where

@@ -8,14 +8,11 @@ use lib.Ieee.{Float}
 use Rattle.std.specs.Prelude.{Option, Some, None}
 use Rattle.pow2.specs.declared.Scale.{Scale}
 use Rattle.pow2.specs.Pow2.{pow2_scale}
-use Rattle.checks.specs.First.{first}
-use Rattle.checks.specs.First.{Checked}
+use Rattle.checks.specs.First.{first, Checked}
 use Rattle.combination.specs.Call.{cleared}
 use Rattle.krylov_job.specs.declared.KrylovPhiOptions.{KrylovPhiOptions}
-use Rattle.paused_run.specs.Paused.{Job, PausedCall, need_of, begun, step_checks, step}
+use Rattle.paused_run.specs.Paused.{Job, PausedCall, StartAnswer, need_of, begun, StepAnswer, step_checks, step}
 use Rattle.paused_run.specs.declared.PausedRun.{PausedRun}
-use Rattle.paused_run.specs.Paused.{StartAnswer}
-use Rattle.paused_run.specs.Paused.{StepAnswer}
 use Rattle.paused_claims.specs.History.{run_in}
 use Rattle.paused_claims.specs.Start.{values_of}
 use Rattle.paused_claims.proofs.Start.{started_is}

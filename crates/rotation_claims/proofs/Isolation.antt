@@ -10,13 +10,10 @@ use lib.Dec.{eqb}
 use lib.ListN.{length, length-set}
 use lib.Ieee.{Float}
 use borrow.Author.Tests.{eqb-true, eqb-false}
-use Rattle.checks.specs.First.{first}
-use Rattle.checks.specs.First.{Checked}
+use Rattle.checks.specs.First.{first, Checked}
 use Rattle.krylov_job.specs.declared.KrylovPhiOptions.{KrylovPhiOptions}
-use Rattle.paused_run.specs.Paused.{Job, Input, PausedCall, start, over, step_checks, step_unless, step}
+use Rattle.paused_run.specs.Paused.{Job, Input, PausedCall, StartAnswer, start, over, StepAnswer, step_checks, step_unless, step}
 use Rattle.paused_run.specs.declared.PausedRun.{PausedRun}
-use Rattle.paused_run.specs.Paused.{StartAnswer}
-use Rattle.paused_run.specs.Paused.{StepAnswer}
 use Rattle.rotation.specs.Unit.{run_at, UnitCall, lowest_free, join, turn}
 use Rattle.rotation.specs.declared.Rotation.{Rotation}
 use Rattle.demand_3.specs.Krylov.{Each}
@@ -33,6 +30,7 @@ use Rattle.rotation_claims.proofs.Numbers.{only_over, step_number}
 use Rattle.checks.specs.Reasons.{Refused}
 use Rattle.std.specs.Prelude.{Ok, Err}
 use Rattle.checks.specs.declared.Reason.{Reason}
+use Rattle.checks.specs.declared.Reason.TheVariants.{RunEnded}
 
 -- ---- a barrel's own turns: each is a step of the run that the last one left, and that run has not ended
 abbrev pub Chain : PausedRun → List OwnTurn → Type 0
@@ -188,7 +186,7 @@ module _ (o : KrylovPhiOptions) (j : Job) where
   never_31 (t ∷ m) s y p l er ey h a g =
       let n = next_left t s y p l er ey h.1 (checked_on s t) refl a.0 in
       let fresh : over s ≡ false = ap over (sym er) ∙ over_left l ∙ ap (λ (x : PausedRun). x.ended) er ∙ h.0 in
-      (λ e. step_number s t.lent t.given 31 (only_over s (length t.lent) t.given g.0.no_31 fresh) (λ z. absurd (omega (arith, z))) (λ z. absurd (omega (arith, z))) (λ z. absurd (omega (arith, z))) (λ z. absurd (omega (arith, z))) (ap (λ (c : PausedCall StepAnswer). number_in c.answer) (sym h.1) ∙ e), never_31 m (run_in t.call.answer) (left_in (checked_on s t) y t) n.0 n.1 n.2 n.3 h.2 a.1 g.1)
+      (λ e. step_number s t.lent t.given RunEnded (only_over s (length t.lent) t.given g.0.no_31 fresh) (λ z. absurd (omega (arith, z))) (λ z. absurd (omega (arith, z))) (λ z. absurd (omega (arith, z))) (λ z. absurd (omega (arith, z))) (ap (λ (c : PausedCall StepAnswer). number_in c.answer) (sym h.1) ∙ e), never_31 m (run_in t.call.answer) (left_in (checked_on s t) y t) n.0 n.1 n.2 n.3 h.2 a.1 g.1)
 
 module _ (v : Stay) (s : PausedRun) (h : Stays v s) where
   abbrev c : PausedCall StartAnswer

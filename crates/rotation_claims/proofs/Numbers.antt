@@ -3,29 +3,37 @@ use Rattle.std.specs.Prelude.{if◌then◌else◌}
 use mathlib.Core.Path.{◌≡◌, refl, sym, ap, ◌∙◌}
 use mathlib.Core.Logic.{inl, inr}
 use mathlib.Core.Bool.{Bool, true, false}
-use mathlib.Core.List.{List, ◌∷◌, ◌++◌, append_assoc}
+use mathlib.Core.List.{List, [], ◌∷◌, ◌++◌, append_assoc}
 use Prim.Native.Nat.{ℕ, ◌+◌, ◌*◌}
-use lib.Dec.{ltb}
+use lib.Dec.{eqb, ltb}
 use lib.ListN.{length}
 use lib.Ieee.{Float, nan}
 use Rattle.lists.specs.Walk.{Turn, on, out}
-use Rattle.checks.specs.First.{Check, refuse, first, before}
+use Rattle.checks.specs.First.{Check, refuse, first, Checked, unless_named, before}
 use Rattle.checks.proofs.First.{unless, first_cons}
 use Rattle.checks.proofs.Numbers.{before_append, not_by}
-use Rattle.checks.specs.First.{Checked}
 use Rattle.combination.specs.Checks.{count_checks, time_checks, length_checks, finite_checks, magnitude_checks, memory_checks, vector_checks_by}
 use Rattle.krylov_advance.specs.Run.{State, End, finished, refused}
 use Rattle.krylov_job.specs.KrylovCall.{option_checks, bound_checks, run_checks, krylov_checks_by, krylov_checks}
 use Rattle.krylov_job.specs.declared.KrylovPhiOptions.{KrylovPhiOptions}
-use Rattle.paused_run.specs.Paused.{Job, rows, degree, field_checks, Input, tol_in, options_in, over, other_checks, step_checks, moved, verdict, substep_of, after_substep, step_unless, step}
+use Rattle.paused_run.specs.Paused.{Job, rows, degree, field_checks, StepRefused, Input, tol_in, options_in, over, other_checks, step_checks, moved, verdict, substep_of, after_substep, step_unless, step}
 use Rattle.paused_run.specs.declared.PausedRun.{PausedRun}
 use Rattle.paused_claims.specs.Alike.{number_in}
 use Rattle.paused_claims.proofs.Standing.{Refuses, substep_refuses}
-use Rattle.checks.specs.Reasons.{Refused}
+use Rattle.checks.specs.Reasons.{number, Refused}
 use Rattle.std.specs.Prelude.{Ok, Err}
 use Rattle.checks.specs.declared.Reason.TheVariants.{NormRange, SubstepLimit, RunEnded, UnitFull}
 use Rattle.checks.specs.declared.Reason.{Reason}
-use Rattle.paused_run.specs.Paused.{StepRefused}
+
+-- two reasons of one number take the same checks away
+alike_before : (j k : Reason) → number j ≡ number k → (cs : List Check) → before j cs ≡ before k cs
+unfolding before
+alike_before j k e [] = refl
+alike_before j k e (c ∷ cs) = λ i. unless_named (eqb (number c.reason) (e i)) c (alike_before j k e cs i)
+
+-- a list without checks of a number refuses by none of it
+pub not_numbered : (k : Reason) (cs : List Check) {j : Reason} {x : Float} → before k cs ≡ cs → number j ≡ number k → Refused j x ≡ first cs → ⊥
+not_numbered k cs {j} none e f = not_by j cs (alike_before j k e cs ∙ none) f
 
 -- k is none of the numbers of a start's own checks
 module _ (o : KrylovPhiOptions) (j : Job) (output memory : ℕ) where
@@ -61,9 +69,9 @@ behind_none s field i h =
     let j = i.job in
     ap (before RunEnded) (append_assoc j.g.checks _ (field_checks field (rows j + degree j))) ∙ before_append RunEnded j.g.checks _ h ∙ sym (append_assoc j.g.checks _ (field_checks field (rows j + degree j)))
 
-pub only_over : (s : PausedRun) (field : ℕ) (i : Input) → before RunEnded i.job.g.checks ≡ i.job.g.checks → over s ≡ false → (x : Float) → Refused RunEnded x ≡ first (step_checks s field i) → ⊥
+pub only_over : (s : PausedRun) (field : ℕ) (i : Input) → before RunEnded i.job.g.checks ≡ i.job.g.checks → over s ≡ false → (j : Reason) (x : Float) → number j ≡ number RunEnded → Refused j x ≡ first (step_checks s field i) → ⊥
 unfolding step_checks
-only_over s field i h e x r = not_by RunEnded (behind s field i) (behind_none s field i h) (r ∙ first_cons RunEnded (over s) nan (behind s field i) ∙ ap (λ (b : Bool). unless b 31 nan (first (behind s field i))) e)
+only_over s field i h e j x n r = not_numbered RunEnded (behind s field i) (behind_none s field i h) n (r ∙ first_cons RunEnded (over s) nan (behind s field i) ∙ ap (λ (b : Bool). unless b RunEnded nan (first (behind s field i))) e)
 
 -- ---- nor has a substep's answer one of them: it is 27, 28 or 29
 pub verdict_number : (s : PausedRun) (tol : Float) (t : State) (o : Turn State End) → Refuses t o → (k : ℕ) → (k ≡ 0 → ⊥) → (k ≡ 27 → ⊥) → (k ≡ 28 → ⊥) → (k ≡ 29 → ⊥) → number_in (verdict s tol o) ≡ k → ⊥
@@ -75,18 +83,18 @@ verdict_number s tol t (on n) h k n0 n27 n28 n29 e = go (ltb n.report.substeps s
     go false e = n27 (sym e)
 verdict_number s tol t (out (finished n)) h k n0 n27 n28 n29 e = n0 (sym e)
 verdict_number s tol t (out (refused r x n)) h k n0 n27 n28 n29 e = elim h.1 [
-  | inl a ↦ n28 (sym e ∙ a)
-  | inr a ↦ n29 (sym e ∙ a)
+  | inl a ↦ n28 (sym e ∙ ap number a)
+  | inr a ↦ n29 (sym e ∙ ap number a)
 ]
 
 -- by a step's checks
-step_by : (s : PausedRun) (y : List Float) (i : Input) (c : Checked) (k : Reason) → first (step_checks s (length y) i) ≡ c → ((x : Float) → Refused k x ≡ first (step_checks s (length y) i) → ⊥)
-    → (k ≡ 0 → ⊥) → (k ≡ 27 → ⊥) → (k ≡ 28 → ⊥) → (k ≡ 29 → ⊥) → number_in (step_unless c s y i).answer ≡ k → ⊥
+step_by : (s : PausedRun) (y : List Float) (i : Input) (c : Checked) (k : Reason) → first (step_checks s (length y) i) ≡ c → ((j : Reason) (x : Float) → number j ≡ number k → Refused j x ≡ first (step_checks s (length y) i) → ⊥)
+    → (number k ≡ 0 → ⊥) → (number k ≡ 27 → ⊥) → (number k ≡ 28 → ⊥) → (number k ≡ 29 → ⊥) → number_in (step_unless c s y i).answer ≡ number k → ⊥
 unfolding step_unless after_substep
-step_by s y i (Err refusal) k ec h n0 n27 n28 n29 e = h refusal.value (ap (λ (z : Reason). Refused z refusal.value) (sym e) ∙ sym ec)
-step_by s y i (Ok _) k ec h n0 n27 n28 n29 e = verdict_number s (tol_in i.tolerance s) _ (substep_of s y i) (substep_refuses _ _) k n0 n27 n28 n29 e
+step_by s y i (Err r) k ec h n0 n27 n28 n29 e = h r.reason r.value e (sym ec)
+step_by s y i (Ok _) k ec h n0 n27 n28 n29 e = verdict_number s (tol_in i.tolerance s) _ (substep_of s y i) (substep_refuses _ _) (number k) n0 n27 n28 n29 e
 
-pub step_number : (s : PausedRun) (y : List Float) (i : Input) (k : Reason) → ((x : Float) → Refused k x ≡ first (step_checks s (length y) i) → ⊥)
-    → (k ≡ 0 → ⊥) → (k ≡ 27 → ⊥) → (k ≡ 28 → ⊥) → (k ≡ 29 → ⊥) → number_in (step s y i).answer ≡ k → ⊥
+pub step_number : (s : PausedRun) (y : List Float) (i : Input) (k : Reason) → ((j : Reason) (x : Float) → number j ≡ number k → Refused j x ≡ first (step_checks s (length y) i) → ⊥)
+    → (number k ≡ 0 → ⊥) → (number k ≡ 27 → ⊥) → (number k ≡ 28 → ⊥) → (number k ≡ 29 → ⊥) → number_in (step s y i).answer ≡ number k → ⊥
 unfolding step
 step_number s y i k h n0 n27 n28 n29 e = step_by s y i (first (step_checks s (length y) i)) k refl h n0 n27 n28 n29 e

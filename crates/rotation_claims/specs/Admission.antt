@@ -3,10 +3,8 @@ use Rattle.std.specs.Prelude.{◌≡◌, ◌⊎◌, Bool, true, false, List, [],
 use Rattle.std.specs.Float.{nan}
 use Rattle.checks.specs.First.{first, before}
 use Rattle.krylov_job.specs.declared.KrylovPhiOptions.{KrylovPhiOptions}
-use Rattle.paused_run.specs.Paused.{Job, Input, PausedCall, leaves, start, step}
-use Rattle.paused_run.specs.Paused.{StartAnswer}
+use Rattle.paused_run.specs.Paused.{Job, Input, PausedCall, leaves, StartAnswer, start, StepAnswer, StepRefused, step}
 use Rattle.paused_run.specs.declared.PausedRun.{PausedRun}
-use Rattle.paused_run.specs.Paused.{StepAnswer}
 use Rattle.demand_3.specs.Krylov.{Zeros}
 use Rattle.paused_claims.specs.History.{values_in, run_in}
 use Rattle.paused_claims.specs.Start.{values_of, job_checks, Refuses}
@@ -17,7 +15,6 @@ use Rattle.checks.specs.Reasons.{Sound, Refused}
 use Rattle.std.specs.Prelude.{Ok}
 use Rattle.checks.specs.declared.Reason.TheVariants.{RunEnded, UnitFull}
 use Rattle.checks.specs.declared.Reason.{Reason}
-use Rattle.paused_run.specs.Paused.{StepRefused}
 
 -- a job as it comes to the unit: options, matrix, tau and vectors, and what is lent
 pub record Coming : Type 0 where

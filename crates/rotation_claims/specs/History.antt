@@ -2,9 +2,7 @@
 -- answers, not by what the unit holds. Definitions only.
 use Rattle.std.specs.Prelude.{Bool, false, not, ◌&&◌, ◌||◌, List, [], ◌∷◌, ℕ, suc, eqb, Float, if◌then◌else◌}
 use Rattle.krylov_job.specs.declared.KrylovPhiOptions.{KrylovPhiOptions}
-use Rattle.paused_run.specs.Paused.{Job, Input, PausedCall}
-use Rattle.paused_run.specs.Paused.{StartAnswer}
-use Rattle.paused_run.specs.Paused.{StepAnswer}
+use Rattle.paused_run.specs.Paused.{Job, Input, PausedCall, StartAnswer, StepAnswer}
 use Rattle.paused_claims.specs.History.{run_in}
 use Rattle.rotation.specs.Unit.{empty, join, turn}
 use Rattle.rotation.specs.declared.Rotation.{Rotation}

@@ -1,13 +1,10 @@
 -- One barrel among any others (document 02, N6: 'Suppose the other runs are exchanged for any others and the same steps are given to one barrel: its field, report and run
 -- refusals are as if it were alone'). Definitions only.
 use Rattle.std.specs.Prelude.{◌≡◌, List, [], ◌∷◌, map, ℕ, ◌<◌, eqb, length, Float, if◌then◌else◌, Option}
-use Rattle.checks.specs.First.{first}
-use Rattle.checks.specs.First.{Checked}
+use Rattle.checks.specs.First.{first, Checked}
 use Rattle.krylov_job.specs.declared.KrylovPhiOptions.{KrylovPhiOptions}
-use Rattle.paused_run.specs.Paused.{Job, Input, PausedCall, start, step_checks, step}
+use Rattle.paused_run.specs.Paused.{Job, Input, PausedCall, StartAnswer, start, StepAnswer, step_checks, step}
 use Rattle.paused_run.specs.declared.PausedRun.{PausedRun}
-use Rattle.paused_run.specs.Paused.{StartAnswer}
-use Rattle.paused_run.specs.Paused.{StepAnswer}
 use Rattle.demand_3.specs.Krylov.{Each}
 use Rattle.paused_claims.specs.History.{run_in, Past, Left}
 use Rattle.paused_claims.specs.Early.{Plain}

@@ -1,12 +1,11 @@
 -- The order of the turns (document 02, N6), from the empty unit on, whatever joins and turns are asked for and whatever fields are lent. Definitions only.
 use Rattle.std.specs.Prelude.{◌≡◌, Bool, true, false, not, ◌&&◌, List, [], ◌∷◌, ◌++◌, ℕ, suc, ◌≤◌, ◌<◌, eqb, ltb, length, Float, if◌then◌else◌}
 use Rattle.std.specs.Float.{nan}
-use Rattle.paused_run.specs.Paused.{Input, leaves}
-use Rattle.paused_run.specs.Paused.{StepAnswer}
+use Rattle.paused_run.specs.Paused.{Input, leaves, StepAnswer, StepRefused}
 use Rattle.rotation.specs.Unit.{vacant, waiting, next_place, unit_call, turn}
 use Rattle.rotation_claims.specs.History.{Act, Event, joined, turned, event_of, events_from, left_by, unfinished, turns_asked, turns_of}
 use Rattle.checks.specs.declared.Reason.TheVariants.{RunEnded}
-use Rattle.paused_run.specs.Paused.{StepRefused}
+use Rattle.checks.specs.Reasons.{number}
 use Rattle.std.specs.Prelude.{Ok, Err}
 
 -- ---- the queue
@@ -42,7 +41,7 @@ pub record NextClaim (h : List Act) : Type 0 where
 -- a substep was made: an answer, or 27 to 29
 abbrev pub substep_in : StepAnswer → Bool
 substep_in (Ok s) = true
-substep_in (Err r) = ltb 26 r.refusal.reason && ltb r.refusal.reason 30
+substep_in (Err r) = ltb 26 (number r.refusal.reason) && ltb (number r.refusal.reason) 30
 
 -- substeps of places other than p
 unfoldable pub substeps_of_others : ℕ → List Event → ℕ

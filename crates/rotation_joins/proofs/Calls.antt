@@ -10,16 +10,13 @@ use lib.ListN.{get_or}
 use lib.Ieee.{Float, nan}
 use borrow.Author.Tests.{lt-ltb}
 use Rattle.lists.specs.Loop.{tabulate}
-use Rattle.doubles.specs.F64.{+0}
 use Rattle.pow2.specs.declared.Scale.{Scale}
 use Rattle.pow2.specs.Pow2.{pow2_scale}
 use Rattle.checks.specs.First.{first}
 use Rattle.checks.specs.First.{Checked}
 use Rattle.krylov_job.specs.declared.KrylovPhiOptions.{KrylovPhiOptions}
-use Rattle.paused_run.specs.Paused.{Job, Input, PausedCall, leaves, begun, start_unless, start, step}
+use Rattle.paused_run.specs.Paused.{Job, Input, PausedCall, leaves, StartAnswer, begun, start_unless, start, StepAnswer, StepRefused, step}
 use Rattle.paused_run.specs.declared.PausedRun.{PausedRun}
-use Rattle.paused_run.specs.Paused.{StartAnswer}
-use Rattle.paused_run.specs.Paused.{StepAnswer}
 use Rattle.rotation.specs.Unit.{vacant, run_at, waiting, first_of, next_place, UnitCall, unit_call, lowest_free, room, seated, admitted_by, admitted, join, run_left, passed_on, turn_of, turn}
 use Rattle.rotation.specs.Inner.{count_of, run_in_place, seat_of, passed_of}
 use Rattle.rotation.specs.declared.Rotation.{Rotation}
@@ -30,20 +27,12 @@ use Rattle.rotation_joins.specs.declared.Joined.{Joined}
 use Rattle.checks.specs.Reasons.{Sound, Refused}
 use Rattle.std.specs.Prelude.{Ok, Err}
 use Rattle.checks.specs.declared.Reason.TheVariants.{RunEnded, UnitFull}
-use Rattle.checks.specs.declared.Reason.{Reason}
-use Rattle.paused_run.specs.Paused.{StepRefused}
+use Rattle.checks.specs.declared.Refusal.{Refusal}
+use Rattle.checks.proofs.First.{err_is}
 
 -- ---- a join
-number_of : Checked → ℕ
-number_of (Err r) = r.reason
-number_of (Ok _) = 0
-
-value_of : Checked → Float
-value_of (Err r) = r.value
-value_of (Ok _) = +0
-
-not_sound : {k : Reason} {x : Float} → Refused k x ≡ Sound → ⊥
-not_sound {k} {x} e =
+not_sound : {e : Refusal} → ◌≡◌ {A = Checked} (Err e) Sound → ⊥
+not_sound {e} s =
     let z : zero ≡ 1 = cc in
     absurd (omega (arith, z))
 
@@ -81,29 +70,28 @@ module _ (u : Rotation) where
   told_seated s e d es = ap (joined_if s false) es ∙ ap (λ (x : Bool). joined_if s x (seat_of u s)) (sym d) ∙ ap (admitted_of u) (sym e)
 
 module _ (u : Rotation) (o : KrylovPhiOptions) (j : Job) (out w₀ field : List Float) where
-  abbrev refuses : Checked → UnitCall StartAnswer
-  refuses r = unit_call u 16 (leaves (Refused (number_of r) (value_of r)) out w₀ field)
+  abbrev refuses : Refusal → UnitCall StartAnswer
+  refuses e = unit_call u 16 (leaves (Err e) out w₀ field)
 
   abbrev answers : PausedCall StartAnswer → UnitCall StartAnswer
   answers c = admitted u c.answer c (leaves (Refused UnitFull nan) out w₀ field)
 
   -- refused before the start
-  refused_start : (memory y : List Float) (p : Option Scale) {k : Reason} {x : Float} → room u ≡ false → Refused k x ≡ full_answer (begun o j y memory p).answer → refuses (Refused k x) ≡ answers (begun o j y memory p)
-  unfolding begun admitted number_of value_of
-  refused_start memory y None e h = absurd (not_sound h)
-  refused_start memory y (Some f) e h = ap refuses h ∙ rw e refl
+  refused_start : (memory y : List Float) (p : Option Scale) {e : Refusal} → room u ≡ false → Err e ≡ full_answer (begun o j y memory p).answer → refuses e ≡ answers (begun o j y memory p)
+  unfolding begun admitted
+  refused_start memory y None eb h = absurd (not_sound h)
+  refused_start memory y (Some f) eb h = ap refuses (err_is h) ∙ rw eb refl
 
-  refused_by : (r : Checked) {k : Reason} {x : Float} → room u ≡ false → Refused k x ≡ full_answer (start_unless r o j out w₀ field).answer → refuses (Refused k x) ≡ answers (start_unless r o j out w₀ field)
-  unfolding start_unless admitted number_of value_of
-  refused_by (Err r) e h = ap refuses h
-  refused_by (Ok _) e h = refused_start _ _ (pow2_scale _) e h
+  refused_by : (r : Checked) {e : Refusal} → room u ≡ false → Err e ≡ full_answer (start_unless r o j out w₀ field).answer → refuses e ≡ answers (start_unless r o j out w₀ field)
+  unfolding start_unless admitted
+  refused_by (Err r) eb h = ap refuses (err_is h)
+  refused_by (Ok _) eb h = refused_start _ _ (pow2_scale _) eb h
 
-  pub join_refused : {r : Checked} {k : Reason} {x : Float} → r ≡ (if room u then Sound else full_answer (start o j out w₀ field).answer) → r ≡ Refused k x
-      → unit_call u 16 (leaves (Refused k x) out w₀ field) ≡ join u o j out w₀ field
-  unfolding join start number_of value_of
-  join_refused {r} {k} {x} h e = go (room u) refl (sym e ∙ h)
+  pub join_refused : {r : Checked} {e : Refusal} → r ≡ (if room u then Sound else full_answer (start o j out w₀ field).answer) → r ≡ Err e → unit_call u 16 (leaves (Err e) out w₀ field) ≡ join u o j out w₀ field
+  unfolding join start
+  join_refused {r} {e} h er = go (room u) refl (sym er ∙ h)
     where
-      go : (b : Bool) → room u ≡ b → Refused k x ≡ (if b then Sound else full_answer (start o j out w₀ field).answer) → refuses (Refused k x) ≡ join u o j out w₀ field
+      go : (b : Bool) → room u ≡ b → Err e ≡ (if b then Sound else full_answer (start o j out w₀ field).answer) → refuses e ≡ join u o j out w₀ field
       go true eb h = absurd (not_sound h)
       go false eb h = refused_by (first _) eb h
 

@@ -16,9 +16,9 @@ ghost use Rattle.rotation.specs.Unit.{room, unit_call, join};
 ghost use Rattle.rotation_joins.specs.Inner.{full_answer, admitted_of};
 
 use checks::{Checked, Reason, Refusal};
-use generator_action::{MatrixAnswer, Shape};
+use generator_action::Shape;
 use krylov_job::KrylovPhiOptions;
-use paused_run::StartAnswer;
+use paused_run::PausedRun;
 use rotation::Rotation;
 
 // The unit after a join, the place taken (16: none) and the start's answer.
@@ -53,15 +53,18 @@ fn refused_job(
 {
     let none = Ok(());
     let j = krylov_job::admit_job(g, tau, count, w, None, o, out, none, work);
-    let job = j.checked;
-    let Ok(()) = job else {
-        return Checked::Refused(checks::number(job), checks::reported(job));
-    };
+    j.checked?;
     if field != j.g.n + j.d {
-        return Err(Refusal { reason: Reason::WorkLength, value: float::not_a_number() });
+        return Err(Refusal {
+            reason: Reason::WorkLength,
+            value: float::not_a_number(),
+        });
     }
     if goes_on(j.g.n, w, j.d) {
-        return Err(Refusal { reason: Reason::UnitFull, value: float::not_a_number() });
+        return Err(Refusal {
+            reason: Reason::UnitFull,
+            value: float::not_a_number(),
+        });
     }
     Ok(())
 }
@@ -89,7 +92,7 @@ fn refused_full(
         return Ok(());
     }
     let matrix = generator_checks::check_generator(n, starts, cols, vals, with_mass, mass)?;
-    let g = generator_action::generator_shape(n, with_mass, vals.len(), norm);
+    let g = generator_action::generator_shape(n, with_mass, vals.len(), matrix.norm);
     refused_job(g, tau, count, w, o, out, work, field)
 }
 
@@ -98,12 +101,12 @@ fn admitted(unit: Rotation, answer: Result<PausedRun, Refusal>) -> Joined
     ensures { result ≡ admitted_of unit answer }
 {
     match answer {
-        Err(Refusal { reason: _, value: _ }) => Joined {
-            unit: unit,
+        Err(_) => Joined {
+            unit,
             place: 16,
             answer,
         },
-        StartAnswer::Started(run) => {
+        Ok(run) => {
             if run.ended {
                 return Joined {
                     unit,
@@ -112,9 +115,8 @@ fn admitted(unit: Rotation, answer: Result<PausedRun, Refusal>) -> Joined
                 };
             }
             let seat = rotation::seated(unit, run);
-            let left = seat.unit;
             Joined {
-                unit: left,
+                unit: seat.unit,
                 place: seat.place,
                 answer,
             }
@@ -157,13 +159,13 @@ pub fn join(
         work.len(),
         field.len(),
     );
-    let Ok(()) = full else {
+    if let Err(refusal) = full {
         return Joined {
             unit,
             place: 16,
-            answer: Result<PausedRun, Refusal>::Refusal(checks::number(full), checks::reported(full)),
+            answer: Err(refusal),
         };
-    };
+    }
     let answer = paused_start::start(
         n, starts, cols, vals, with_mass, mass, tau, count, w, o, out, work, field,
     );

@@ -12,10 +12,9 @@ returns-then-room c output memory lent eo ew ef = rw (sym c.room.ensures ∙ c.i
 
 pub returns-in_err-matrix : goal.returns-in_err-matrix
 returns-in_err-matrix c output memory lent eo ew ef =
+    let a = c.args in
     rw (passed_on c.from_residual.ensures.1)
-    (let a = c.args in
-    let refusal = c.in_err-matrix.was in
-    else_full (sym c.room.ensures ∙ c.if-room.false) (full_generator a.o _ output memory lent (refusal_told (csr a.n a.starts.now a.cols.now a.vals.now) (given a.with_mass a.mass.now) c.check_generator.ensures refusal)))
+    (else_full (sym c.room.ensures ∙ c.if-room.false) (full_generator a.o _ output memory lent (refusal_told (csr a.n a.starts.now a.cols.now a.vals.now) (given a.with_mass a.mass.now) c.check_generator.ensures c.in_err-matrix.was)))
 
 pub refused_job-requires : goal.refused_job-requires
 refused_job-requires c =
