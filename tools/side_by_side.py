@@ -1,6 +1,7 @@
 #!/usr/bin/env python3
 """What changed since a commit, old and new side by side: public signatures, clauses and types; definitions; public laws in proofs/.
-What is gone or new stands with one side alone. Layout does not count.
+What is gone or new stands with one side alone. Layout does not count, and what differs only in that a refusal has a reason in place of its number,
+or that an answer is a Result, is told by its name alone.
 
     tools/side_by_side.py COMMIT
 """
@@ -86,7 +87,28 @@ def laws(text, found):
         at = end
 
 
+REASONS = dict(re.findall(r"^    (\w+) = (\d+),$", now("crates/checks/src/lib.rt"), re.M))
+ANSWERS = {
+    "Result<Largest, Refusal>": "MatrixAnswer", "Result<usize, Refusal>": "JoinAnswer", "Result<Shape, Refusal>": "ShapeAnswer",
+    "Result<TaylorReport, Refusal>": "TaylorAnswer", "Result<KrylovPhiReport, Refusal>": "KrylovAnswer", "Result<PhiReport, Refusal>": "PhiAnswer",
+    "Result<PausedRun, Refusal>": "StartAnswer",
+}
+RESPELT = []
+
+
+def respelt(text):
+    """The text in the old words: a reason as its number, a Result as the answer that it took the place of."""
+    text = re.sub(r"\bReason::(\w+)", lambda m: REASONS.get(m.group(1), m.group(0)), text)
+    text = re.sub(r"\b[A-Z]\w+\b", lambda m: REASONS.get(m.group(0), "ℕ" if m.group(0) == "Reason" else m.group(0)), text)
+    for new, old in ANSWERS.items():
+        text = text.replace(new, old)
+    return text
+
+
 def pair(crate, name, old, new):
+    if old and new and bare(respelt(new)) == bare(old):
+        RESPELT.append((crate, name))
+        return
     print(f"\n`{crate}`, {name}:\n\n```diff")
     for mark, text in (("-", old), ("+", new)):
         for line in text.split("\n") if text else []:
@@ -120,9 +142,20 @@ def compare_laws():
                     pair(crate, name, statement, fresh[0])
 
 
-print("### Public signatures, clauses and types")
-compare("src", signatures)
-print("\n### Definitions")
-compare("specs", definitions)
-print("\n### Laws in proofs/")
-compare_laws()
+def tell_respelt():
+    by = defaultdict(list)
+    for crate, name in RESPELT:
+        by[crate].append(name)
+    RESPELT.clear()
+    if by:
+        print("\nBy these respellings alone: " + "; ".join(f"`{crate}`: {', '.join(names)}" for crate, names in by.items()) + ".")
+
+
+for title, run in (
+    ("Public signatures, clauses and types", lambda: compare("src", signatures)),
+    ("Definitions", lambda: compare("specs", definitions)),
+    ("Laws in proofs/", compare_laws),
+):
+    print(f"\n### {title}")
+    run()
+    tell_respelt()

@@ -2,13 +2,14 @@
 #![tactic(auto)]
 
 ghost use Rattle.std.specs.Prelude.{◌≡◌, ◌*◌, ◌≤◌, length};
-ghost use Rattle.pow2.specs.Pow2.{sup};
-ghost use Rattle.taylor_schedule.specs.Inner.{combination_job, one_column, action_job};
-ghost use Rattle.weighted_columns.specs.Inner.{weights};
+ghost use Rattle.checks.specs.First.{or_first};
+ghost use Rattle.taylor_schedule.specs.Inner.{combination_job, combination_refusals, one_column, action_job, action_refusals};
 
+use checks::Refusal;
 use generator_action::Shape;
 use phi_action_helpers::Coupling;
 use taylor_schedule::Job;
+use weighted_columns::Weights;
 
 // 21, 22 and 24 to 26 of a combination.
 pub fn admit_combination(
@@ -18,14 +19,12 @@ pub fn admit_combination(
     d: usize,
     further: &[f64],
     memory: usize,
-) -> Job
+) -> Result<Job, Refusal>
     requires { (d * g.n ≤ length further.now) × (g.n ≤ 1000000) × (d ≤ 3) × (g.stored ≤ 16777216) }
-    ensures { result ≡ combination_job g tau cap d further.now memory }
+    ensures { result ≡ or_first (combination_refusals g tau cap d further.now memory) (combination_job g tau cap d further.now) }
 {
-    let weights = weighted_columns::weigh(g.n, further, tau, d);
-    let checked = weights.checked;
-    let b = weights.b;
-    taylor_schedule::plan_job(checked, g, tau, cap, d, weights.inv, b, memory)
+    let Weights { inv, b } = weighted_columns::weigh(g.n, further, tau, d)?;
+    taylor_schedule::plan_job(g, tau, cap, d, inv, b, memory)
 }
 
 // An action has one column, v.
@@ -49,18 +48,15 @@ pub fn admit_action(
     output: usize,
     wanted: usize,
     memory: usize,
-) -> Job
+) -> Result<Job, Refusal>
     requires { (g.n ≤ 1000000) × (g.stored ≤ 16777216) }
-    ensures { result ≡ action_job g tau cap k v.now output wanted memory }
+    ensures { result ≡ or_first (action_refusals g tau cap k v.now output wanted memory) (action_job g tau cap v.now) }
 {
-    let lengths = vector_checks::check_lengths(output, wanted, v.len(), g.n);
-    let finite = vector_checks::check_finite(v);
-    let field = combination::and_then(lengths, finite);
-    let checked = combination::and_then(
-        combination::check_index(k),
-        combination::and_then(combination::check_plan(tau, cap), field),
-    );
+    combination::check_index(k)?;
+    combination::check_plan(tau, cap)?;
+    vector_checks::check_lengths(output, wanted, v.len(), g.n)?;
+    vector_checks::check_finite(v)?;
     let eta = pow2::eta_scaling(pow2::sup(v));
     let b = one_column(eta.eta);
-    taylor_schedule::plan_job(checked, g, tau, cap, 3, eta.inv, b, memory)
+    taylor_schedule::plan_job(g, tau, cap, 3, eta.inv, b, memory)
 }

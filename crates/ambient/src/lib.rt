@@ -5,7 +5,7 @@ ghost use Rattle.std.specs.Prelude.{◌≡◌, ◌-◌, ◌≤◌, length};
 ghost use Rattle.lists.specs.Walk.{walk, on};
 ghost use Rattle.lists.specs.Window.{window, splice};
 ghost use Rattle.checks.specs.First.{first};
-ghost use Rattle.checks.specs.declared.Checked.TheVariants.{Sound};
+ghost use Rattle.checks.specs.Reasons.{Sound};
 ghost use Rattle.general_operator.specs.Csr.{csr};
 ghost use Rattle.generator_action.specs.Mass.{given, quotient_need, generator_checks};
 ghost use Rattle.generator_action.specs.Generator.{forward};
@@ -15,8 +15,7 @@ ghost use Rattle.ambient_turns.specs.Ambient.{settle, record_step, ended, conclu
 ghost use Rattle.ambient_turns.specs.Inner.{results_of, shown_in, Logs, results, logging};
 
 use ambient_turns::AmbientAnswer;
-use checks::Checked;
-use generator_action::{MatrixAnswer, Shape};
+use generator_action::Shape;
 
 // The records in order: the first starts from `field`, each other from what the one before it left in the output.
 fn run_records(
@@ -42,6 +41,7 @@ fn run_records(
 {
     let k = durations.len();
     let mut answer = AmbientAnswer::Logged;
+    // i is the record's number: it tells the first one, and stands in the answer
     for i in 0..k {
         let AmbientAnswer::Logged = answer else {
             return answer;
@@ -89,12 +89,9 @@ pub fn ambient(
     ensures { logging result out.new work.new temperatures.new largest.new smallest.new ≡ ambient (forward (csr n starts.now cols.now vals.now) (given with_mass mass.now)) (log_of durations.now levels.now) field.now load.now window node out.old work.old (results temperatures.old largest.old smallest.old) }
 {
     let matrix = generator_checks::check_generator(n, starts, cols, vals, with_mass, mass);
-    let MatrixAnswer::Norm(norm, _) = matrix else {
-        return AmbientAnswer::Refusal(
-            generator_action::number(matrix),
-            generator_action::value(matrix),
-            0,
-        );
+    let norm = match matrix {
+        Err(r) => return AmbientAnswer::Refusal(r, 0),
+        Ok(l) => l.norm,
     };
     let fields = ambient_checks::check_fields(n, field, load, out.len());
     let log = ambient_checks::check_log(
@@ -107,10 +104,9 @@ pub fn ambient(
         largest.len(),
         smallest.len(),
     );
-    let checked = combination::and_then(fields, log);
-    let Checked::Sound = checked else {
-        return AmbientAnswer::Refusal(checks::number(checked), checks::reported(checked), 0);
-    };
+    if let Err(r) = combination::and_then(fields, log) {
+        return AmbientAnswer::Refusal(r, 0);
+    }
     let g = generator_action::generator_shape(n, with_mass, vals.len(), norm);
     let answer = run_records(
         starts,

@@ -7,12 +7,12 @@ use lib.ListN.{length}
 use lib.Ieee.{Float}
 use borrow.Author.Tests.{eqb-true, eqb-false, not-false, ltb-false, leb-false}
 use Rattle.checks.specs.First.{first}
-use Rattle.checks.specs.declared.Checked.TheVariants.{Sound}
 use Rattle.checks.proofs.First.{sound_cons, sound_append}
 use Rattle.general_operator.proofs.Sound.{or_false}
 use Rattle.combination.specs.Checks.{length_checks}
 use Rattle.lists.proofs.Tests.{above_0}
 use Rattle.ambient_checks.specs.Log.{Log, records_of, Places, field_checks, log_checks}
+use Rattle.checks.specs.Reasons.{Sound}
 
 -- ---- 15 to 17
 pub record Fields (n field load output : ℕ) : Type 0 where

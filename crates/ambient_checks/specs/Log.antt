@@ -4,6 +4,7 @@ use Rattle.std.specs.Float.{nan}
 use Rattle.doubles.specs.F64.{nat}
 use Rattle.checks.specs.First.{Check, refuse}
 use Rattle.combination.specs.Checks.{length_checks, finite_checks, open_checks}
+use Rattle.checks.specs.declared.Reason.TheVariants.{VectorLength, WindowOrNode, RecordCount, ResultsLength}
 
 -- a duration and an ambient level for each record
 pub record Log : Type 0 where
@@ -16,7 +17,7 @@ records_of log = length log.durations
 -- 15 for the output, 16 for field, then load, 17 for field, then load
 unfoldable pub field_checks : ℕ → List Float → List Float → ℕ → List Check
 field_checks n field load output =
-    length_checks output n (length field) n ++ (refuse 16 (not (eqb (length load) n)) (nat (length load)) ∷ (finite_checks field ++ finite_checks load))
+    length_checks output n (length field) n ++ (refuse VectorLength (not (eqb (length load) n)) (nat (length load)) ∷ (finite_checks field ++ finite_checks load))
 
 -- how long the three slices for the results are
 pub record Places : Type 0 where
@@ -30,9 +31,9 @@ short records r = ltb r.temperatures records || (ltb r.largest records || ltb r.
 -- W not 1 to 1,024 or the node not below n; not 1 to 100,000 records or levels not as many as durations; a slice for the results too short
 unfoldable pub log_checks : ℕ → Log → ℕ → ℕ → Places → List Check
 log_checks n log W node r =
-    refuse 38 (eqb W 0 || (ltb 1024 W || leb n node)) nan
-    ∷ refuse 39 (eqb (records_of log) 0 || (ltb 100000 (records_of log) || not (eqb (length log.levels) (records_of log)))) nan
-    ∷ refuse 40 (short (records_of log) r) nan
+    refuse WindowOrNode (eqb W 0 || (ltb 1024 W || leb n node)) nan
+    ∷ refuse RecordCount (eqb (records_of log) 0 || (ltb 100000 (records_of log) || not (eqb (length log.levels) (records_of log)))) nan
+    ∷ refuse ResultsLength (short (records_of log) r) nan
     ∷ []
 
 -- to compute

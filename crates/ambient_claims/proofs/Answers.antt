@@ -8,7 +8,6 @@ use lib.ListN.{length}
 use lib.Ieee.{Float, is_nan}
 use Rattle.lists.specs.Walk.{Turn, on, out}
 use Rattle.checks.specs.First.{first}
-use Rattle.checks.specs.declared.Checked.TheVariants.{Sound, Refused}
 use Rattle.generator_action.specs.Generator.{Generator}
 use Rattle.combination.specs.Call.{Call, ends, cleared}
 use Rattle.ambient_checks.specs.Log.{Log, records_of}
@@ -18,26 +17,26 @@ use Rattle.ambient_turns.specs.Ambient.{Progress, Ended, ended, record_step, beg
 use Rattle.stages_claims.proofs.Walks.{next, walk_next, stays, EndedAt, ended_at}
 use Rattle.ambient_claims.specs.Ran.{record_need, Run, Complete, NanAt, RefusedAt}
 use Rattle.ambient_claims.proofs.Reached.{stands, call, temperature, checked, RanTo, Outcome, refused, nan, result, outcome, refused_step, nan_step, reached, standing, back}
+use Rattle.checks.specs.Reasons.{refusal, Sound, Refused}
+use Rattle.checks.specs.declared.Reason.{Reason}
+use Rattle.checks.specs.declared.Refusal.{Refusal as Why}
 
 -- ---- answers told apart
 named : AmbientAnswer → ℕ
-named (Refusal k x i) = 0
+named (Refusal e i) = 0
 named (NotANumber i) = 1
 named Logged = 2
 
 pub number_in : AmbientAnswer → ℕ
-number_in (Refusal k x i) = i
+number_in (Refusal e i) = i
 number_in (NotANumber i) = i
 number_in Logged = 0
 
-pub refusal_is : {k k' : ℕ} {x x' : Float} {i i' : ℕ} → Refusal k x i ≡ Refusal k' x' i' → (k ≡ k') × (x ≡ x')
-refusal_is e = (number e, double e)
+pub refusal_is : {k k' : Reason} {x x' : Float} {i i' : ℕ} → Refusal (refusal k x) i ≡ Refusal (refusal k' x') i' → (k ≡ k') × (x ≡ x')
+refusal_is e = (ap (λ (r : Why). r.reason) (why e), ap (λ (r : Why). r.value) (why e))
   where
-    number : {k k' : ℕ} {x x' : Float} {i i' : ℕ} → Refusal k x i ≡ Refusal k' x' i' → k ≡ k'
-    number a = cc
-
-    double : {k k' : ℕ} {x x' : Float} {i i' : ℕ} → Refusal k x i ≡ Refusal k' x' i' → x ≡ x'
-    double a = cc
+    why : {r r' : Why} {i i' : ℕ} → Refusal r i ≡ Refusal r' i' → r ≡ r'
+    why a = cc
 
 module _ (g : Generator) (log : Log) (start load : List Float) (W node : ℕ) (output memory : List Float) (r : Results) where
   abbrev K : ℕ
@@ -59,8 +58,8 @@ module _ (g : Generator) (log : Log) (start load : List Float) (W node : ℕ) (o
     at_nan : (i : ℕ) (p : Progress) → i < K → RanTo g log start load node output memory i p → Run g log start load node output memory i p.field p.output p.memory → is_nan (temperature g log start load node output memory i p) ≡ true
         → concluded (stand K) ≡ ended (NotANumber (i + 1)) (call g log start load node output memory i p).output (cleared (record_need g) p.memory) p.temperatures
         → End
-    at_refusal : (i k : ℕ) (x : Float) (p : Progress) → i < K → RanTo g log start load node output memory i p → checked g log start load node output memory i p ≡ Refused k x
-        → concluded (stand K) ≡ ended (Refusal k x (i + 1)) p.output p.memory p.temperatures
+    at_refusal : (i : ℕ) (k : Reason) (x : Float) (p : Progress) → i < K → RanTo g log start load node output memory i p → checked g log start load node output memory i p ≡ Refused k x
+        → concluded (stand K) ≡ ended (Refusal (refusal k x) (i + 1)) p.output p.memory p.temperatures
         → End
 
   differ : {x : Progress} {y : Ended} → ◌≡◌ {A = Turn Progress Ended} (on x) (out y) → zero ≡ 1
@@ -149,11 +148,11 @@ module _ (g : Generator) (log : Log) (start load : List Float) (W node : ℕ) (o
         ∙ (λ j. ended (NotANumber (i + 1)) (sym c.output_is j) (sym c.memory_is j) xs))
 
     -- ---- a refusal
-    pub refused_at : (k : ℕ) (x : Float) (j : ℕ) (o m : List Float) → whole.call ≡ ends (Refusal k x j) o m → (i : ℕ) × ((xs : List Float) × ((j ≡ i + 1) × (RefusedAt g log start load node output memory i k x o m xs × Leaves (Refusal k x j) o m xs)))
+    pub refused_at : (k : Reason) (x : Float) (j : ℕ) (o m : List Float) → whole.call ≡ ends (Refusal (refusal k x) j) o m → (i : ℕ) × ((xs : List Float) × ((j ≡ i + 1) × (RefusedAt g log start load node output memory i k x o m xs × Leaves (Refusal (refusal k x) j) o m xs)))
     unfolding named number_in
     refused_at k x j o m e = go end
       where
-        go : End → (i : ℕ) × ((xs : List Float) × ((j ≡ i + 1) × (RefusedAt g log start load node output memory i k x o m xs × Leaves (Refusal k x j) o m xs)))
+        go : End → (i : ℕ) × ((xs : List Float) × ((j ≡ i + 1) × (RefusedAt g log start load node output memory i k x o m xs × Leaves (Refusal (refusal k x) j) o m xs)))
         go (all p h c) = absurd (omega (arith, ap named (answer_of (call_of c e))))
         go (at_nan i p l h u v c) = absurd (omega (arith, ap named (answer_of (call_of c e))))
         go (at_refusal i k' x' p l h u c) =
@@ -161,9 +160,9 @@ module _ (g : Generator) (log : Log) (start load : List Float) (W node : ℕ) (o
             let q = refusal_is (answer_of f) in
             (i, (p.temperatures, (sym (ap number_in (answer_of f)), (record { reached = l; field = p.field; out = p.output; lent = p.memory; ran = h; refused = u ∙ (λ y. Refused (q.0 y) (q.1 y)); output_is = output_of f; memory_is = memory_of f }, moved p.temperatures f (leaves c)))))
 
-    pub at_refused_leaves : (i k : ℕ) (x : Float) (o m xs : List Float) → RefusedAt g log start load node output memory i k x o m xs → Leaves (Refusal k x (i + 1)) o m xs
+    pub at_refused_leaves : (i : ℕ) (k : Reason) (x : Float) (o m xs : List Float) → RefusedAt g log start load node output memory i k x o m xs → Leaves (Refusal (refusal k x) (i + 1)) o m xs
     at_refused_leaves i k x o m xs c =
         let p = standing g log start load node output memory c.field c.out c.lent xs in
         leaves
         (stopped i p _ c.reached (back g log start load node output memory i c.field c.out c.lent xs c.ran) (refused_step g log start load node output memory i p c.refused)
-        ∙ (λ j. ended (Refusal k x (i + 1)) (sym c.output_is j) (sym c.memory_is j) xs))
+        ∙ (λ j. ended (Refusal (refusal k x) (i + 1)) (sym c.output_is j) (sym c.memory_is j) xs))

@@ -9,8 +9,7 @@ use Rattle.lists.specs.Loop.{tabulate}
 use Rattle.lists.proofs.Window.{length_splice, splice_nil}
 use Rattle.doubles.specs.F64.{+0}
 use Rattle.checks.specs.First.{first}
-use Rattle.checks.specs.declared.Checked.{Checked}
-use Rattle.checks.specs.declared.Checked.TheVariants.{Sound, Refused}
+use Rattle.checks.specs.First.{Checked}
 use Rattle.generator_action.specs.Generator.{Generator}
 use Rattle.combination.specs.Call.{ends, cleared}
 use Rattle.ambient_checks.specs.Log.{Log}
@@ -20,6 +19,9 @@ use Rattle.ambient_turns.specs.Ambient.{ambient_checks, ended, Results, places_o
 use Rattle.combination.proofs.Cleared.{cleared_less}
 use Rattle.ambient_claims.specs.Ran.{record_need, Ran, NanAt, RefusedAt}
 use Rattle.ambient_claims.proofs.Answers.{whole, refused_at}
+use Rattle.checks.specs.Reasons.{refusal, Refused}
+use Rattle.std.specs.Prelude.{Ok, Err}
+use Rattle.checks.specs.declared.Reason.{Reason}
 
 module _ (g : Generator) (log : Log) (start load : List Float) (node : ℕ) (output memory : List Float) where
   -- ---- after one record with a result or more it is cleared as far as a record needs
@@ -50,31 +52,31 @@ module _ (g : Generator) (log : Log) (start load : List Float) (W node : ℕ) (o
   abbrev left : Logging
   left = whole g log start load W node output memory r
 
-  abbrev untouched_by : ℕ → Float → ℕ → Logging
-  untouched_by k x j = record { call = ends (Refusal k x j) output memory; results = r }
+  abbrev untouched_by : Reason → Float → ℕ → Logging
+  untouched_by k x j = record { call = ends (Refusal (refusal k x) j) output memory; results = r }
 
   none_written : (a : AmbientAnswer) → written W r (ended a output memory []) ≡ record { call = ends a output memory; results = r }
   unfolding written tabulate
   none_written a =
       λ i. record { call = ends a output memory; results = record { temperatures = splice_nil 0 r.temperatures i; largest = splice_nil 0 r.largest i; smallest = splice_nil 0 r.smallest i } }
 
-  by_checks : {k : ℕ} {x : Float} → first (ambient_checks g log start load W node (length output) (places_of r)) ≡ Refused k x → left ≡ untouched_by k x 0
+  by_checks : {k : Reason} {x : Float} → first (ambient_checks g log start load W node (length output) (places_of r)) ≡ Refused k x → left ≡ untouched_by k x 0
   unfolding ambient unless_log_refused
   by_checks e = rw e refl
 
-  pub untouched : (k : ℕ) (x : Float) (j : ℕ) → left.call.answer ≡ Refusal k x j → j ≤ 1 → left ≡ untouched_by k x j
+  pub untouched : (k : Reason) (x : Float) (j : ℕ) → left.call.answer ≡ Refusal (refusal k x) j → j ≤ 1 → left ≡ untouched_by k x j
   unfolding Ran
   untouched k x j e l = go (first (ambient_checks g log start load W node (length output) (places_of r))) refl
     where
-      refusal_all : {k k' : ℕ} {x x' : Float} {i i' : ℕ} → Refusal k x i ≡ Refusal k' x' i' → untouched_by k x i ≡ untouched_by k' x' i'
+      refusal_all : {k k' : Reason} {x x' : Float} {i i' : ℕ} → Refusal (refusal k x) i ≡ Refusal (refusal k' x') i' → untouched_by k x i ≡ untouched_by k' x' i'
       refusal_all e = ap (λ (a : AmbientAnswer). record { call = ends a output memory; results = r }) e
 
       go : (c : Checked) → first (ambient_checks g log start load W node (length output) (places_of r)) ≡ c → left ≡ untouched_by k x j
-      go (Refused k' x') h = by_checks h ∙ refusal_all (sym (ap (λ (y : Logging). y.call.answer) (by_checks h)) ∙ e)
-      go Sound h =
+      go (Err r) h = by_checks h ∙ refusal_all (sym (ap (λ (y : Logging). y.call.answer) (by_checks h)) ∙ e)
+      go (Ok _) h =
           let R = refused_at g log start load W node output memory r (sym h) k x j left.call.output left.call.memory (λ i. ends (e i) left.call.output left.call.memory) in
           reach R.0 R.1.0 R.1.1.0 R.1.1.1.0 R.1.1.1.1
         where
-          reach : (i : ℕ) (xs : List Float) → j ≡ i + 1 → RefusedAt g log start load node output memory i k x left.call.output left.call.memory xs → left ≡ written W r (ended (Refusal k x j) left.call.output left.call.memory xs) → left ≡ untouched_by k x j
-          reach zero xs n c h = h ∙ (λ i. written W r (ended (Refusal k x j) ((c.output_is ∙ c.ran.1) i) ((c.memory_is ∙ c.ran.2) i) (c.ran.3 i))) ∙ none_written (Refusal k x j)
+          reach : (i : ℕ) (xs : List Float) → j ≡ i + 1 → RefusedAt g log start load node output memory i k x left.call.output left.call.memory xs → left ≡ written W r (ended (Refusal (refusal k x) j) left.call.output left.call.memory xs) → left ≡ untouched_by k x j
+          reach zero xs n c h = h ∙ (λ i. written W r (ended (Refusal (refusal k x) j) ((c.output_is ∙ c.ran.1) i) ((c.memory_is ∙ c.ran.2) i) (c.ran.3 i))) ∙ none_written (Refusal (refusal k x) j)
           reach (suc i) xs n c h = absurd (omega (arith, n, l))

@@ -9,13 +9,11 @@ use lib.Ieee.{Float, is_nan}
 use Rattle.lists.specs.Walk.{Turn, on, out, walk}
 use Rattle.doubles.specs.F64.{at}
 use Rattle.checks.specs.First.{first}
-use Rattle.checks.specs.declared.Checked.{Checked}
-use Rattle.checks.specs.declared.Checked.TheVariants.{Sound, Refused}
+use Rattle.checks.specs.First.{Checked}
 use Rattle.generator_action.specs.Generator.{Generator}
 use Rattle.combination.specs.Call.{Call, ends, cleared}
 use Rattle.taylor_job.specs.Calls.{combination_checks}
-use Rattle.taylor_job.specs.declared.TaylorAnswer.{TaylorAnswer}
-use Rattle.taylor_job.specs.declared.TaylorAnswer.TheVariants as taylor
+use Rattle.taylor_job.specs.Calls.{TaylorAnswer}
 use Rattle.ambient_checks.specs.Log.{Log}
 use Rattle.ambient_turns.specs.declared.AmbientAnswer.TheVariants.{Refusal, NotANumber}
 use Rattle.ambient_turns.specs.Ambient.{Progress, Ended, ended, shown, settle, record_step, begun}
@@ -23,6 +21,9 @@ use Rattle.ambient_record.specs.Record.{record_call}
 use Rattle.stages_claims.proofs.Walks.{next, walk_next}
 use Rattle.ambient_claims.specs.Ran.{Gave, record_need, vectors_at, call_at, Run, Next, Ran}
 use Rattle.ambient_claims.proofs.Single.{Passed, refused_record, passed_record, ran_sound}
+use Rattle.checks.specs.Reasons.{refusal, Sound, Refused}
+use Rattle.std.specs.Prelude.{Ok, Err}
+use Rattle.checks.specs.declared.Reason.{Reason}
 
 module _ (g : Generator) (log : Log) (start load : List Float) (node : ℕ) (output memory : List Float) where
   abbrev pub stands : ℕ → Turn Progress Ended
@@ -42,7 +43,7 @@ module _ (g : Generator) (log : Log) (start load : List Float) (node : ℕ) (out
 
   -- ---- what record i + 1 comes to
   pub data Outcome (i : ℕ) (p : Progress) : Type 0 where
-    refused : (k : ℕ) (x : Float) → checked i p ≡ Refused k x → record_step g log load node i p ≡ out (ended (Refusal k x (i + 1)) p.output p.memory p.temperatures) → Outcome i p
+    refused : (k : Reason) (x : Float) → checked i p ≡ Refused k x → record_step g log load node i p ≡ out (ended (Refusal (refusal k x) (i + 1)) p.output p.memory p.temperatures) → Outcome i p
     nan : Run g log start load node output memory i p.field p.output p.memory → is_nan (temperature i p) ≡ true
         → record_step g log load node i p ≡ out (ended (NotANumber (i + 1)) (call i p).output (cleared (record_need g) p.memory) p.temperatures)
         → Outcome i p
@@ -54,8 +55,8 @@ module _ (g : Generator) (log : Log) (start load : List Float) (node : ℕ) (out
 
   gave_settled : (i : ℕ) (xs o m : List Float) (a : TaylorAnswer) → Gave a → settle node i xs (ends a o m) a ≡ shown (is_nan (at o node)) i (at o node) (ends a o m) xs
   unfolding settle
-  gave_settled i xs o m (taylor.Refusal k x) h = absurd h
-  gave_settled i xs o m (taylor.Result r) h = refl
+  gave_settled i xs o m (Err r) h = absurd h
+  gave_settled i xs o m (Ok r) h = refl
 
   pub outcome : (i : ℕ) (p : Progress) → Outcome i p
   unfolding settle shown
@@ -78,18 +79,18 @@ module _ (g : Generator) (log : Log) (start load : List Float) (node : ℕ) (out
           ∙ ap (λ (b : Bool). shown b i (temperature i p) (ends (call i p).answer (call i p).output (cleared (record_need g) p.memory)) p.temperatures) e)
 
       by_checks : (c : Checked) → checked i p ≡ c → Outcome i p
-      by_checks (Refused k x) e = refused k x e (settled_by i p (refused_record g D L p.field load p.output p.memory e))
-      by_checks Sound e = by_number (passed_record g D L p.field load p.output p.memory (sym e)) (is_nan (temperature i p)) refl
+      by_checks (Err r) e = refused r.reason r.value e (settled_by i p (refused_record g D L p.field load p.output p.memory e))
+      by_checks (Ok _) e = by_number (passed_record g D L p.field load p.output p.memory (sym e)) (is_nan (temperature i p)) refl
 
   -- ---- the outcome by what the single call says
-  refused_not : {k : ℕ} {x : Float} → Sound ≡ Refused k x → zero ≡ 1
+  refused_not : {k : Reason} {x : Float} → Sound ≡ Refused k x → zero ≡ 1
   refused_not e = cc
 
   true_not : true ≡ false → zero ≡ 1
   true_not e = cc
 
   module _ (i : ℕ) (p : Progress) where
-    pub refused_step : {k : ℕ} {x : Float} → checked i p ≡ Refused k x → record_step g log load node i p ≡ out (ended (Refusal k x (i + 1)) p.output p.memory p.temperatures)
+    pub refused_step : {k : Reason} {x : Float} → checked i p ≡ Refused k x → record_step g log load node i p ≡ out (ended (Refusal (refusal k x) (i + 1)) p.output p.memory p.temperatures)
     unfolding settle
     refused_step e = settled_by i p (refused_record g (at log.durations i) (at log.levels i) p.field load p.output p.memory e)
 

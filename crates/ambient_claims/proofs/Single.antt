@@ -9,8 +9,7 @@ use lib.Ieee.{Float}
 use borrow.Author.Tests.{le-ltb}
 use Rattle.vectors.specs.Vectors.{scale}
 use Rattle.checks.specs.First.{Check, first}
-use Rattle.checks.specs.declared.Checked.{Checked}
-use Rattle.checks.specs.declared.Checked.TheVariants.{Sound, Refused}
+use Rattle.checks.specs.First.{Checked}
 use Rattle.checks.proofs.First.{sound_append, sound_on, passes, ends_sound}
 use Rattle.general_operator.specs.Csr.{row_sum_norm}
 use Rattle.generator_action.specs.Generator.{Generator}
@@ -23,11 +22,14 @@ use Rattle.combination.specs.Call.{Call, ends, unless_refused, cleared}
 use Rattle.combination.specs.Checks.{plan_checks, vector_checks, magnitude_checks, schedule_checks, memory_checks, sweep_checks, taylor_need}
 use Rattle.taylor_schedule.proofs.Admitted.{sweeps_known}
 use Rattle.taylor_job.specs.Calls.{Fields, after_plan, swept_fields, combination_checks, combination_run, phi_combination}
-use Rattle.taylor_job.specs.declared.TaylorAnswer.{TaylorAnswer}
-use Rattle.taylor_job.specs.declared.TaylorAnswer.TheVariants as taylor
+use Rattle.taylor_job.specs.Calls.{TaylorAnswer}
 use Rattle.ambient_record.specs.Record.{wider, record_call}
 use Rattle.ambient_record.proofs.OneRecord.{checks_wider}
 use Rattle.ambient_claims.specs.Ran.{Gave, record_need}
+use Rattle.checks.specs.Reasons.{Sound, Refused}
+use Rattle.std.specs.Prelude.{Ok, Err}
+use Rattle.checks.specs.declared.Reason.TheVariants.{WorkLength}
+use Rattle.checks.specs.declared.Reason.{Reason}
 
 module _ (g : Generator) (tau level : Float) (f load o m : List Float) where
   abbrev w : List Float
@@ -44,13 +46,13 @@ module _ (g : Generator) (tau level : Float) (f load o m : List Float) where
 
   -- ---- the checks of a record are those of its call, of n doubles less
   call_by : Checked → Call TaylorAnswer
-  call_by r = unless_refused taylor.Refusal r o m (combination_run (wider g) tau M_MAX 1 w (further n w) o m)
+  call_by r = unless_refused Refused r o m (combination_run (wider g) tau M_MAX 1 w (further n w) o m)
 
   record_by : {r : Checked} → first less ≡ r → record_call g tau level f load o m ≡ call_by r
   unfolding record_call phi_combination call_by
-  record_by e = ap (λ (r : Checked). unless_refused taylor.Refusal r o m (combination_run (wider g) tau M_MAX 1 w (further n w) o m)) (ap first (checks_wider g tau M_MAX w (length o) (length m)) ∙ e)
+  record_by e = ap (λ (r : Checked). unless_refused Refused r o m (combination_run (wider g) tau M_MAX 1 w (further n w) o m)) (ap first (checks_wider g tau M_MAX w (length o) (length m)) ∙ e)
 
-  pub refused_record : {k : ℕ} {x : Float} → first less ≡ Refused k x → record_call g tau level f load o m ≡ ends (taylor.Refusal k x) o m
+  pub refused_record : {k : Reason} {x : Float} → first less ≡ Refused k x → record_call g tau level f load o m ≡ ends (Refused k x) o m
   unfolding call_by unless_refused
   refused_record e = record_by e
 
@@ -87,7 +89,7 @@ module _ (g : Generator) (tau level : Float) (f load o m : List Float) where
       sound_on g.checks _ refl c.0
       (sound_on (vector_checks n (plan_checks tau 30) 2 w (length o)) _ refl v.0
       (sound_on (magnitude_checks n (further n w) tau 1 (eta_of n (further n w) tau 1).eta) _ refl x.0
-      (sound_on (schedule_checks 30 (row_sum_norm g.matrix) tau) _ refl s.0 (passes 26 _ [] (le-ltb b _ l) ends_sound))))
+      (sound_on (schedule_checks 30 (row_sum_norm g.matrix) tau) _ refl s.0 (passes WorkLength _ [] (le-ltb b _ l) ends_sound))))
 
   -- ---- a record whose checks pass: its call gave a result, n doubles more are there, and the record leaves the call's field with more cleared
   pub record Passed : Type 0 where
@@ -108,7 +110,7 @@ module _ (g : Generator) (tau level : Float) (f load o m : List Float) where
       let q = g.matrix in
       let run = swept_fields (combination_operator q (further n w) tau 1 (eta_of n (further n w) tau 1).eta) tau (combination_start n w 1 (eta_of n (further n w) tau 1).inv) in
       let x = passed_run (sweep_plan 30 tau q (row_sum_norm q)) P.plan run (row_sum_norm q) (taylor_need n 1 g.stored) (taylor_need n 1 (g.stored + n)) P.is in
-      let s : single ≡ combination_run g tau 30 1 w (further n w) o m = ap (λ (r : Checked). unless_refused taylor.Refusal r o m (combination_run g tau 30 1 w (further n w) o m)) (sym (other_room (length m - n) (length m) e (omega (arith, l)))) in
+      let s : single ≡ combination_run g tau 30 1 w (further n w) o m = ap (λ (r : Checked). unless_refused Refused r o m (combination_run g tau 30 1 w (further n w) o m)) (sym (other_room (length m - n) (length m) e (omega (arith, l)))) in
       record {
         gave = subst (λ (c : Call TaylorAnswer). Gave c.answer) (sym s) x.0;
         room = omega (arith, l);
@@ -116,10 +118,10 @@ module _ (g : Generator) (tau level : Float) (f load o m : List Float) where
       }
 
   -- and the other way round
-  gave_sound : (r : Checked) (c : Call TaylorAnswer) → Gave (unless_refused taylor.Refusal r o m c).answer → Sound ≡ r
+  gave_sound : (r : Checked) (c : Call TaylorAnswer) → Gave (unless_refused Refused r o m c).answer → Sound ≡ r
   unfolding unless_refused
-  gave_sound Sound c h = refl
-  gave_sound (Refused k x) c h = absurd h
+  gave_sound (Ok _) c h = refl
+  gave_sound (Err r) c h = absurd h
 
   pub ran_sound : Gave single.answer → record_need g ≤ length m → Sound ≡ first less
   unfolding phi_combination taylor_need

@@ -18,7 +18,6 @@ use Rattle.doubles.specs.F64.{+0, at, ◌⩽◌}
 use Rattle.extremes.specs.Extremes.{largest, smallest}
 use Rattle.extremes.proofs.Kept as extremes
 use Rattle.checks.specs.First.{first}
-use Rattle.checks.specs.declared.Checked.TheVariants.{Sound}
 use Rattle.checks.proofs.First.{sound_append}
 use Rattle.generator_action.specs.Generator.{Generator}
 use Rattle.ambient_checks.specs.Log.{Log, records_of, field_checks}
@@ -30,6 +29,7 @@ use Rattle.ambient_turns.specs.Inner.{results_of}
 use Rattle.ambient_claims.specs.Ran.{Ran}
 use Rattle.ambient_claims.specs.Claims.{Hit, Windowed, But}
 use Rattle.ambient_claims.proofs.Answers.{whole, End, all, at_nan, at_refusal, end, leaves}
+use Rattle.checks.specs.Reasons.{Sound}
 
 -- ---- of i records with results there are i temperatures, none of them NaN
 snoc_cases : (xs : List Float) (t : Float) (P : Float → Type 0) → ((j : ℕ) → j < length xs → P (at xs j)) → P t → (j : ℕ) → j < length (xs ++ (t ∷ [])) → P (at (xs ++ (t ∷ [])) j)

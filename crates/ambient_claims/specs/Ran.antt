@@ -4,18 +4,19 @@ use Rattle.std.specs.Float.Ieee.{is_nan}
 use Rattle.doubles.specs.F64.{at}
 use Rattle.vectors.specs.Vectors.{scale}
 use Rattle.checks.specs.First.{first}
-use Rattle.checks.specs.declared.Checked.TheVariants.{Refused}
 use Rattle.generator_action.specs.Generator.{Generator}
 use Rattle.combination.specs.Call.{Call, cleared}
 use Rattle.taylor_job.specs.Calls.{combination_checks, phi_combination}
-use Rattle.taylor_job.specs.declared.TaylorAnswer.{TaylorAnswer}
-use Rattle.taylor_job.specs.declared.TaylorAnswer.TheVariants.{Refusal, Result}
+use Rattle.taylor_job.specs.Calls.{TaylorAnswer}
 use Rattle.ambient_checks.specs.Log.{Log, records_of}
+use Rattle.checks.specs.Reasons.{Refused}
+use Rattle.std.specs.Prelude.{Ok, Err}
+use Rattle.checks.specs.declared.Reason.{Reason}
 
 -- a call that gave a result
 abbrev pub Gave : TaylorAnswer → Type 0
-Gave (Refusal k x) = ⊥
-Gave (Result r) = Unit {0}
+Gave (Err r) = ⊥
+Gave (Ok r) = Unit {0}
 
 -- what a record needs of the working memory: n doubles more than its combination
 abbrev pub record_need : Generator → ℕ
@@ -79,7 +80,7 @@ module _ (g : Generator) (log : Log) (start load : List Float) (node : ℕ) (out
     pub memory_is : m' ≡ cleared (record_need g) lent
 
   -- record i + 1 is refused as its single call is by a working memory of n doubles less; output and memory stay as the record before left them
-  pub record RefusedAt (i k : ℕ) (x : Float) (o' m' xs : List Float) : Type 0 where
+  pub record RefusedAt (i : ℕ) (k : Reason) (x : Float) (o' m' xs : List Float) : Type 0 where
     pub reached : i < records_of log
     pub field : List Float
     pub out : List Float

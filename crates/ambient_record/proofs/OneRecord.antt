@@ -14,10 +14,9 @@ use Rattle.lists.proofs.Bounds.{lt_or_le}
 use Rattle.lists.proofs.Window.{length_splice, window_splice_same}
 use Rattle.vectors.specs.Vectors.{scale}
 use Rattle.vectors.proofs.Laws.{length_scale}
-use Rattle.checks.specs.First.{Check, first}
-use Rattle.checks.specs.declared.Checked.{Checked}
-use Rattle.checks.specs.declared.Checked.TheVariants.{Sound, Refused}
-use Rattle.checks.proofs.First.{and_then, first_append, sound_on, refused_up, passes, ends_sound, not_eq}
+use Rattle.checks.specs.First.{Check, first, or_first}
+use Rattle.checks.specs.First.{Checked}
+use Rattle.checks.proofs.First.{and_then, first_append, sound_on, refused_up, err_first, ok_first, passes, ends_sound, not_eq}
 use Rattle.general_operator.specs.Csr.{Csr, csr, row_sum_norm}
 use Rattle.generator_action.specs.Mass.{Mass, given, quotients}
 use Rattle.generator_action.specs.Generator.{Generator}
@@ -38,12 +37,16 @@ use Rattle.combination.proofs.Cleared.{clear_over, cleared_less}
 use Rattle.taylor_schedule.proofs.Stored.{quotients_rows}
 use Rattle.taylor_job.specs.Calls.{Fields, after_plan, report, swept_fields, combination_checks, combination_run, phi_combination}
 use Rattle.taylor_job.specs.Inner.{Allowed, plan_by, operator_by, job_end}
-use Rattle.taylor_job.specs.declared.TaylorAnswer.{TaylorAnswer}
-use Rattle.taylor_job.specs.declared.TaylorAnswer.TheVariants as taylor
+use Rattle.taylor_job.specs.Calls.{TaylorAnswer}
 use Rattle.taylor_job.proofs.Jobs.{planned}
-use Rattle.ambient_checks.specs.Inner.{early_checks, record_job}
+use Rattle.ambient_checks.specs.Inner.{early_checks, record_job, record_refusals}
 use Rattle.ambient_record.specs.Record.{wider, record_call}
 use Rattle.ambient_record.specs.Inner.{record_end}
+use Rattle.checks.specs.Reasons.{Sound, Refused}
+use Rattle.checks.specs.declared.Reason.TheVariants.{OutputLength, VectorLength}
+use Rattle.checks.specs.declared.Reason.{Reason}
+use Rattle.checks.specs.declared.Refusal.{Refusal}
+use Rattle.std.specs.Prelude.{Result, Ok}
 
 pub spliced_long : (p : ℕ) (xs w₀ : List Float) {w₁ : List Float} → w₁ ≡ splice p xs w₀ → length w₁ ≡ length w₀
 spliced_long p xs w₀ e = ap length e ∙ length_splice p xs w₀
@@ -128,7 +131,7 @@ module _
 
   lengths_pass : Sound ≡ first (length_checks (length out) g.n (length w) (2 * g.n))
   unfolding length_checks
-  lengths_pass = passes 15 _ _ (not_eq lo) (passes 16 _ [] (not_eq (length-append v f ∙ omega (arith, lv, long))) ends_sound)
+  lengths_pass = passes OutputLength _ _ (not_eq lo) (passes VectorLength _ [] (not_eq (length-append v f ∙ omega (arith, lv, long))) ends_sound)
 
   early : {r : Checked} → r ≡ first (early_checks tau level v load) → r ≡ first (vector_checks g.n (plan_checks tau M_MAX) 2 w (length out))
   unfolding vector_checks vector_checks_by
@@ -137,19 +140,22 @@ module _
       (e ∙ between (plan_checks tau M_MAX) (length_checks (length out) g.n (length w) (2 * g.n)) (finite_checks w) lengths_pass)
 
   module _ (gs : List Check) (sound : Sound ≡ first gs) {r : Checked} (fr : r ≡ first (early_checks tau level v load)) where
-    pub record_refused : {k : ℕ} {x : Float} → r ≡ Refused k x → ends (taylor.Refusal k x) out w₀ ≡ record_call (after_checks gs a m g) tau level v load out w₀
+    pub record_refused : {k : Reason} {x : Float} → r ≡ Refused k x → ends (Refused k x) out w₀ ≡ record_call (after_checks gs a m g) tau level v load out w₀
     unfolding record_call phi_combination combination_checks
     record_refused e =
-        refused_by taylor.Refusal _ out w₀ _ e (sound_on gs _ refl sound (rw rows (refused_up (vector_checks g.n (plan_checks tau M_MAX) 2 w (length out)) _ e (early fr))))
+        refused_by Refused _ out w₀ _ e (sound_on gs _ refl sound (rw rows (refused_up (vector_checks g.n (plan_checks tau M_MAX) 2 w (length out)) _ e (early fr))))
 
-  module _ {j : Job} (ej : j ≡ record_job g tau level load (length w₀)) (ec : j.checked ≡ Sound) where
+  module _ {j : Job} (told : or_first (record_refusals g tau level load (length w₀)) (record_job g tau level load) ≡ Ok j) where
+    ej : j ≡ record_job g tau level load
+    ej = sym (ok_first _ _ told).1
+
     room : taylor_need g.n 1 g.stored ≤ length w₀ - g.n
-    room = (sweeps_known g.n tau M_MAX 1 f g.norm (length w₀ - g.n) _ (sym ec ∙ ap (λ (x : Job). x.checked) ej)).room
+    room = (sweeps_known g.n tau M_MAX 1 f g.norm (length w₀ - g.n) _ (sym (ok_first _ _ told).0)).room
 
     allowed : {w₁ : List Float} → length w₁ ≡ length w₀ → Allowed starts cols vals mass w₁ j
     unfolding taylor_need
     allowed l =
-        let p = sweeps_known g.n tau M_MAX 1 f g.norm (length w₀ - g.n) _ (sym ec ∙ ap (λ (x : Job). x.checked) ej) in
+        let p = sweeps_known g.n tau M_MAX 1 f g.norm (length w₀ - g.n) _ (sym (ok_first _ _ told).0) in
         rw ej (record { passed = ok; short = omega arith; needed = refl; enough = omega (arith, l, room); row = p.row })
 
     pub record_fits : g.n + 1 ≤ length w₀
@@ -161,27 +167,33 @@ module _
     unfolding taylor_need
     record_runs l l₁ = (allowed l, rw ej (coupled_in g.n 1 _ _ (omega (arith, one-mul g.n, l₁)) (omega arith), l₁, omega (arith, l, room)))
 
-  module _ (gs : List Check) (sound : Sound ≡ first gs) {r : Checked} (fr : r ≡ first (early_checks tau level v load)) (er : r ≡ Sound) {j : Job} (ej : j ≡ record_job g tau level load (length w₀)) where
-    told : j.checked ≡ first (combination_checks (wider (after_checks gs a m g)) tau M_MAX 2 w (length out) (length w₀))
+  module _ (gs : List Check) (sound : Sound ≡ first gs) {r : Checked} (fr : r ≡ first (early_checks tau level v load)) (er : r ≡ Sound) {a₁ : Result Job Refusal}
+      (ea : a₁ ≡ or_first (record_refusals g tau level load (length w₀)) (record_job g tau level load)) where
+    all_told : first (record_refusals g tau level load (length w₀)) ≡ first (combination_checks (wider (after_checks gs a m g)) tau M_MAX 2 w (length out) (length w₀))
     unfolding combination_checks
-    told =
-        ap (λ (x : Job). x.checked) ej
-        ∙ sound_on gs _ refl sound
+    all_told =
+        sound_on gs _ refl sound
         (rw (← ok.norm, rows, behind) (sound_on (vector_checks g.n (plan_checks tau M_MAX) 2 w (length out)) _ er (early fr) refl))
         ∙ ap first (sym (checks_wider (after_checks gs a m g) tau M_MAX w (length out) (length w₀)))
 
-    pub record_not_admitted : {k : ℕ} {x : Float} → j.checked ≡ Refused k x → ends (taylor.Refusal k x) out w₀ ≡ record_call (after_checks gs a m g) tau level v load out w₀
+    pub record_not_admitted : {k : Reason} {x : Float} → a₁ ≡ Refused k x → ends (Refused k x) out w₀ ≡ record_call (after_checks gs a m g) tau level v load out w₀
     unfolding record_call phi_combination
-    record_not_admitted e = refused_by taylor.Refusal _ out w₀ _ e told
+    record_not_admitted e = refused_by Refused _ out w₀ _ (err_first _ _ (sym ea ∙ e)) all_told
 
-    module _ (ec : j.checked ≡ Sound) where
+    module _ {j : Job} (ec : a₁ ≡ Ok j) where
+      passes_all : or_first (record_refusals g tau level load (length w₀)) (record_job g tau level load) ≡ Ok j
+      passes_all = sym ea ∙ ec
+
+      job_is : j ≡ record_job g tau level load
+      job_is = ej passes_all
+
       -- the end with n doubles more
       planned_wider : (run : SweepPlan → Fields)
           → record_end j (quotients a m) run w₀ ≡ after_plan (taylor_need g.n 1 (g.stored + g.n)) tau g.norm out w₀ (sweep_plan M_MAX tau (quotients a m) g.norm) run
       unfolding after_plan taylor_need
       planned_wider run =
           let e : 3 * g.n + 2 * 1 + g.stored + g.n ≡ 3 * g.n + 2 * 1 + (g.stored + g.n) = omega arith in
-          rw (ej, rw ej at (planned (allowed ej ec {w₁ = w₀} refl) (quotients a m)), e) refl
+          rw (job_is, rw job_is at (planned (allowed passes_all {w₁ = w₀} refl) (quotients a m)), e) refl
 
       within : {k : ℕ} → k ≡ g.n + 1 → 0 + k ≤ taylor_need g.n 1 g.stored + g.n
       unfolding taylor_need
@@ -194,19 +206,19 @@ module _
           → c ≡ record_call (after_checks gs a m g) tau level v load out w₀
       unfolding record_call phi_combination combination_run combination_operator
       record_is {c} {w₁} {out₁} e₁ eo h =
-          let J = record_job g tau level load (length w₀) in
+          let J = record_job g tau level load in
           let q = quotients a m in
           let y = combination_start g.n v 1 J.inv in
           let more = J.need + g.n in
           let p = plan_by J q in
           let run = swept_fields (operator_by J q f) tau in
-          let start : w₁ ≡ splice 0 y w₀ = rw ej at e₁ in
-          let ran : c ≡ record_end J q (run (window 0 (g.n + 1) w₁)) w₁ = rw (ej, eo) at h in
+          let start : w₁ ≡ splice 0 y w₀ = rw job_is at e₁ in
+          let ran : c ≡ record_end J q (run (window 0 (g.n + 1) w₁)) w₁ = rw (job_is, eo) at h in
           let ly = length_start g.n v 1 J.inv (omega (arith, lv)) in
-          let field : window 0 (g.n + 1) w₁ ≡ y = ap (window 0 (g.n + 1)) start ∙ window_splice_same 0 (g.n + 1) y w₀ ly (omega (arith, record_fits ej ec)) in
+          let field : window 0 (g.n + 1) w₁ ≡ y = ap (window 0 (g.n + 1)) start ∙ window_splice_same 0 (g.n + 1) y w₀ ly (omega (arith, record_fits passes_all)) in
           let clear = clear_over more 0 y w₀ start (within ly) in
-          runs taylor.Refusal _ out w₀ _ ec told
+          runs Refused _ out w₀ _ (ok_first _ _ passes_all).0 all_told
           (ran
           ∙ (λ i. ends (report p (run (field i) p).applied) (run (field i) p).fields (clear i))
-          ∙ (rw ej at (planned_wider (run y)))
+          ∙ (rw job_is at (planned_wider (run y)))
           ∙ rw (← ok.norm, rows, behind, start_of g.n v f lv 1 J.inv) refl)

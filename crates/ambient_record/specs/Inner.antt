@@ -6,7 +6,7 @@ use Rattle.taylor_schedule.specs.declared.Job.{Job}
 use Rattle.phi_action_helpers.specs.declared.SweepPlan.{SweepPlan}
 use Rattle.taylor_job.specs.Calls.{Fields, report}
 use Rattle.taylor_job.specs.Inner.{plan_by}
-use Rattle.taylor_job.specs.declared.TaylorAnswer.{TaylorAnswer}
+use Rattle.taylor_job.specs.Calls.{TaylorAnswer}
 
 -- how a record that passed ends: n doubles more than its combination needed are cleared
 abbrev pub record_end : Job → Csr → (SweepPlan → Fields) → List Float → Call TaylorAnswer

@@ -5,7 +5,7 @@ use Rattle.generator_action.specs.Generator.{Generator}
 use Rattle.expmv.specs.Select.{M_MAX}
 use Rattle.combination.specs.Call.{Call}
 use Rattle.taylor_job.specs.Calls.{phi_combination, open_calls}
-use Rattle.taylor_job.specs.declared.TaylorAnswer.{TaylorAnswer}
+use Rattle.taylor_job.specs.Calls.{TaylorAnswer}
 
 -- n doubles more of working memory
 abbrev pub wider : Generator → Generator

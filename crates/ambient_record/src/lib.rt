@@ -4,7 +4,7 @@
 ghost use Rattle.std.specs.Prelude.{◌≡◌, List, ◌+◌, ◌≤◌, length};
 ghost use Rattle.lists.specs.Window.{window};
 ghost use Rattle.checks.specs.First.{Check, first};
-ghost use Rattle.checks.specs.declared.Checked.TheVariants.{Sound};
+ghost use Rattle.checks.specs.Reasons.{Sound};
 ghost use Rattle.general_operator.specs.Csr.{csr};
 ghost use Rattle.generator_action.specs.Mass.{given};
 ghost use Rattle.generator_action.specs.Known.{Passed};
@@ -12,14 +12,14 @@ ghost use Rattle.combination.specs.Call.{ends};
 ghost use Rattle.taylor_schedule.specs.Inner.{Coupled, matrix_of, after_checks};
 ghost use Rattle.taylor_job.specs.Calls.{swept_fields};
 ghost use Rattle.taylor_job.specs.Inner.{operator_by, Allowed};
-ghost use Rattle.ambient_checks.specs.Inner.{field_of};
+ghost use Rattle.combination.specs.Combination.{field_of};
 ghost use Rattle.ambient_record.specs.Record.{record_call};
 ghost use Rattle.ambient_record.specs.Inner.{record_end};
 
-use checks::Checked;
+use checks::Refusal;
 use generator_action::Shape;
-use phi_action_helpers::SweepArgs;
-use taylor_job::TaylorAnswer;
+use phi_action_helpers::{AugmentedOperator, SweepArgs};
+use taylor_job::TaylorReport;
 use taylor_schedule::Job;
 
 // The run of a record that passed: w_1 lies in the output, which is free until the field is copied there, and w_0 at the front of the memory.
@@ -31,23 +31,25 @@ fn run_record(
     out: &mut [f64],
     work: &mut [f64],
     j: Job,
-) -> TaylorAnswer
+) -> Result<TaylorReport, Refusal>
     requires allowed { Allowed starts.now cols.now vals.now mass.now work.old j }
     requires coupled { Coupled j.b j.g.n j.d (length out.old) × (length out.old ≡ j.g.n) × (j.need + j.g.n ≤ length work.old) }
     ensures { ends result out.new work.new ≡ record_end j (matrix_of j.g starts.now cols.now vals.now mass.now) (swept_fields (operator_by j (matrix_of j.g starts.now cols.now vals.now mass.now) out.old) j.tau (window 0 (j.g.n + j.d) work.old)) work.old }
 {
     let g = j.g;
     let l = taylor_job::layout(g.n, j.d, g.with_mass);
-    let b = j.b;
     let n = l.n;
     let p = taylor_job::prepare(starts, cols, vals, mass, work, j);
-    let x = SweepArgs {
+    let o = AugmentedOperator {
+        starts,
+        cols,
+        vals,
+        vectors: out,
         l,
-        b,
-        tau: j.tau,
-        p,
+        b: j.b,
     };
-    let applied = taylor_sweeps::run_sweeps(starts, cols, vals, out, work, x);
+    let x = SweepArgs { o, tau: j.tau, p };
+    let applied = taylor_sweeps::run_sweeps(work, x);
     vectors::copy_from(out, 0, work, 0, n);
     taylor_job::finish(work, j.need + g.n, p, applied)
 }
@@ -66,20 +68,13 @@ pub fn record_call(
     load: &[f64],
     out: &mut [f64],
     work: &mut [f64],
-) -> TaylorAnswer
+) -> Result<TaylorReport, Refusal>
     requires passed { Passed (csr g.n starts.now cols.now vals.now) (given g.with_mass mass.now) g }
     requires field_len { (length field.now ≡ g.n) × (length load.now ≡ g.n) × (length out.old ≡ g.n) }
     ensures { (gs : List Check) → Sound ≡ first gs → ends result out.new work.new ≡ record_call (after_checks gs (csr g.n starts.now cols.now vals.now) (given g.with_mass mass.now) g) duration level (field_of initial field.now out.old) load.now out.old work.old }
 {
-    let early = record_checks::check_record(duration, level, initial, field, out, load);
-    let Checked::Sound = early else {
-        return TaylorAnswer::Refusal(checks::number(early), checks::reported(early));
-    };
-    let j = record_checks::admit_record(g, duration, level, load, work.len());
-    let checked = j.checked;
-    let Checked::Sound = checked else {
-        return TaylorAnswer::Refusal(checks::number(checked), checks::reported(checked));
-    };
+    record_checks::check_record(duration, level, initial, field, out, load)?;
+    let j = record_checks::admit_record(g, duration, level, load, work.len())?;
     record_start::start_record(initial, field, out, g.n, j.inv, work);
     record_start::scale_into(load, level, out);
     run_record(starts, cols, vals, mass, out, work, j)

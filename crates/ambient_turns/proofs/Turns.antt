@@ -12,7 +12,6 @@ use lib.Dec.{eqb}
 use lib.ListN.{length, set, take, length-set}
 use lib.Seq.{take-suc, take-set-le, get_or-set_same}
 use lib.Ieee.{Float, nan, is_nan}
-use borrow.Author.Tests.{ne_eqb}
 use Rattle.lists.specs.Walk.{Turn, on, walk}
 use Rattle.lists.specs.Window.{window, splice}
 use Rattle.lists.proofs.Walk.{Left, left_out, left_none}
@@ -20,17 +19,20 @@ use Rattle.lists.proofs.Window.{length_window, splice_snoc}
 use Rattle.doubles.specs.F64.{at}
 use Rattle.generator_action.specs.Generator.{Generator}
 use Rattle.combination.specs.Call.{Call, ends}
-use Rattle.taylor_job.specs.declared.TaylorAnswer.{TaylorAnswer}
-use Rattle.taylor_job.specs.declared.TaylorAnswer.TheVariants as taylor
+use Rattle.taylor_job.specs.Calls.{TaylorAnswer}
 use Rattle.taylor_job.specs.declared.TaylorReport.{TaylorReport}
 use Rattle.ambient_record.specs.Record.{record_call}
 use Rattle.ambient_checks.specs.Log.{Log}
-use Rattle.ambient_checks.specs.Inner.{field_of}
+use Rattle.combination.specs.Combination.{field_of}
+use Rattle.combination.proofs.Further.{later_field}
 use Rattle.ambient_turns.specs.declared.AmbientAnswer.{AmbientAnswer}
 use Rattle.ambient_turns.specs.declared.AmbientAnswer.TheVariants.{Refusal, NotANumber, Logged}
 use Rattle.ambient_turns.specs.contracts.AmbientAnswer.{the_type}
 use Rattle.ambient_turns.specs.Ambient.{Progress, Ended, ended, shown, settle, record_step, concluded}
 use Rattle.ambient_turns.specs.Inner.{turn_at, results_of, shown_in}
+use Rattle.checks.specs.Reasons.{refusal, Refused}
+use Rattle.std.specs.Prelude.{Ok}
+use Rattle.checks.specs.declared.Reason.{Reason}
 
 -- a refusal and a NaN temperature are no result
 pub not_logged : (r : AmbientAnswer) → OneOf (0 ∷ 1 ∷ []) (tag_of the_type r) → r ≡ Logged → ⊥
@@ -63,15 +65,15 @@ one_less : (i : ℕ) → i + 1 - 1 ≡ i
 one_less i = omega arith
 
 module _ (node i : ℕ) (o t : List Float) {a : TaylorAnswer} where
-  pub refused_turn : {k : ℕ} {x : Float} → a ≡ taylor.Refusal k x → Settled node i a o t (Refusal k x (i + 1)) t × Shown i (Refusal k x (i + 1)) t t
+  pub refused_turn : {k : Reason} {x : Float} → a ≡ Refused k x → Settled node i a o t (Refusal (refusal k x) (i + 1)) t × Shown i (Refusal (refusal k x) (i + 1)) t t
   unfolding turn_at settle results_of
   refused_turn e = (λ memory. rw (e, one_less i) refl, (omega arith, λ t₀ h. rw (one_less i) h))
 
-  pub nan_turn : {r : TaylorReport} → a ≡ taylor.Result r → true ≡ is_nan (at o node) → Settled node i a o t (NotANumber (i + 1)) t × Shown i (NotANumber (i + 1)) t t
+  pub nan_turn : {r : TaylorReport} → a ≡ Ok r → true ≡ is_nan (at o node) → Settled node i a o t (NotANumber (i + 1)) t × Shown i (NotANumber (i + 1)) t t
   unfolding turn_at settle shown results_of
   nan_turn e n = (λ memory. rw (e, ← n, one_less i) refl, (omega arith, λ t₀ h. rw (one_less i) h))
 
-  pub shown_turn : {r : TaylorReport} → a ≡ taylor.Result r → false ≡ is_nan (at o node) → i < length t → Settled node i a o t Logged (set t i (at o node)) × Shown i Logged t (set t i (at o node))
+  pub shown_turn : {r : TaylorReport} → a ≡ Ok r → false ≡ is_nan (at o node) → i < length t → Settled node i a o t Logged (set t i (at o node)) × Shown i Logged t (set t i (at o node))
   unfolding turn_at settle shown results_of
   shown_turn e n l = (λ memory. rw (e, ← n, shown_more i t (at o node) l) refl, (omega arith, λ t₀ h. grown i t t₀ (at o node) l h))
 
@@ -80,9 +82,6 @@ unfolding results_of
 shown_logged i t₀ e h = rw e at h
 
 -- ---- one turn of the loop
-pub later_field : (i : ℕ) (field output : List Float) → 1 ≤ i → field_of (eqb i 0) field output ≡ output
-later_field i field output l = rw (ne_eqb i 0 (λ e. absurd (omega (arith, l, e)))) refl
-
 module _ (g : Generator) (log : Log) (load : List Float) (node : ℕ) (field : List Float) where
   -- before record i + 1
   abbrev pub progress : ℕ → List Float → List Float → List Float → Progress
@@ -105,14 +104,14 @@ module _ (g : Generator) (log : Log) (load : List Float) (node : ℕ) (field : L
 -- ---- the ends of the loop
 concluded_is : (r : AmbientAnswer) (field output memory t : List Float) → concluded (turn_at r field output memory t) ≡ ended r output memory t
 unfolding concluded turn_at
-concluded_is (Refusal k x i) field output memory t = refl
+concluded_is (Refusal r i) field output memory t = refl
 concluded_is (NotANumber i) field output memory t = refl
 concluded_is Logged field output memory t = refl
 
 module _ {step : ℕ → Progress → Turn Progress Ended} {k i : ℕ} {o₀ : Turn Progress Ended} (field output memory t : List Float) where
   pub ended_early : (r : AmbientAnswer) → (r ≡ Logged → ⊥) → Left step k i o₀ (turn_at r field output memory (shown_in r i t)) → ended r output memory (shown_in r k t) ≡ concluded (walk step k 0 o₀)
   unfolding turn_at results_of concluded
-  ended_early (Refusal j x m) n h = ap concluded (left_out h _ refl)
+  ended_early (Refusal e m) n h = ap concluded (left_out h _ refl)
   ended_early (NotANumber m) n h = ap concluded (left_out h _ refl)
   ended_early Logged n h = absurd (n refl)
 
@@ -122,6 +121,6 @@ module _ {step : ℕ → Progress → Turn Progress Ended} {k i : ℕ} {o₀ : T
 -- an end names its record, however many there are
 pub same_results : (i k : ℕ) (r : AmbientAnswer) → (r ≡ Logged → ⊥) → results_of r i ≡ results_of r k
 unfolding results_of
-same_results i k (Refusal j x m) n = refl
+same_results i k (Refusal e m) n = refl
 same_results i k (NotANumber m) n = refl
 same_results i k Logged n = absurd (n refl)

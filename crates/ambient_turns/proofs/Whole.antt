@@ -13,8 +13,7 @@ use Rattle.doubles.specs.F64.{max_num, min_num}
 use Rattle.extremes.specs.Extremes.{largest, smallest}
 use Rattle.extremes.proofs.Windows.{extremes_of_front}
 use Rattle.checks.specs.First.{first}
-use Rattle.checks.specs.declared.Checked.{Checked}
-use Rattle.checks.specs.declared.Checked.TheVariants.{Sound, Refused}
+use Rattle.checks.specs.First.{Checked}
 use Rattle.checks.proofs.First.{sound_on, refused_up}
 use Rattle.general_operator.specs.Csr.{Csr}
 use Rattle.generator_action.specs.Mass.{Mass, generator_checks}
@@ -28,6 +27,8 @@ use Rattle.ambient_turns.specs.declared.AmbientAnswer.{AmbientAnswer}
 use Rattle.ambient_turns.specs.declared.AmbientAnswer.TheVariants.{Refusal}
 use Rattle.ambient_turns.specs.Ambient.{ended, record_step, ambient_checks, written, concluded, begun, unless_log_refused, ambient}
 use Rattle.ambient_turns.specs.Inner.{results_of, shown_in, Logs, results, logging}
+use Rattle.checks.specs.Reasons.{refusal, Sound, Refused}
+use Rattle.checks.specs.declared.Reason.{Reason}
 
 -- ---- what the slices hold at the end
 module _ (W n : ℕ) (t₁ w₀ w₁ : List Float) (wide : 1 ≤ W) (fits : n ≤ length t₁) where
@@ -40,7 +41,7 @@ module _ (W n : ℕ) (t₁ w₀ w₁ : List Float) (wide : 1 ≤ W) (fits : n �
   smallest_in e = e ∙ ap (λ (x : List Float). splice 0 x w₀) (extremes_of_front min_num W n t₁ wide fits)
 
 module _ (g : Generator) (log : Log) (field load : List Float) (W node : ℕ) (out₀ w₀ t₀ hi₀ lo₀ : List Float) {r : Checked} (told : r ≡ first (ambient_checks g log field load W node (length out₀) (places (length t₀) (length hi₀) (length lo₀)))) where
-  pub ambient_refused : {k : ℕ} {x : Float} → r ≡ Refused k x → logging (Refusal k x 0) out₀ w₀ t₀ hi₀ lo₀ ≡ ambient g log field load W node out₀ w₀ (results t₀ hi₀ lo₀)
+  pub ambient_refused : {k : Reason} {x : Float} → r ≡ Refused k x → logging (Refusal (refusal k x) 0) out₀ w₀ t₀ hi₀ lo₀ ≡ ambient g log field load W node out₀ w₀ (results t₀ hi₀ lo₀)
   unfolding ambient unless_log_refused
   ambient_refused e = rw (← told, e) refl
 
@@ -67,7 +68,7 @@ pub checks_told : (a : Csr) (mass : Mass) (log : Log) (field load : List Float) 
 unfolding ambient_checks
 checks_told a mass log field load W node output p sound e = sound_on (generator_checks a mass) _ refl sound (rw (quotients_rows a mass) e)
 
-pub matrix_refused : (a : Csr) (mass : Mass) (log : Log) (field load : List Float) (W node output : ℕ) (p : Places) {k : ℕ} {x : Float} → Refused k x ≡ first (generator_checks a mass)
+pub matrix_refused : (a : Csr) (mass : Mass) (log : Log) (field load : List Float) (W node output : ℕ) (p : Places) {k : Reason} {x : Float} → Refused k x ≡ first (generator_checks a mass)
     → Refused k x ≡ first (ambient_checks (forward a mass) log field load W node output p)
 unfolding ambient_checks
 matrix_refused a mass log field load W node output p e = refused_up (generator_checks a mass) _ refl e

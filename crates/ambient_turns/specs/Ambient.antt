@@ -8,16 +8,15 @@ use Rattle.lists.specs.Window.{splice}
 use Rattle.doubles.specs.F64.{at}
 use Rattle.extremes.specs.Extremes.{largest, smallest, open_extremes}
 use Rattle.checks.specs.First.{Check, first}
-use Rattle.checks.specs.declared.Checked.{Checked}
-use Rattle.checks.specs.declared.Checked.TheVariants.{Sound, Refused}
+use Rattle.checks.specs.First.{Checked}
 use Rattle.generator_action.specs.Generator.{Generator}
 use Rattle.combination.specs.Call.{Call, ends}
-use Rattle.taylor_job.specs.declared.TaylorAnswer.{TaylorAnswer}
-use Rattle.taylor_job.specs.declared.TaylorAnswer.TheVariants as taylor
+use Rattle.taylor_job.specs.Calls.{TaylorAnswer}
 use Rattle.ambient_record.specs.Record.{record_call, open_record}
 use Rattle.ambient_checks.specs.Log.{Log, records_of, Places, field_checks, log_checks, open_log}
 use Rattle.ambient_turns.specs.declared.AmbientAnswer.{AmbientAnswer}
 use Rattle.ambient_turns.specs.declared.AmbientAnswer.TheVariants.{Refusal, NotANumber, Logged}
+use Rattle.std.specs.Prelude.{Ok, Err}
 
 -- ---- the log
 -- before a record: the field, what the output and the working memory hold, and the temperatures so far
@@ -42,8 +41,8 @@ shown false i t c temperatures = on (record { field = c.output; output = c.outpu
 
 -- a refusal ends it with the field before that record, or with nothing changed at the first
 unfoldable pub settle : ℕ → ℕ → List Float → Call TaylorAnswer → TaylorAnswer → Turn Progress Ended
-settle node i temperatures c (taylor.Refusal k x) = out (ended (Refusal k x (i + 1)) c.output c.memory temperatures)
-settle node i temperatures c (taylor.Result r) = shown (is_nan (at c.output node)) i (at c.output node) c temperatures
+settle node i temperatures c (Err r) = out (ended (Refusal r (i + 1)) c.output c.memory temperatures)
+settle node i temperatures c (Ok r) = shown (is_nan (at c.output node)) i (at c.output node) c temperatures
 
 -- record i + 1
 unfoldable pub record_step : Generator → Log → List Float → ℕ → ℕ → Progress → Turn Progress Ended
@@ -94,8 +93,8 @@ begun field output memory = record { field = field; output = output; memory = me
 
 -- refused before any record: nothing is changed
 unfoldable pub unless_log_refused : Checked → List Float → List Float → Results → Logging → Logging
-unless_log_refused (Refused k x) output memory r l = record { call = ends (Refusal k x 0) output memory; results = r }
-unless_log_refused Sound output memory r l = l
+unless_log_refused (Err e) output memory r l = record { call = ends (Refusal e 0) output memory; results = r }
+unless_log_refused (Ok _) output memory r l = l
 
 unfoldable pub ambient : Generator → Log → List Float → List Float → ℕ → ℕ → List Float → List Float → Results → Logging
 ambient g log field load W node output memory r =

@@ -10,13 +10,13 @@ use Rattle.ambient_turns.specs.declared.AmbientAnswer.TheVariants.{Refusal, NotA
 
 -- after some records, all with a result so far where the answer is Logged
 unfoldable pub turn_at : AmbientAnswer → List Float → List Float → List Float → List Float → Turn Progress Ended
-turn_at (Refusal k x i) field output memory temperatures = out (ended (Refusal k x i) output memory temperatures)
+turn_at (Refusal r i) field output memory temperatures = out (ended (Refusal r i) output memory temperatures)
 turn_at (NotANumber i) field output memory temperatures = out (ended (NotANumber i) output memory temperatures)
 turn_at Logged field output memory temperatures = on (record { field = field; output = output; memory = memory; temperatures = temperatures })
 
 -- how many of k records have a result: those before the one that is named
 unfoldable pub results_of : AmbientAnswer → ℕ → ℕ
-results_of (Refusal r x i) k = i - 1
+results_of (Refusal r i) k = i - 1
 results_of (NotANumber i) k = i - 1
 results_of Logged k = k
 

@@ -7,12 +7,13 @@ ghost use Rattle.combination.specs.Call.{ends};
 ghost use Rattle.ambient_turns.specs.Ambient.{settle};
 ghost use Rattle.ambient_turns.specs.Inner.{turn_at, results_of, shown_in};
 
-use taylor_job::TaylorAnswer;
+use checks::Refusal;
+use taylor_job::TaylorReport;
 
 // A refusal's number and double with the record that met it, from 1 (0: before any record); the record after which the temperature is NaN; or all done.
 #[derive(Clone, Copy)]
 pub enum AmbientAnswer {
-    Refusal(u32, f64, u32),
+    Refusal(Refusal, u32),
     NotANumber(u32),
     Logged,
 }
@@ -21,7 +22,7 @@ pub enum AmbientAnswer {
 pub fn settle(
     i: usize,
     node: usize,
-    answer: TaylorAnswer,
+    answer: Result<TaylorReport, Refusal>,
     out: &[f64],
     temperatures: &mut [f64],
 ) -> AmbientAnswer
@@ -31,10 +32,10 @@ pub fn settle(
 {
     let record = i as u32 + 1;
     match answer {
-        TaylorAnswer::Refusal(k, x) => AmbientAnswer::Refusal(k, x, record),
-        TaylorAnswer::Result(_) => {
+        Err(r) => AmbientAnswer::Refusal(r, record),
+        Ok(_) => {
             let t = out[node];
-            if t != t {
+            if t.is_nan() {
                 return AmbientAnswer::NotANumber(record);
             }
             temperatures[i] = t;
@@ -49,7 +50,7 @@ pub fn results_of(answer: AmbientAnswer, k: usize) -> usize
     ensures { result ≡ results_of answer k }
 {
     match answer {
-        AmbientAnswer::Refusal(_, _, i) => records_before(i),
+        AmbientAnswer::Refusal(_, i) => records_before(i),
         AmbientAnswer::NotANumber(i) => records_before(i),
         AmbientAnswer::Logged => k,
     }

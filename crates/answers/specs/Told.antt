@@ -1,20 +1,18 @@
 -- An answer as the numbers that an exported function hands back (document 01, 'Oracle'). Definitions only.
 use Rattle.std.specs.Prelude.{Bool, true, false, List, ℕ, Float}
 use Rattle.doubles.specs.F64.{+0}
-use Rattle.generator_action.specs.declared.MatrixAnswer.{MatrixAnswer}
-use Rattle.generator_action.specs.declared.MatrixAnswer.TheVariants as matrix
+use Rattle.generator_action.specs.Answer.{MatrixAnswer}
 use Rattle.join_rows.specs.Join.{Call}
-use Rattle.join_rows.specs.declared.JoinAnswer.{JoinAnswer}
-use Rattle.join_rows.specs.declared.JoinAnswer.TheVariants as join
-use Rattle.taylor_job.specs.declared.TaylorAnswer.{TaylorAnswer}
-use Rattle.taylor_job.specs.declared.TaylorAnswer.TheVariants as taylor
+use Rattle.join_rows.specs.Join.{JoinAnswer}
+use Rattle.taylor_job.specs.Calls.{TaylorAnswer}
 use Rattle.krylov_job.specs.declared.KrylovPhiOptions.{KrylovPhiOptions}
-use Rattle.krylov_job.specs.declared.KrylovAnswer.{KrylovAnswer}
-use Rattle.krylov_job.specs.declared.KrylovAnswer.TheVariants as krylov
+use Rattle.krylov_job.specs.KrylovCall.{KrylovAnswer}
 use Rattle.phi_solver.specs.declared.PhiSolver.{PhiSolver}
 use Rattle.phi_solver.specs.declared.PhiSolver.TheVariants.{Taylor, Krylov}
-use Rattle.phi_solver.specs.declared.PhiAnswer.{PhiAnswer}
-use Rattle.phi_solver.specs.declared.PhiAnswer.TheVariants as phi
+use Rattle.phi_solver.specs.Combine.{PhiAnswer}
+use Rattle.phi_solver.specs.declared.PhiReport.TheVariants as phi
+use Rattle.std.specs.Prelude.{Ok, Err}
+use Rattle.checks.specs.Reasons.{number}
 
 -- 0 or the refusal's number, the double reported, three counts, and the shortest and the last accepted step
 pub record Numbers : Type 0 where
@@ -35,13 +33,13 @@ numbers k x a b c = run_numbers k x a b c +0 +0
 
 -- of a matrix: the norm and the first row that has it; the row of a refusal is 0
 unfoldable pub matrix_numbers : MatrixAnswer → Numbers
-matrix_numbers (matrix.Refusal k x) = numbers k x 0 0 0
-matrix_numbers (matrix.Norm x i) = numbers 0 x i 0 0
+matrix_numbers (Err r) = numbers (number r.reason) r.value 0 0 0
+matrix_numbers (Ok l) = numbers 0 l.norm l.row 0 0
 
 -- of a join: the number of entries of the result; that of a refusal is 0
 unfoldable pub join_numbers : JoinAnswer → Numbers
-join_numbers (join.Refusal k x) = numbers k x 0 0 0
-join_numbers (join.Joined entries) = numbers 0 +0 entries 0 0
+join_numbers (Err r) = numbers (number r.reason) r.value 0 0 0
+join_numbers (Ok entries) = numbers 0 +0 entries 0 0
 
 -- and what its output slices hold
 pub record JoinTold : Type 0 where
@@ -58,19 +56,19 @@ telling_join c = join_told (join_numbers c.answer) c.starts c.columns c.values
 
 -- of Taylor: mu, s, m and the applications
 unfoldable pub taylor_numbers : TaylorAnswer → Numbers
-taylor_numbers (taylor.Refusal k x) = numbers k x 0 0 0
-taylor_numbers (taylor.Result r) = numbers 0 r.mu r.s r.m r.applications
+taylor_numbers (Err r) = numbers (number r.reason) r.value 0 0 0
+taylor_numbers (Ok r) = numbers 0 r.mu r.s r.m r.applications
 
 -- of Krylov: the estimate, the substeps, the applications, the rejections, and the two steps (document 02, N10)
 unfoldable pub krylov_numbers : KrylovAnswer → Numbers
-krylov_numbers (krylov.Refusal k x) = numbers k x 0 0 0
-krylov_numbers (krylov.Result r) = run_numbers 0 r.est_error r.substeps r.matvecs r.rejected r.shortest r.last
+krylov_numbers (Err r) = numbers (number r.reason) r.value 0 0 0
+krylov_numbers (Ok r) = run_numbers 0 r.est_error r.substeps r.matvecs r.rejected r.shortest r.last
 
 -- of either solver: what its own call tells
 unfoldable pub phi_numbers : PhiAnswer → Numbers
-phi_numbers (phi.Refusal k x) = numbers k x 0 0 0
-phi_numbers (phi.Taylor r) = taylor_numbers (taylor.Result r)
-phi_numbers (phi.Krylov r) = krylov_numbers (krylov.Result r)
+phi_numbers (Err r) = numbers (number r.reason) r.value 0 0 0
+phi_numbers (Ok (phi.Taylor r)) = taylor_numbers (Ok r)
+phi_numbers (Ok (phi.Krylov r)) = krylov_numbers (Ok r)
 
 -- tol, m and max_substeps, handed in as numbers (phi_krylov.rs, `KrylovPhiOptions`)
 abbrev pub options : Float → ℕ → ℕ → KrylovPhiOptions

@@ -4,41 +4,42 @@
 ghost use Rattle.std.specs.Prelude.{◌≡◌};
 ghost use Rattle.answers.specs.Told.{numbers, matrix_numbers, join_numbers, taylor_numbers, krylov_numbers, phi_numbers, run_numbers, options, solver};
 
-use generator_action::MatrixAnswer;
-use join_rows::JoinAnswer;
-use krylov_job::{KrylovAnswer, KrylovPhiOptions};
-use phi_solver::{PhiAnswer, PhiSolver};
-use taylor_job::TaylorAnswer;
+use checks::Refusal;
+use generator_action::Largest;
+use krylov_advance::KrylovPhiReport;
+use krylov_job::KrylovPhiOptions;
+use phi_solver::{PhiReport, PhiSolver};
+use taylor_job::TaylorReport;
 
 // The result is 0 or the refusal's number; `value` is the norm or the refusal's double.
-pub fn matrix_numbers(answer: MatrixAnswer, value: &mut f64, row: &mut usize) -> u32
+pub fn matrix_numbers(answer: Result<Largest, Refusal>, value: &mut f64, row: &mut usize) -> u32
     ensures { numbers result value.new row.new 0 0 ≡ matrix_numbers answer }
 {
     match answer {
-        MatrixAnswer::Refusal(k, x) => {
-            *value = x;
+        Err(r) => {
+            *value = r.value;
             *row = 0;
-            k
+            r.reason.number()
         }
-        MatrixAnswer::Norm(norm, i) => {
-            *value = norm;
-            *row = i;
+        Ok(largest) => {
+            *value = largest.norm;
+            *row = largest.row;
             0
         }
     }
 }
 
 // The result is 0 or the refusal's number; `value` is 0 or the refusal's double.
-pub fn join_numbers(answer: JoinAnswer, value: &mut f64, entries: &mut usize) -> u32
+pub fn join_numbers(answer: Result<usize, Refusal>, value: &mut f64, entries: &mut usize) -> u32
     ensures { numbers result value.new entries.new 0 0 ≡ join_numbers answer }
 {
     match answer {
-        JoinAnswer::Refusal(k, x) => {
-            *value = x;
+        Err(r) => {
+            *value = r.value;
             *entries = 0;
-            k
+            r.reason.number()
         }
-        JoinAnswer::Joined(count) => {
+        Ok(count) => {
             *value = 0.0;
             *entries = count;
             0
@@ -48,7 +49,7 @@ pub fn join_numbers(answer: JoinAnswer, value: &mut f64, entries: &mut usize) ->
 
 // The result is 0 or the refusal's number; `value` is mu or the refusal's double.
 pub fn taylor_numbers(
-    answer: TaylorAnswer,
+    answer: Result<TaylorReport, Refusal>,
     value: &mut f64,
     s: &mut u32,
     m: &mut u32,
@@ -57,14 +58,14 @@ pub fn taylor_numbers(
     ensures { numbers result value.new s.new m.new applications.new ≡ taylor_numbers answer }
 {
     match answer {
-        TaylorAnswer::Refusal(k, x) => {
-            *value = x;
+        Err(r) => {
+            *value = r.value;
             *s = 0;
             *m = 0;
             *applications = 0;
-            k
+            r.reason.number()
         }
-        TaylorAnswer::Result(report) => {
+        Ok(report) => {
             *value = report.mu;
             *s = report.s;
             *m = report.m;
@@ -76,7 +77,7 @@ pub fn taylor_numbers(
 
 // The result is 0 or the refusal's number; `value` is the estimate or the refusal's double. A refusal has the counts and steps 0.
 pub fn krylov_numbers(
-    answer: KrylovAnswer,
+    answer: Result<KrylovPhiReport, Refusal>,
     value: &mut f64,
     substeps: &mut usize,
     matvecs: &mut usize,
@@ -87,16 +88,16 @@ pub fn krylov_numbers(
     ensures { run_numbers result value.new substeps.new matvecs.new rejected.new shortest.new last.new ≡ krylov_numbers answer }
 {
     match answer {
-        KrylovAnswer::Refusal(k, x) => {
-            *value = x;
+        Err(r) => {
+            *value = r.value;
             *substeps = 0;
             *matvecs = 0;
             *rejected = 0;
             *shortest = 0.0;
             *last = 0.0;
-            k
+            r.reason.number()
         }
-        KrylovAnswer::Result(report) => {
+        Ok(report) => {
             *value = report.est_error;
             *substeps = report.substeps;
             *matvecs = report.matvecs;
@@ -110,7 +111,7 @@ pub fn krylov_numbers(
 
 // The result is 0 or the refusal's number; `value` and the counts are told as of the evaluator used.
 pub fn phi_numbers(
-    answer: PhiAnswer,
+    answer: Result<PhiReport, Refusal>,
     value: &mut f64,
     first: &mut u64,
     second: &mut u64,
@@ -121,33 +122,35 @@ pub fn phi_numbers(
     ensures { run_numbers result value.new first.new second.new third.new shortest.new last.new ≡ phi_numbers answer }
 {
     match answer {
-        PhiAnswer::Refusal(k, x) => {
-            *value = x;
+        Err(r) => {
+            *value = r.value;
             *first = 0;
             *second = 0;
             *third = 0;
             *shortest = 0.0;
             *last = 0.0;
-            k
+            r.reason.number()
         }
-        PhiAnswer::Taylor(report) => {
-            *value = report.mu;
-            *first = report.s as u64;
-            *second = report.m as u64;
-            *third = report.applications;
-            *shortest = 0.0;
-            *last = 0.0;
-            0
-        }
-        PhiAnswer::Krylov(report) => {
-            *value = report.est_error;
-            *first = report.substeps as u64;
-            *second = report.matvecs as u64;
-            *third = report.rejected as u64;
-            *shortest = report.shortest;
-            *last = report.last;
-            0
-        }
+        Ok(report) => match report {
+            PhiReport::Taylor(report) => {
+                *value = report.mu;
+                *first = report.s as u64;
+                *second = report.m as u64;
+                *third = report.applications;
+                *shortest = 0.0;
+                *last = 0.0;
+                0
+            }
+            PhiReport::Krylov(report) => {
+                *value = report.est_error;
+                *first = report.substeps as u64;
+                *second = report.matvecs as u64;
+                *third = report.rejected as u64;
+                *shortest = report.shortest;
+                *last = report.last;
+                0
+            }
+        },
     }
 }
 

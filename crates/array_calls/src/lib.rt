@@ -85,8 +85,8 @@ fn run(
     let answer = solve(
         call, n, starts, cols, vals, with_mass, mass, tau, k, v, out_array, work_array,
     );
-    pack_bytes::pack_doubles(out_array, out);
-    pack_bytes::pack_doubles(work_array, work);
+    pack_bytes::pack(out_array, out);
+    pack_bytes::pack(work_array, work);
     answer
 }
 
@@ -108,13 +108,13 @@ pub fn in_arrays(
     requires { (length starts.now / 4 ≤ 512) × (length cols.now / 4 ≤ 513) × (length vals.now / 8 ≤ 512) × (length mass.now / 8 ≤ 512) × (length v.now / 8 ≤ 512) × (length out.old / 8 ≤ 512) × (length work.old / 8 ≤ 4096) }
     ensures { replies (told call result) out.new work.new ≡ packed (called call (forward (csr n (numbers_of starts.now) (numbers_of cols.now) (doubles_of vals.now)) (given with_mass (doubles_of mass.now))) tau k (doubles_of v.now) (doubles_of out.old) (doubles_of work.old)) out.old work.old }
 {
-    let starts_array = byte_arrays::numbers_in(starts);
-    let cols_array = byte_arrays::numbers_in(cols);
-    let vals_array = byte_arrays::doubles_in(vals);
-    let mass_array = byte_arrays::doubles_in(mass);
-    let v_array = byte_arrays::doubles_in(v);
-    let mut out_array = byte_arrays::doubles_in(out);
-    let mut work_array = byte_arrays::memory_in(work);
+    let starts_array: [u32; 513] = byte_arrays::array(starts);
+    let cols_array: [u32; 513] = byte_arrays::array(cols);
+    let vals_array: [f64; 512] = byte_arrays::array(vals);
+    let mass_array: [f64; 512] = byte_arrays::array(mass);
+    let v_array: [f64; 512] = byte_arrays::array(v);
+    let mut out_array: [f64; 512] = byte_arrays::array(out);
+    let mut work_array: [f64; 4096] = byte_arrays::array(work);
     let starts_count = starts.len() / 4;
     let cols_count = cols.len() / 4;
     let vals_count = vals.len() / 8;

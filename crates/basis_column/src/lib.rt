@@ -7,13 +7,12 @@ ghost use Rattle.doubles.specs.F64.{◌⊘◌, 1f};
 ghost use Rattle.vectors.specs.Vectors.{scale};
 ghost use Rattle.hess_rows.specs.HessProduct.{place};
 ghost use Rattle.general_operator.specs.Csr.{csr};
-ghost use Rattle.phi_action_helpers.specs.Laid.{matrix_at};
 ghost use Rattle.phi_action_helpers.specs.declared.Coupling.{Coupling};
 ghost use Rattle.gram_schmidt.specs.Basis.{norm2, broken, arnoldi_step};
-ghost use Rattle.gram_schmidt.specs.Memory.{setting_at, Room, Spared, column, behind, columns_at, grown_at, Within};
+ghost use Rattle.gram_schmidt.specs.Memory.{setting_at, Spared, column, behind, columns_at, grown_at, Within, setting_in, RoomFor};
 
 use gram_schmidt::{Broken, Krylov};
-use phi_action_helpers::{Coupling, Layout};
+use phi_action_helpers::{AugmentedOperator, Coupling, Layout};
 
 // A column whose norm is at most this part of the matrix's norm is at round-off level.
 const BREAKDOWN: f64 = 1e-12;
@@ -42,29 +41,24 @@ fn push(work: &mut [f64], z_at: usize, h_at: usize, dim: usize, len: usize, j: u
 
 // Turn j: column j + 1, and the products made; or a breakdown.
 pub fn grow(
-    starts: &[u32],
-    cols: &[u32],
-    vals: &[f64],
-    vectors: &[f64],
+    o: AugmentedOperator,
     work: &mut [f64],
-    l: Layout,
-    b: Coupling,
     k: Krylov,
     beta: f64,
     j: usize,
     applied: usize,
 ) -> Result<usize, Broken>
-    requires room { Room l b k (matrix_at l starts.now cols.now vals.now work.old) (length vals.now) (length vectors.now) (length work.old) }
+    requires room { RoomFor o k work.old }
     requires j_lt_m { (j < k.m) × (applied ≤ j) }
-    ensures work_after { grown_at l k (j + 1) result work.new ≡ arnoldi_step (setting_at l b k (matrix_at l starts.now cols.now vals.now work.old) vectors.now) beta j (columns_at l k (j + 1) applied work.old) }
-    ensures within { Within (j + 1) result × Spared l k work.old work.new }
+    ensures work_after { grown_at o.entry.l k (j + 1) result work.new ≡ arnoldi_step (setting_in o.entry k work.old) beta j (columns_at o.entry.l k (j + 1) applied work.old) }
+    ensures within { Within (j + 1) result × Spared o.entry.l k work.old work.new }
 {
-    let z = l.w;
-    let len = l.n + l.d;
+    let z = o.l.w;
+    let len = o.l.n + o.l.d;
     let end = z + len;
-    gram_schmidt::rest_in(starts, cols, vals, vectors, work, l, b, k, j);
+    gram_schmidt::rest_in(o, work, k, j);
     let hn = gram_schmidt::norm2(&work[z..end]);
-    if breaks(l, k, beta, j, hn) {
+    if breaks(o.l, k, beta, j, hn) {
         return Err(Broken {
             applied: applied + 1,
             mb: j + 1,

@@ -2,9 +2,10 @@
 #![tactic(auto)]
 
 ghost use Rattle.std.specs.Prelude.{◌≡◌, false, cond, ◌/◌, ◌≤◌, length, take};
-ghost use Rattle.le_bytes.specs.Bytes.{numbers_of, doubles_of, words_of};
 ghost use Rattle.byte_arrays.specs.Large.{large};
 ghost use Rattle.byte_arrays.specs.Inner.{Cut, long_told, lengths_told};
+
+use le_bytes::LittleEndian;
 
 // By lengths in bytes.
 #[tactic(auto, unfolding(crate::specs::Large::large))]
@@ -50,50 +51,13 @@ pub fn reported(number: u32, value: f64, starts: usize, mass: usize, out: usize,
     long_told(16, v, number, of_output)
 }
 
-// A slice's numbers, at the front of an array.
-pub fn numbers_in(src: &[u8]) -> [u32; 513]
-    requires { length src.now / 4 ≤ 513 }
-    ensures { take (length src.now / 4) result ≡ numbers_of src.now }
+// A slice's elements, at the front of an array.
+pub fn array<T: LittleEndian, const N: usize>(src: &[u8]) -> [T; N]
+    requires { length src.now / T.SIZE ≤ N }
+    ensures { take (length src.now / T.SIZE) result ≡ T.list_of src.now }
 {
-    let mut array = [0u32; 513];
-    let count = src.len() / 4;
-    le_bytes::unpack_numbers(src, &mut array[..count]);
-    array
-}
-
-// The same of doubles, N of them.
-fn double_array<const N: usize>(src: &[u8]) -> [f64; N]
-    requires { length src.now / 8 ≤ N }
-    ensures { take (length src.now / 8) result ≡ doubles_of src.now }
-{
-    let mut array = [0.0f64; N];
-    let count = src.len() / 8;
-    le_bytes::unpack_doubles(src, &mut array[..count]);
-    array
-}
-
-pub fn doubles_in(src: &[u8]) -> [f64; 512]
-    requires { length src.now / 8 ≤ 512 }
-    ensures { take (length src.now / 8) result ≡ doubles_of src.now }
-{
-    double_array(src)
-}
-
-// Of working memory, which has up to 4,096.
-pub fn memory_in(src: &[u8]) -> [f64; 4096]
-    requires { length src.now / 8 ≤ 4096 }
-    ensures { take (length src.now / 8) result ≡ doubles_of src.now }
-{
-    double_array(src)
-}
-
-// Numbers of eight bytes.
-pub fn words_in(src: &[u8]) -> [usize; 512]
-    requires { length src.now / 8 ≤ 512 }
-    ensures { take (length src.now / 8) result ≡ words_of src.now }
-{
-    let mut array = [0usize; 512];
-    let count = src.len() / 8;
-    le_bytes::unpack_words(src, &mut array[..count]);
+    let mut array = [T::default(); N];
+    let count = src.len() / T::SIZE;
+    le_bytes::unpack(src, &mut array[..count]);
     array
 }

@@ -5,8 +5,7 @@ use Prim.Native.Nat.{ℕ, ◌/◌, ◌≤◌, ◌<◌}
 use lib.ListN.{length, get_or, take, drop}
 use lib.Ieee.{Float}
 use Rattle.checks.specs.First.{first}
-use Rattle.checks.specs.declared.Checked.{Checked}
-use Rattle.checks.specs.declared.Checked.TheVariants.{Sound, Refused}
+use Rattle.checks.specs.First.{Checked}
 use Rattle.generator_action.specs.Generator.{Generator}
 use Rattle.combination.specs.Call.{Call, ends}
 use Rattle.answers.specs.Told.{Numbers, numbers, run_numbers}
@@ -20,6 +19,7 @@ use Rattle.byte_calls.specs.declared.Told.{Told}
 use Rattle.byte_calls.specs.declared.PhiCall.{PhiCall}
 use Rattle.byte_calls.specs.declared.PhiCall.TheVariants.{Combination, Action, Batch, Krylov}
 use Rattle.byte_calls.proofs.Jobs.{checks, refused}
+use Rattle.std.specs.Prelude.{Ok, Err}
 
 -- ---- the double that is told
 abbrev pub retell : ℕ → ℕ → ℕ → ℕ → Numbers → Numbers
@@ -68,10 +68,10 @@ module _ (call : PhiCall) (tau : Float) (k : ℕ) (memory : List Float) (g g₁ 
   call_cut byte cut same ρ = go (first (checks call g₁ tau k v₁ (length (doubles_of (take r out))) (length memory))) refl
     where
       go : (c : Checked) → first (checks call g₁ tau k v₁ (length (doubles_of (take r out))) (length memory)) ≡ c → CallCut q q₁ cs cm (length out / 8) cv out r
-      go Sound e =
+      go (Ok _) e =
           let z = ρ.same e in
           let s = same z.0 in
           uncut s.0 s.1 (not_cut cut z.1) s.2 s.3 z.1 z.2
-      go (Refused j x) e =
+      go (Err refusal) e =
           by_refusal byte (refused call g₁ tau k v₁ (doubles_of (take r out)) memory e)
-          (refused call g tau k v (doubles_of out) memory (ρ.told ∙ ap (retold cs cm (length out / 8) cv) e ∙ retold_refused cs cm (length out / 8) cv j x))
+          (refused call g tau k v (doubles_of out) memory (ρ.told ∙ ap (retold cs cm (length out / 8) cv) e ∙ retold_refused cs cm (length out / 8) cv refusal.reason refusal.value))

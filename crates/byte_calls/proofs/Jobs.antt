@@ -11,8 +11,7 @@ use lib.Ieee.{Float}
 use borrow.Author.Tests.{ltb-false}
 use Rattle.doubles.specs.F64.{nat}
 use Rattle.checks.specs.First.{Check, refuse, first, before}
-use Rattle.checks.specs.declared.Checked.{Checked}
-use Rattle.checks.specs.declared.Checked.TheVariants.{Refused}
+use Rattle.checks.specs.First.{Checked}
 use Rattle.general_operator.specs.Csr.{row_sum_norm}
 use Rattle.general_operator.proofs.Sound.{or_false}
 use Rattle.generator_action.specs.Mass.{Mass, given}
@@ -21,9 +20,7 @@ use Rattle.combination.specs.Call.{Call, ends, unless_refused}
 use Rattle.combination.specs.Combination.{further, eta_of}
 use Rattle.combination.specs.Checks.{count_checks, index_checks, time_checks, degree_checks, plan_checks, length_checks, finite_checks, schedule_checks, memory_checks, taylor_need, vector_checks_by, vector_checks, sweep_checks, job_checks}
 use Rattle.taylor_job.specs.Calls.{combination_checks, action_checks, phi_combination, phi_action, phi_action_batched}
-use Rattle.taylor_job.specs.declared.TaylorAnswer.TheVariants as taylor
 use Rattle.krylov_job.specs.KrylovCall.{bound, dimension, option_checks, run_checks, krylov_need, krylov_checks_by, krylov_checks, phi_combination_krylov}
-use Rattle.krylov_job.specs.declared.KrylovAnswer.TheVariants as krylov
 use Rattle.phi_solver.specs.Combine.{answering}
 use Rattle.answers.specs.Told.{Numbers, numbers, taylor_numbers, krylov_numbers, options}
 use Rattle.byte_arrays.proofs.Parts.{Part, Columns}
@@ -31,12 +28,15 @@ use Rattle.byte_arrays.proofs.Cuts.{Refuses, Recut, Uncut, job_cut}
 use Rattle.byte_calls.specs.Inner.{called}
 use Rattle.byte_calls.specs.declared.PhiCall.{PhiCall}
 use Rattle.byte_calls.specs.declared.PhiCall.TheVariants.{Combination, Action, Batch, Krylov}
+use Rattle.checks.specs.Reasons.{Refused, number}
+use Rattle.checks.specs.declared.Reason.TheVariants.{VectorCount, IndexRange, OutputLength, VectorLength}
+use Rattle.checks.specs.declared.Reason.{Reason}
 
 limit : PhiCall → ℕ → Check
-limit (Combination degree) k = refuse 12 (eqb k 0 || ltb 4 k) (nat k)
-limit (Action degree) k = refuse 13 (ltb 3 k) (nat k)
-limit (Batch degree) k = refuse 13 (ltb 3 k) (nat k)
-limit (Krylov tol m most) k = refuse 12 (eqb k 0 || ltb 4 k) (nat k)
+limit (Combination degree) k = refuse VectorCount (eqb k 0 || ltb 4 k) (nat k)
+limit (Action degree) k = refuse IndexRange (ltb 3 k) (nat k)
+limit (Batch degree) k = refuse IndexRange (ltb 3 k) (nat k)
+limit (Krylov tol m most) k = refuse VectorCount (eqb k 0 || ltb 4 k) (nat k)
 
 wanted : PhiCall → ℕ → ℕ → ℕ
 wanted (Combination degree) n k = n
@@ -75,46 +75,46 @@ checks call g tau k v output memory =
     g.checks
     ++ (limit call k
     ∷ (times call tau
-    ++ (refuse 15 (not (eqb output (wanted call g.matrix.n k))) (nat output)
-    ∷ refuse 16 (not (eqb (length v) (expected call g.matrix.n k))) (nat (length v))
+    ++ (refuse OutputLength (not (eqb output (wanted call g.matrix.n k))) (nat output)
+    ∷ refuse VectorLength (not (eqb (length v) (expected call g.matrix.n k))) (nat (length v))
     ∷ others call g tau k v memory)))
 
 -- ---- a refused call changes nothing
-refused_by : {A : Type 0} (tell : A → Numbers) (refusal : ℕ → Float → A) {c : Checked} {j : ℕ} {x : Float} (output memory : List Float) (run : Call A) → tell (refusal j x) ≡ numbers j x 0 0 0 → c ≡ Refused j x → answering tell (unless_refused refusal c output memory run) ≡ ends (numbers j x 0 0 0) output memory
+refused_by : {A : Type 0} (tell : A → Numbers) (refusal : Reason → Float → A) {c : Checked} {j : Reason} {x : Float} (output memory : List Float) (run : Call A) → tell (refusal j x) ≡ numbers (number j) x 0 0 0 → c ≡ Refused j x → answering tell (unless_refused refusal c output memory run) ≡ ends (numbers (number j) x 0 0 0) output memory
 unfolding answering unless_refused
 refused_by tell refusal {c} output memory run t e = rw e (ap (λ (r : Numbers). ends r output memory) t)
 
-taylor_refusal : (j : ℕ) (x : Float) → taylor_numbers (taylor.Refusal j x) ≡ numbers j x 0 0 0
+taylor_refusal : (j : Reason) (x : Float) → taylor_numbers (Refused j x) ≡ numbers (number j) x 0 0 0
 unfolding taylor_numbers
 taylor_refusal j x = refl
 
-krylov_refusal : (j : ℕ) (x : Float) → krylov_numbers (krylov.Refusal j x) ≡ numbers j x 0 0 0
+krylov_refusal : (j : Reason) (x : Float) → krylov_numbers (Refused j x) ≡ numbers (number j) x 0 0 0
 unfolding krylov_numbers
 krylov_refusal j x = refl
 
-pub refused : (call : PhiCall) (g : Generator) (tau : Float) (k : ℕ) (v output memory : List Float) {j : ℕ} {x : Float} → first (checks call g tau k v (length output) (length memory)) ≡ Refused j x → called call g tau k v output memory ≡ ends (numbers j x 0 0 0) output memory
+pub refused : (call : PhiCall) (g : Generator) (tau : Float) (k : ℕ) (v output memory : List Float) {j : Reason} {x : Float} → first (checks call g tau k v (length output) (length memory)) ≡ Refused j x → called call g tau k v output memory ≡ ends (numbers (number j) x 0 0 0) output memory
 unfolding checks times limit wanted expected others called combination_checks action_checks krylov_checks krylov_checks_by vector_checks vector_checks_by job_checks count_checks index_checks plan_checks time_checks degree_checks length_checks finite_checks phi_combination phi_action phi_action_batched phi_combination_krylov
-refused (Combination degree) g tau k v output memory e = refused_by taylor_numbers taylor.Refusal output memory _ (taylor_refusal _ _) e
-refused (Action degree) g tau k v output memory e = refused_by taylor_numbers taylor.Refusal output memory _ (taylor_refusal _ _) e
-refused (Batch degree) g tau k v output memory e = refused_by taylor_numbers taylor.Refusal output memory _ (taylor_refusal _ _) e
-refused (Krylov tol m most) g tau k v output memory e = refused_by krylov_numbers krylov.Refusal output memory _ (krylov_refusal _ _) e
+refused (Combination degree) g tau k v output memory e = refused_by taylor_numbers Refused output memory _ (taylor_refusal _ _) e
+refused (Action degree) g tau k v output memory e = refused_by taylor_numbers Refused output memory _ (taylor_refusal _ _) e
+refused (Batch degree) g tau k v output memory e = refused_by taylor_numbers Refused output memory _ (taylor_refusal _ _) e
+refused (Krylov tol m most) g tau k v output memory e = refused_by krylov_numbers Refused output memory _ (krylov_refusal _ _) e
 
 -- ---- lists that are too long
-low_limit : (call : PhiCall) (k : ℕ) → (limit call k).number ≤ 13
+low_limit : (call : PhiCall) (k : ℕ) → number (limit call k).reason ≤ 13
 unfolding limit
 low_limit (Combination degree) k = omega arith
 low_limit (Action degree) k = omega arith
 low_limit (Batch degree) k = omega arith
 low_limit (Krylov tol m most) k = omega arith
 
-time_not_15 : (call : PhiCall) (tau : Float) → before 15 (times call tau) ≡ times call tau
+time_not_15 : (call : PhiCall) (tau : Float) → before OutputLength (times call tau) ≡ times call tau
 unfolding before times plan_checks time_checks degree_checks
 time_not_15 (Combination degree) tau = refl
 time_not_15 (Action degree) tau = refl
 time_not_15 (Batch degree) tau = refl
 time_not_15 (Krylov tol m most) tau = refl
 
-output_not_16 : (call : PhiCall) (tau : Float) (c : Check) → before 16 (times call tau ++ (refuse 15 c.holds c.reported ∷ [])) ≡ times call tau ++ (refuse 15 c.holds c.reported ∷ [])
+output_not_16 : (call : PhiCall) (tau : Float) (c : Check) → before VectorLength (times call tau ++ (refuse OutputLength c.holds c.reported ∷ [])) ≡ times call tau ++ (refuse OutputLength c.holds c.reported ∷ [])
 unfolding before times plan_checks time_checks degree_checks
 output_not_16 (Combination degree) tau c = refl
 output_not_16 (Action degree) tau c = refl

@@ -6,8 +6,9 @@ ghost use Rattle.answers.specs.Told.{numbers, run_numbers, taylor_numbers, krylo
 ghost use Rattle.byte_arrays.specs.Inner.{lengths_told};
 ghost use Rattle.byte_calls.specs.Inner.{taylor_told, krylov_told, revalued};
 
-use krylov_job::KrylovAnswer;
-use taylor_job::TaylorAnswer;
+use checks::Refusal;
+use krylov_advance::KrylovPhiReport;
+use taylor_job::TaylorReport;
 
 // Which call; of Taylor with the highest degree, of Krylov with tol, m and max_substeps.
 #[derive(Clone, Copy)]
@@ -33,16 +34,16 @@ pub struct Told {
     pub last: f64,
 }
 
-pub fn of_taylor(answer: TaylorAnswer) -> Told
+pub fn of_taylor(answer: Result<TaylorReport, Refusal>) -> Told
     ensures { taylor_told result ≡ taylor_numbers answer }
 {
     match answer {
-        TaylorAnswer::Refusal(number, value) => Told {
-            number,
-            value,
+        Err(r) => Told {
+            number: r.reason.number(),
+            value: r.value,
             ..Told::default()
         },
-        TaylorAnswer::Result(r) => Told {
+        Ok(r) => Told {
             value: r.mu,
             s: r.s,
             m: r.m,
@@ -52,16 +53,16 @@ pub fn of_taylor(answer: TaylorAnswer) -> Told
     }
 }
 
-pub fn of_krylov(answer: KrylovAnswer) -> Told
+pub fn of_krylov(answer: Result<KrylovPhiReport, Refusal>) -> Told
     ensures { krylov_told result ≡ krylov_numbers answer }
 {
     match answer {
-        KrylovAnswer::Refusal(number, value) => Told {
-            number,
-            value,
+        Err(r) => Told {
+            number: r.reason.number(),
+            value: r.value,
             ..Told::default()
         },
-        KrylovAnswer::Result(r) => Told {
+        Ok(r) => Told {
             value: r.est_error,
             substeps: r.substeps,
             matvecs: r.matvecs,

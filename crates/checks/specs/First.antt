@@ -1,37 +1,45 @@
 -- Refusals as a list in the order in which they are met: the answer is the first whose condition holds (document 01, 'Refusals'). Definitions only.
-use Rattle.std.specs.Prelude.{Bool, true, false, List, [], ◌∷◌, ℕ, eqb, Float}
-use Rattle.doubles.specs.F64.{+0}
-use Rattle.checks.specs.declared.Checked.{Checked}
-use Rattle.checks.specs.declared.Checked.TheVariants.{Sound, Refused}
+use Rattle.std.specs.Prelude.{Bool, true, false, List, [], ◌∷◌, eqb, Result, Ok, Err, Float}
+use Rattle.checks.specs.Reasons.{number, Sound, Refused}
+use Rattle.checks.specs.declared.Reason.{Reason}
+use Rattle.checks.specs.declared.Refusal.{Refusal}
 
--- a refusal's number, whether its condition holds, and the double that is reported with it
+-- why it refuses, whether its condition holds, and the double that is reported with it
 pub record Check : Type 0 where
-  pub number : ℕ
+  pub reason : Reason
   pub holds : Bool
   pub reported : Float
 
-abbrev pub refuse : ℕ → Bool → Float → Check
-refuse k b x = record { number = k; holds = b; reported = x }
+abbrev pub refuse : Reason → Bool → Float → Check
+refuse k b x = record { reason = k; holds = b; reported = x }
+
+-- no check holds, or the first that does
+abbrev pub Checked : Type 0
+Checked = Result Unit Refusal
 
 -- the first whose condition holds
 unfoldable pub first : List Check → Checked
 first [] = Sound
-first (c ∷ cs) = elim c.holds [ true ↦ Refused c.number c.reported | false ↦ first cs ]
+first (c ∷ cs) = elim c.holds [ true ↦ Refused c.reason c.reported | false ↦ first cs ]
 
--- what is passed up of an answer: its number, 0 where no check holds, and its double
-unfoldable pub number : Checked → ℕ
-number Sound = 0
-number (Refused k x) = k
+-- what is answered of a value that checks guard: it, or the refusal
+abbrev pub passing : {A : Type 0} → Checked → A → Result A Refusal
+passing (Ok _) x = Ok x
+passing (Err r) x = Err r
 
-unfoldable pub reported : Checked → Float
-reported Sound = +0
-reported (Refused k x) = x
+-- x where no check holds, else the first that does
+unfoldable pub or_first : {A : Type 0} → List Check → A → Result A Refusal
+or_first cs x = passing (first cs) x
 
 abbrev pub unless_named : Bool → Check → List Check → List Check
 unless_named true c cs = []
 unless_named false c cs = c ∷ cs
 
--- those in front of the first numbered k
-unfoldable pub before : ℕ → List Check → List Check
+-- two reasons are one where their numbers are
+abbrev pub same : Reason → Reason → Bool
+same j k = eqb (number j) (number k)
+
+-- those in front of the first that refuses for the reason k
+unfoldable pub before : Reason → List Check → List Check
 before k [] = []
-before k (c ∷ cs) = unless_named (eqb c.number k) c (before k cs)
+before k (c ∷ cs) = unless_named (same c.reason k) c (before k cs)

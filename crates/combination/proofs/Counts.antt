@@ -5,11 +5,11 @@ use lib.Dec.{eqb, ltb}
 use borrow.Author.Tests.{ltb-false}
 use Rattle.lists.proofs.Bounds.{product_within}
 use Rattle.checks.specs.First.{first}
-use Rattle.checks.specs.declared.Checked.{Checked}
-use Rattle.checks.specs.declared.Checked.TheVariants.{Sound}
+use Rattle.checks.specs.First.{Checked}
 use Rattle.checks.proofs.First.{sound_cons}
 use Rattle.general_operator.proofs.Sound.{or_false}
 use Rattle.combination.specs.Checks.{count_checks}
+use Rattle.checks.specs.Reasons.{Sound}
 
 pub few_vectors : (count : ℕ) {r : Checked} → r ≡ Sound → r ≡ first (count_checks count) → count ≤ 4
 unfolding count_checks

@@ -7,6 +7,8 @@ use Prim.Native.Nat.{ℕ, zero, suc, ◌+◌, ◌-◌, ◌*◌, ◌≤◌, ◌<�
 use native.Mathlib.Omega.{arith}
 use native.Mathlib.Numerals.{add-one}
 use native.Mathlib.Nat.{suc-mul, zero-mul}
+use lib.Dec.{eqb}
+use borrow.Author.Tests.{ne_eqb}
 use lib.ListN.{length, take, drop, replicate, length-append, length-drop, get_or-append}
 use lib.Seq.{take_all, take-append-le, drop_at, drop-drop, get_or-append-add}
 use lib.Ieee.{Float, nan}
@@ -16,10 +18,11 @@ use Rattle.lists.proofs.Bounds.{lt_or_le}
 use Rattle.lists.proofs.Find.{find_ext, find_front, find_behind}
 use Rattle.doubles.specs.F64.{+0, is_finite}
 use Rattle.checks.specs.First.{Check, first}
-use Rattle.checks.specs.declared.Checked.TheVariants.{Refused}
 use Rattle.checks.proofs.First.{passes_find, stops_find}
-use Rattle.combination.specs.Combination.{further, vector, combination_start}
+use Rattle.combination.specs.Combination.{further, vector, combination_start, field_of}
 use Rattle.combination.specs.Checks.{not_finite_at, finite_checks}
+use Rattle.checks.specs.Reasons.{Refused}
+use Rattle.checks.specs.declared.Reason.TheVariants.{VectorNotFinite}
 
 -- ---- the vectors behind w_0
 -- as they are lent, a part from n to the end
@@ -68,9 +71,9 @@ module _ (xs ys : List Float) (cs : List Check) where
   in_front l =
       let e = find_ext (not_finite_at (xs ++ ys)) (not_finite_at xs) (length xs) within in
       let found = sym e ∙ find_front (not_finite_at (xs ++ ys)) (length xs) (length ys) (omega (arith, e)) ∙ ap (find (not_finite_at (xs ++ ys))) (sym (length-append xs ys)) in
-      sym (stops_find 17 (xs ++ ys) cs (not_finite_at (xs ++ ys)) (length (xs ++ ys)) found (omega (arith, length-append xs ys)))
-      ∙ ap (Refused 17) (get_or-append xs ys nan _ l)
-      ∙ stops_find 17 xs (finite_checks ys ++ cs) (not_finite_at xs) (length xs) refl l
+      sym (stops_find VectorNotFinite (xs ++ ys) cs (not_finite_at (xs ++ ys)) (length (xs ++ ys)) found (omega (arith, length-append xs ys)))
+      ∙ ap (Refused VectorNotFinite) (get_or-append xs ys nan _ l)
+      ∙ stops_find VectorNotFinite xs (finite_checks ys ++ cs) (not_finite_at xs) (length xs) refl l
 
   found_behind : length xs ≤ find (not_finite_at xs) (length xs) → length xs + find (not_finite_at ys) (length ys) ≡ find (not_finite_at (xs ++ ys)) (length (xs ++ ys))
   found_behind l =
@@ -82,16 +85,20 @@ module _ (xs ys : List Float) (cs : List Check) where
   then_behind : length xs ≤ find (not_finite_at xs) (length xs) → first (finite_checks (xs ++ ys) ++ cs) ≡ first (finite_checks ys ++ cs)
   unfolding finite_checks
   then_behind l = elim (lt_or_le (find (not_finite_at ys) (length ys)) (length ys)) [
-    | inl h ↦ sym (stops_find 17 (xs ++ ys) cs (not_finite_at (xs ++ ys)) (length (xs ++ ys)) (found_behind l) (omega (arith, length-append xs ys)))
-        ∙ ap (Refused 17) (get_or-append-add xs ys _ nan)
-        ∙ stops_find 17 ys cs (not_finite_at ys) (length ys) refl h
-    | inr h ↦ sym (passes_find 17 _ cs (not_finite_at (xs ++ ys)) (length (xs ++ ys)) (found_behind l) (omega (arith, length-append xs ys)) refl)
-        ∙ passes_find 17 _ cs (not_finite_at ys) (length ys) refl h refl
+    | inl h ↦ sym (stops_find VectorNotFinite (xs ++ ys) cs (not_finite_at (xs ++ ys)) (length (xs ++ ys)) (found_behind l) (omega (arith, length-append xs ys)))
+        ∙ ap (Refused VectorNotFinite) (get_or-append-add xs ys _ nan)
+        ∙ stops_find VectorNotFinite ys cs (not_finite_at ys) (length ys) refl h
+    | inr h ↦ sym (passes_find VectorNotFinite _ cs (not_finite_at (xs ++ ys)) (length (xs ++ ys)) (found_behind l) (omega (arith, length-append xs ys)) refl)
+        ∙ passes_find VectorNotFinite _ cs (not_finite_at ys) (length ys) refl h refl
   ]
 
   pub finite_behind : first (finite_checks (xs ++ ys) ++ cs) ≡ first (finite_checks xs ++ (finite_checks ys ++ cs))
   unfolding finite_checks
   finite_behind = elim (lt_or_le (find (not_finite_at xs) (length xs)) (length xs)) [
     | inl l ↦ in_front l
-    | inr l ↦ then_behind l ∙ passes_find 17 _ (finite_checks ys ++ cs) (not_finite_at xs) (length xs) refl l refl
+    | inr l ↦ then_behind l ∙ passes_find VectorNotFinite _ (finite_checks ys ++ cs) (not_finite_at xs) (length xs) refl l refl
   ]
+
+-- ---- w_0 of a later job
+pub later_field : (i : ℕ) (field output : List Float) → 1 ≤ i → field_of (eqb i 0) field output ≡ output
+later_field i field output l = rw (ne_eqb i 0 (λ e. absurd (omega (arith, l, e)))) refl

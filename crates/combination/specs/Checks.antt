@@ -9,14 +9,15 @@ use Rattle.expmv.specs.Select.{select_s_m, M_MAX}
 use Rattle.expmv.specs.declared.Row.{Row}
 use Rattle.phi_shift.specs.Plan.{argument, open_plan}
 use Rattle.combination.specs.Combination.{magnitude, gain, eta_of, open_combination}
+use Rattle.checks.specs.declared.Reason.TheVariants.{VectorCount, IndexRange, TauRange, OutputLength, VectorLength, VectorNotFinite, MagnitudeNotFinite, GainNotFinite, ArgumentNotFinite, NoAdmissibleRow, WorkLength, DegreeRange}
 
 -- vectors not 1 to 4
 unfoldable pub count_checks : ℕ → List Check
-count_checks count = refuse 12 (eqb count 0 || ltb 4 count) (nat count) ∷ []
+count_checks count = refuse VectorCount (eqb count 0 || ltb 4 count) (nat count) ∷ []
 
 -- k or p above 3
 unfoldable pub index_checks : ℕ → List Check
-index_checks k = refuse 13 (ltb 3 k) (nat k) ∷ []
+index_checks k = refuse IndexRange (ltb 3 k) (nat k) ∷ []
 
 -- negative or not finite (`phi_schedule`, of tau; of the norm it was 23, which never occurs: N14)
 unfoldable pub out_of_range : Float → Bool
@@ -24,22 +25,22 @@ out_of_range x = not (is_finite x) || x ⋖ +0
 
 -- tau negative or not finite
 unfoldable pub time_checks : Float → List Check
-time_checks tau = refuse 14 (out_of_range tau) tau ∷ []
+time_checks tau = refuse TauRange (out_of_range tau) tau ∷ []
 
 -- the highest degree of a plan not 1 to 30 (document 02, N7)
 unfoldable pub degree_checks : ℕ → List Check
-degree_checks cap = refuse 33 (eqb cap 0 || ltb M_MAX cap) nan ∷ []
+degree_checks cap = refuse DegreeRange (eqb cap 0 || ltb M_MAX cap) nan ∷ []
 
 -- the output's and the vectors' lengths: what is handed in, and what is wanted
 unfoldable pub length_checks : ℕ → ℕ → ℕ → ℕ → List Check
 length_checks output wanted vectors expected =
-    refuse 15 (not (eqb output wanted)) (nat output) ∷ refuse 16 (not (eqb vectors expected)) (nat vectors) ∷ []
+    refuse OutputLength (not (eqb output wanted)) (nat output) ∷ refuse VectorLength (not (eqb vectors expected)) (nat vectors) ∷ []
 
 unfoldable pub not_finite_at : List Float → ℕ → Bool
 not_finite_at w i = not (is_finite (at w i))
 
 unfoldable pub finite_checks : List Float → List Check
-finite_checks w = refuse 17 (exists (not_finite_at w) (length w)) (at w (find (not_finite_at w) (length w))) ∷ []
+finite_checks w = refuse VectorNotFinite (exists (not_finite_at w) (length w)) (at w (find (not_finite_at w) (length w))) ∷ []
 
 -- of the further vectors f: tau ^ (j + 1) * eta of w_(j+1)
 unfoldable pub bad_gain : ℕ → List Float → Float → Float → ℕ → Bool
@@ -48,7 +49,7 @@ bad_gain n f tau eta j = not (is_finite (gain n f tau j ⊗ eta))
 -- eta is the job's own, or what a run began with
 unfoldable pub magnitude_checks : ℕ → List Float → Float → ℕ → Float → List Check
 magnitude_checks n f tau d eta =
-    refuse 21 (not (is_finite (magnitude n f tau d))) (magnitude n f tau d) ∷ refuse 22 (exists (bad_gain n f tau eta) d) nan ∷ []
+    refuse MagnitudeNotFinite (not (is_finite (magnitude n f tau d))) (magnitude n f tau d) ∷ refuse GainNotFinite (exists (bad_gain n f tau eta) d) nan ∷ []
 
 abbrev pub no_row : Option Row → Bool
 no_row None = true
@@ -57,13 +58,13 @@ no_row (Some r) = false
 -- the argument not finite, no admissible row up to the degree m_max. (23, the norm negative or not finite, never occurs, and its number is not used again: document 02, N14.)
 unfoldable pub schedule_checks : ℕ → Float → Float → List Check
 schedule_checks m_max norm tau =
-    refuse 24 (not (is_finite (argument tau norm))) (argument tau norm)
-    ∷ refuse 25 (no_row (select_s_m m_max (argument tau norm))) (argument tau norm)
+    refuse ArgumentNotFinite (not (is_finite (argument tau norm))) (argument tau norm)
+    ∷ refuse NoAdmissibleRow (no_row (select_s_m m_max (argument tau norm))) (argument tau norm)
     ∷ []
 
 -- the working memory is shorter than what is needed
 unfoldable pub memory_checks : ℕ → ℕ → List Check
-memory_checks memory need = refuse 26 (ltb memory need) nan ∷ []
+memory_checks memory need = refuse WorkLength (ltb memory need) nan ∷ []
 
 -- what a Taylor job needs: 3 n + 2 d, and what its generator stores
 unfoldable pub taylor_need : ℕ → ℕ → ℕ → ℕ

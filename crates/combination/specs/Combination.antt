@@ -1,6 +1,6 @@
 -- What a combination and an action are made of: weights, scaling, start (phi_action.rs, `weighted_columns`, `eta_scaled_columns`,
 -- `init_aug_vector`). Definitions only.
-use Rattle.std.specs.Prelude.{List, [], ◌∷◌, ◌++◌, ℕ, zero, suc, ◌+◌, ◌-◌, ◌*◌, ltb, drop, replicate, set, Float, if◌then◌else◌}
+use Rattle.std.specs.Prelude.{Bool, true, false, List, [], ◌∷◌, ◌++◌, ℕ, zero, suc, ◌+◌, ◌-◌, ◌*◌, ltb, drop, replicate, set, Float, if◌then◌else◌}
 use Rattle.std.specs.Float.Ieee.{eq}
 use Rattle.lists.specs.Loop.{iter, tabulate}
 use Rattle.lists.specs.Window.{window}
@@ -49,6 +49,11 @@ combination_operator q f tau d eta = augmented q d f (column_places q.n d) (scal
 unfoldable pub combination_start : ℕ → List Float → ℕ → Float → List Float
 combination_start n w zero inv = vector n w 0
 combination_start n w (suc d) inv = vector n w 0 ++ (replicate d +0 ++ (inv ∷ []))
+
+-- w_0 of one of several jobs in a row: of the first the field handed in, of a later one what the one before left in the output
+abbrev pub field_of : Bool → List Float → List Float → List Float
+field_of true field output = field
+field_of false field output = output
 
 -- an action has one column, v, and a chain of three
 unfoldable pub action_operator : Csr → List Float → Float → Augmented

@@ -6,15 +6,12 @@ ghost use Rattle.checks.specs.First.{Check, first};
 ghost use Rattle.expmv.specs.Select.{M_MAX};
 ghost use Rattle.combination.specs.Checks.{count_checks, index_checks, out_of_range, time_checks, degree_checks, plan_checks, memory_checks};
 
-use checks::Checked;
+use checks::{Checked, Reason, Refusal};
 
 fn wrong_count(count: usize) -> bool
     ensures { result ≡ (eqb count 0 || ltb 4 count) }
 {
-    if count == 0 {
-        return true;
-    }
-    count > 4
+    count == 0 || count > 4
 }
 
 // 12.
@@ -22,9 +19,12 @@ pub fn check_count(count: usize) -> Checked
     ensures { result ≡ first (count_checks count) }
 {
     if wrong_count(count) {
-        return Checked::Refused(12, float::count(count));
+        return Err(Refusal {
+            reason: Reason::VectorCount,
+            value: float::count(count),
+        });
     }
-    Checked::Sound
+    Ok(())
 }
 
 // 13.
@@ -32,9 +32,12 @@ pub fn check_index(k: usize) -> Checked
     ensures { result ≡ first (index_checks k) }
 {
     if k > 3 {
-        return Checked::Refused(13, float::count(k));
+        return Err(Refusal {
+            reason: Reason::IndexRange,
+            value: float::count(k),
+        });
     }
-    Checked::Sound
+    Ok(())
 }
 
 fn out_of_range(x: f64) -> bool
@@ -51,18 +54,18 @@ pub fn check_time(tau: f64) -> Checked
     ensures { result ≡ first (time_checks tau) }
 {
     if out_of_range(tau) {
-        return Checked::Refused(14, tau);
+        return Err(Refusal {
+            reason: Reason::TauRange,
+            value: tau,
+        });
     }
-    Checked::Sound
+    Ok(())
 }
 
 fn wrong_degree(cap: u32) -> bool
     ensures { result ≡ (eqb cap 0 || ltb M_MAX cap) }
 {
-    if cap == 0 {
-        return true;
-    }
-    cap > expmv::M_MAX
+    cap == 0 || cap > expmv::M_MAX
 }
 
 // 33.
@@ -70,18 +73,20 @@ fn check_degree(cap: u32) -> Checked
     ensures { result ≡ first (degree_checks cap) }
 {
     if wrong_degree(cap) {
-        return Checked::Refused(33, float::not_a_number());
+        return Err(Refusal {
+            reason: Reason::DegreeRange,
+            value: float::not_a_number(),
+        });
     }
-    Checked::Sound
+    Ok(())
 }
 
 // 14 and 33 of a Taylor job.
 pub fn check_plan(tau: f64, cap: u32) -> Checked
     ensures { result ≡ first (plan_checks tau cap) }
 {
-    let time = check_time(tau);
-    let degree = check_degree(cap);
-    and_then(time, degree)
+    check_time(tau)?;
+    check_degree(cap)
 }
 
 // 26.
@@ -89,17 +94,18 @@ pub fn check_memory(memory: usize, need: usize) -> Checked
     ensures { result ≡ first (memory_checks memory need) }
 {
     if memory < need {
-        return Checked::Refused(26, float::not_a_number());
+        return Err(Refusal {
+            reason: Reason::WorkLength,
+            value: float::not_a_number(),
+        });
     }
-    Checked::Sound
+    Ok(())
 }
 
 // The first of two answers in a row that refuses.
 pub fn and_then(a: Checked, b: Checked) -> Checked
     ensures { (xs ys : List Check) → a ≡ first xs → b ≡ first ys → result ≡ first (xs ++ ys) }
 {
-    let Checked::Sound = a else {
-        return a;
-    };
+    a?;
     b
 }

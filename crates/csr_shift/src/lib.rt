@@ -3,8 +3,11 @@
 
 ghost use Rattle.std.specs.Prelude.{◌≡◌, ◌<◌};
 ghost use Rattle.lists.specs.Find.{exists};
-ghost use Rattle.general_operator.specs.Csr.{csr, Valid};
+ghost use Rattle.general_operator.specs.Csr.{Valid};
+ghost use Rattle.general_operator.specs.Matrix.{matrix};
 ghost use Rattle.csr_shift.specs.Shift.{csr_row, generator_row, bad_row, midpoint, shifted_norm, worth, negated_csr_shift};
+
+use general_operator::CsrMatrix;
 
 // The diagonal of a row, and the sum of its other entries' sizes.
 #[derive(Clone, Copy)]
@@ -21,16 +24,16 @@ pub struct Shifted {
 }
 
 // Row i of Q. Entries that share the diagonal's place are summed.
-fn csr_row(n: usize, starts: &[u32], cols: &[u32], vals: &[f64], i: usize) -> Row
-    requires valid { Valid (csr n starts.now cols.now vals.now) }
-    requires i_lt_n { i < n }
-    ensures { result ≡ csr_row (csr n starts.now cols.now vals.now) i }
+fn csr_row(q: CsrMatrix, i: usize) -> Row
+    requires valid { Valid (matrix q) }
+    requires i_lt_n { i < q.n }
+    ensures { result ≡ csr_row (matrix q.entry) i }
 {
-    let from = starts[i] as usize;
-    let to = starts[i + 1] as usize;
+    let from = q.starts[i] as usize;
+    let to = q.starts[i + 1] as usize;
     let mut diagonal = 0.0;
     let mut rest = 0.0;
-    for (c, v) in cols[from..to].iter().zip(&vals[from..to]) {
+    for (c, v) in q.cols[from..to].iter().zip(&q.vals[from..to]) {
         if *c as usize == i {
             diagonal += *v;
         } else {
@@ -41,45 +44,45 @@ fn csr_row(n: usize, starts: &[u32], cols: &[u32], vals: &[f64], i: usize) -> Ro
 }
 
 // Row i of G = -Q.
-fn generator_row(n: usize, starts: &[u32], cols: &[u32], vals: &[f64], i: usize) -> Row
-    requires valid { Valid (csr n starts.now cols.now vals.now) }
-    requires i_lt_n { i < n }
-    ensures { result ≡ generator_row (csr n starts.now cols.now vals.now) i }
+fn generator_row(q: CsrMatrix, i: usize) -> Row
+    requires valid { Valid (matrix q) }
+    requires i_lt_n { i < q.n }
+    ensures { result ≡ generator_row (matrix q.entry) i }
 {
-    let row = csr_row(n, starts, cols, vals, i);
+    let row = csr_row(q, i);
     Row {
         diagonal: -row.diagonal,
         ..row
     }
 }
 
-fn is_bad_row(n: usize, starts: &[u32], cols: &[u32], vals: &[f64], i: usize) -> bool
-    requires valid { Valid (csr n starts.now cols.now vals.now) }
-    requires i_lt_n { i < n }
-    ensures { result ≡ bad_row (generator_row (csr n starts.now cols.now vals.now)) i }
+fn is_bad_row(q: CsrMatrix, i: usize) -> bool
+    requires valid { Valid (matrix q) }
+    requires i_lt_n { i < q.n }
+    ensures { result ≡ bad_row (generator_row (matrix q.entry)) i }
 {
-    let g = generator_row(n, starts, cols, vals, i);
+    let g = generator_row(q, i);
     g.diagonal.is_nan() || g.rest.is_nan()
 }
 
 // Whether a row has a NaN.
-fn has_bad_row(n: usize, starts: &[u32], cols: &[u32], vals: &[f64]) -> bool
-    requires { Valid (csr n starts.now cols.now vals.now) }
-    ensures { result ≡ exists (bad_row (generator_row (csr n starts.now cols.now vals.now))) n }
+fn has_bad_row(q: CsrMatrix) -> bool
+    requires { Valid (matrix q) }
+    ensures { result ≡ exists (bad_row (generator_row (matrix q.entry))) q.entry.n }
 {
-    (0..n).any(|i| is_bad_row(n, starts, cols, vals, i))
+    (0..q.n).any(|i| is_bad_row(q, i))
 }
 
 // The midpoint of the hull. The halves are taken before the sum, which could overflow.
-fn midpoint(n: usize, starts: &[u32], cols: &[u32], vals: &[f64]) -> f64
-    requires { Valid (csr n starts.now cols.now vals.now) }
-    ensures { result ≡ midpoint (generator_row (csr n starts.now cols.now vals.now)) n }
+fn midpoint(q: CsrMatrix) -> f64
+    requires { Valid (matrix q) }
+    ensures { result ≡ midpoint (generator_row (matrix q.entry)) q.entry.n }
 {
     // Both ends in one pass: a fold of the pair is no plainer.
     let mut high = f64::NEG_INFINITY;
     let mut low = f64::INFINITY;
-    for i in 0..n {
-        let g = generator_row(n, starts, cols, vals, i);
+    for i in 0..q.n {
+        let g = generator_row(q, i);
         high = float::max(high, g.diagonal + g.rest);
         low = float::min(low, g.diagonal - g.rest);
     }
@@ -87,12 +90,12 @@ fn midpoint(n: usize, starts: &[u32], cols: &[u32], vals: &[f64]) -> f64
 }
 
 // The largest row sum of G - mu.
-fn shifted_norm(n: usize, starts: &[u32], cols: &[u32], vals: &[f64], mu: f64) -> f64
-    requires { Valid (csr n starts.now cols.now vals.now) }
-    ensures { result ≡ shifted_norm (generator_row (csr n starts.now cols.now vals.now)) n mu }
+fn shifted_norm(q: CsrMatrix, mu: f64) -> f64
+    requires { Valid (matrix q) }
+    ensures { result ≡ shifted_norm (generator_row (matrix q.entry)) q.entry.n mu }
 {
-    (0..n).fold(0.0, |norm, i| {
-        let g = generator_row(n, starts, cols, vals, i);
+    (0..q.n).fold(0.0, |norm, i| {
+        let g = generator_row(q, i);
         float::max(norm, float::abs(g.diagonal - mu) + g.rest)
     })
 }
@@ -104,20 +107,14 @@ fn worth(mu: f64, norm: f64, bound: f64) -> bool
 }
 
 // The shift of G, or none where it does not lower the norm below `bound`. A row with a NaN is looked for first: max and min would skip it.
-pub fn negated_csr_shift(
-    n: usize,
-    starts: &[u32],
-    cols: &[u32],
-    vals: &[f64],
-    bound: f64,
-) -> Option<Shifted>
-    requires { Valid (csr n starts.now cols.now vals.now) }
-    ensures { result ≡ negated_csr_shift (csr n starts.now cols.now vals.now) bound }
+pub fn negated_csr_shift(q: CsrMatrix, bound: f64) -> Option<Shifted>
+    requires { Valid (matrix q) }
+    ensures { result ≡ negated_csr_shift (matrix q.entry) bound }
 {
-    if has_bad_row(n, starts, cols, vals) {
+    if has_bad_row(q) {
         return None;
     }
-    let mu = midpoint(n, starts, cols, vals);
-    let norm = shifted_norm(n, starts, cols, vals, mu);
+    let mu = midpoint(q);
+    let norm = shifted_norm(q, mu);
     worth(mu, norm, bound).then_some(Shifted { mu, norm })
 }

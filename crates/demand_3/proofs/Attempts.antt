@@ -17,6 +17,8 @@ use Rattle.krylov_advance.specs.Run.{State, End, finished, refused, applied_of, 
 use Rattle.demand_3.specs.Trace.{accepted_in, made, runs, trace, total, lengths, tried_on, attempts, Run, status_of, accepted_by, tried_by}
 use Rattle.trial_steps.proofs.Few.{Few, trials_few}
 use Rattle.demand_3.proofs.Counts.{reached, basis_of, trials_of, total_append, standing_state}
+use Rattle.checks.specs.declared.Reason.TheVariants.{LengthsRejected}
+use Rattle.checks.specs.Reasons.{number as numbered}
 
 -- the lengths judged: accepted or rejected
 abbrev pub judged : State → ℕ
@@ -26,7 +28,7 @@ judged s = s.report.rejected + s.report.substeps
 abbrev pub Judged : ℕ → Turn State End → Type 0
 Judged n (on s) = judged s ≡ n
 Judged n (out (finished s)) = judged s ≡ n
-Judged n (out (refused r x s)) = (r ≡ 28 → judged s + 11 ≡ n) × (judged s ≤ n)
+Judged n (out (refused r x s)) = (r ≡ LengthsRejected → judged s + 11 ≡ n) × (judged s ≤ n)
 
 -- ---- one substep
 -- n lengths tried: all rejected, or all but the last. A length with no inner plan is neither
@@ -79,7 +81,7 @@ standing_judged n s false h = h
 settle_judged : (p : Setting) (s : State) (b : Basis) (o : Turn Trying Tried) (n l : ℕ) → judged s ≡ n → Few 11 o → Tally l o → Judged (n + l) (settle p s b o)
 unfolding settle
 settle_judged p s b (on t) n l h f k = ((λ e. omega (arith, h, f, k)), omega (arith, h))
-settle_judged p s b (out (stuck arg)) n l h f k = ((λ e. absurd (omega (arith, e))), omega (arith, h))
+settle_judged p s b (out (stuck arg)) n l h f k = ((λ e. let d : 29 ≡ 28 = ap numbered e in absurd (omega (arith, d))), omega (arith, h))
 settle_judged p s b (out (accepted r t g err)) n l h f k =
     let m = advance p s (applied_of b) (columns_of b) r t g err in
     standing_judged (n + l) m (unfinished m) (unfold counted advance in omega (arith, h, k))

@@ -1,5 +1,5 @@
 -- Demand 3, one claim on whole runs of the four calls (document 01, 'What demand 3 counts'). Assumes nothing.
-use mathlib.Core.Path.{◌≡◌, refl, ap, ◌∙◌, subst}
+use mathlib.Core.Path.{◌≡◌, refl, sym, ap, ◌∙◌, subst}
 use mathlib.Core.Bool.{Bool, true, false}
 use mathlib.Core.List.{List, []}
 use mathlib.Core.Option.{none, some}
@@ -15,9 +15,8 @@ use Rattle.expmv.proofs.Rows.{degree_bounds}
 use Rattle.demand_3.specs.Taylor.{Rows}
 use borrow.Author.Tests.{eqb-false}
 use Rattle.checks.specs.First.{Check, first, before}
-use Rattle.checks.specs.declared.Checked.{Checked}
-use Rattle.checks.specs.declared.Checked.TheVariants.{Sound, Refused}
-use Rattle.checks.proofs.First.{unless, first_cons, sound_cons, sound_append}
+use Rattle.checks.specs.First.{Checked}
+use Rattle.checks.proofs.First.{err_is, ok_is, same_reason, unless, first_cons, sound_cons, sound_append}
 use Rattle.checks.proofs.Numbers.{before_append, not_by, refused_past}
 use Rattle.general_operator.specs.Csr.{Csr, row_sum_norm}
 use Rattle.general_operator.specs.Checks.{shape_checks, row_checks, entry_checks, matrix_checks}
@@ -36,21 +35,26 @@ use Rattle.krylov_advance.specs.Run.{State, End, finished, refused, clamp_m, idl
 use Rattle.krylov_advance.specs.declared.KrylovPhiReport.{KrylovPhiReport}
 use Rattle.krylov_job.specs.KrylovCall.{dimension, option_checks, bound_checks, run_checks, krylov_need, krylov_checks_by, krylov_checks, after_run, combination_run_krylov, phi_combination_krylov}
 use Rattle.krylov_job.specs.declared.KrylovPhiOptions.{KrylovPhiOptions}
-use Rattle.krylov_job.specs.declared.KrylovAnswer.{KrylovAnswer}
-use Rattle.krylov_job.specs.declared.KrylovAnswer.TheVariants.{Refusal, Result}
+use Rattle.krylov_job.specs.KrylovCall.{KrylovAnswer}
 use Rattle.demand_3.specs.Krylov.{Zeros, KrylovCost, AtLimit, Exactly27}
 use Rattle.demand_3.specs.Demand3.{start_of, krylov_run, clamped, OneProduct, Demand3}
 use Rattle.demand_3.proofs.Start.{vectors_finite, start_finite}
 use Rattle.demand_3.proofs.Krylov.{expv_cost, expv_only_27, expv_if_27, expv_idle, expv_late}
 use Rattle.demand_3.proofs.Never23.{transposed_in_range}
 use Rattle.demand_3.proofs.Taylor.{fits_is, combination_claim, action_claim, batch_claim}
+use Rattle.checks.specs.Reasons.{Sound, Refused}
+use Rattle.std.specs.Prelude.{Ok, Err}
+use Rattle.checks.specs.declared.Reason.{Reason}
+use Rattle.checks.specs.declared.Reason.TheVariants.{VectorNotFinite, NoAdmissibleRow, WorkLength, SubstepLimit, DegreeRange}
+use Rattle.checks.specs.Reasons.{number as numbered}
+use Rattle.checks.specs.declared.Refusal.{Refusal}
 
 -- ---- a Krylov call
 module _
     (g : Generator)
-    (none_25 : before 25 g.checks ≡ g.checks)
-    (none_27 : before 27 g.checks ≡ g.checks)
-    (none_33 : before 33 g.checks ≡ g.checks)
+    (none_25 : before NoAdmissibleRow g.checks ≡ g.checks)
+    (none_27 : before SubstepLimit g.checks ≡ g.checks)
+    (none_33 : before DegreeRange g.checks ≡ g.checks)
     (tau : Float)
     (count : ℕ)
     (w : List Float)
@@ -70,9 +74,9 @@ module _
 
   -- ---- what the checks leave
   -- none is numbered 27
-  low : before 27 checks ≡ checks
+  low : before SubstepLimit checks ≡ checks
   unfolding before krylov_checks krylov_checks_by vector_checks vector_checks_by count_checks time_checks length_checks finite_checks option_checks run_checks magnitude_checks bound_checks memory_checks
-  low = before_append 27 g.checks _ none_27
+  low = before_append SubstepLimit g.checks _ none_27
 
   -- 12 to 17, and 18 on
   vectors_sound : Sound ≡ first checks → Sound ≡ first (vector_checks n (time_checks tau) count w (length output))
@@ -94,17 +98,17 @@ module _
       omega (arith, n)
 
   -- ---- a result is that of a job that no check refuses, and of a run that finished
-  accepted : (c : Checked) (e : End) (need : ℕ) {r : KrylovPhiReport} → (unless_refused Refusal c output memory (after_run n need memory e)).answer ≡ Result r
-      → (Sound ≡ c) × ((s : State) × ((e ≡ finished s) × (s.report ≡ r) × (window 0 n s.y ≡ (unless_refused Refusal c output memory (after_run n need memory e)).output)))
+  accepted : (c : Checked) (e : End) (need : ℕ) {r : KrylovPhiReport} → (unless_refused Refused c output memory (after_run n need memory e)).answer ≡ Ok r
+      → (Sound ≡ c) × ((s : State) × ((e ≡ finished s) × (s.report ≡ r) × (window 0 n s.y ≡ (unless_refused Refused c output memory (after_run n need memory e)).output)))
   unfolding unless_refused after_run
-  accepted Sound (finished s) need f = (refl, (s, (refl, same f, refl)))
+  accepted (Ok _) (finished s) need f = (refl, (s, (refl, same f, refl)))
     where
-      same : {x y : KrylovPhiReport} → Result x ≡ Result y → x ≡ y
-      same g = cc
-  accepted Sound (refused k x s) need f = let z : zero ≡ 1 = cc in absurd (omega (arith, z))
-  accepted (Refused k x) e need f = let z : zero ≡ 1 = cc in absurd (omega (arith, z))
+      same : {x y : KrylovPhiReport} → ◌≡◌ {A = KrylovAnswer} (Ok x) (Ok y) → x ≡ y
+      same g = ok_is g
+  accepted (Ok _) (refused k x s) need f = let z : zero ≡ 1 = cc in absurd (omega (arith, z))
+  accepted (Err r) e need f = let z : zero ≡ 1 = cc in absurd (omega (arith, z))
 
-  pub krylov_cost : {r : KrylovPhiReport} → call.answer ≡ Result r → KrylovCost n M o.max_substeps (start_of g tau count w) call.output (krylov_run g tau count w o) r
+  pub krylov_cost : {r : KrylovPhiReport} → call.answer ≡ Ok r → KrylovCost n M o.max_substeps (start_of g tau count w) call.output (krylov_run g tau count w o) r
   unfolding combination_run_krylov phi_combination_krylov
   krylov_cost {r} e =
       let h = accepted (first checks) _ _ e in
@@ -117,27 +121,24 @@ module _
       subst (λ (x : List Float). KrylovCost n M o.max_substeps (start_of g tau count w) x u r) h.1.1.2 of_r
 
   -- ---- 27 is not of the checks
-  refused_run : (c : Checked) (e : End) (need : ℕ) {x : Float} → c ≡ first checks → (unless_refused Refusal c output memory (after_run n need memory e)).answer ≡ Refusal 27 x
-      → (Sound ≡ c) × ((s : State) × (e ≡ refused 27 x s))
+  refused_run : (c : Checked) (e : End) (need : ℕ) {x : Float} → c ≡ first checks → (unless_refused Refused c output memory (after_run n need memory e)).answer ≡ Refused SubstepLimit x
+      → (Sound ≡ c) × ((s : State) × (e ≡ refused SubstepLimit x s))
   unfolding unless_refused after_run
-  refused_run Sound (finished s) need d f = let z : zero ≡ 1 = cc in absurd (omega (arith, z))
-  refused_run Sound (refused k y s) need d f = (refl, (s, same f))
+  refused_run (Ok _) (finished s) need d f = let z : zero ≡ 1 = cc in absurd (omega (arith, z))
+  refused_run (Ok _) (refused k y s) need d f = (refl, (s, same f))
     where
-      same : {i j : ℕ} {x y : Float} → Refusal i x ≡ Refusal j y → refused i x s ≡ refused j y s
-      same g = cc
-  refused_run (Refused k y) e need {x} d f = let n : k ≡ 27 = number f in absurd (not_by 27 checks low (subst (λ (i : ℕ). Refused i y ≡ first checks) n d))
-    where
-      number : {i j : ℕ} {x y : Float} → Refusal i x ≡ Refusal j y → i ≡ j
-      number g = cc
+      same : {i j : Reason} {x y : Float} → Refused {A = KrylovPhiReport} i x ≡ Refused j y → refused i x s ≡ refused j y s
+      same g = ap (λ (e : Refusal). refused e.reason e.value s) (err_is g)
+  refused_run (Err r) e need {x} d f = let n : r.reason ≡ SubstepLimit = same_reason f in absurd (not_by SubstepLimit checks low (subst (λ (i : Reason). Refused i r.value ≡ first checks) n d))
 
-  only_27 : (x : Float) → call.answer ≡ Refusal 27 x → AtLimit checks o.max_substeps (krylov_run g tau count w o) x
+  only_27 : (x : Float) → call.answer ≡ Refused SubstepLimit x → AtLimit checks o.max_substeps (krylov_run g tau count w o) x
   unfolding combination_run_krylov phi_combination_krylov norm2
   only_27 x e =
       let h = refused_run (first checks) _ _ refl e in
       let l = expv_only_27 _ tau _ o.tol o.m o.max_substeps (start_of g tau count w) (some_limit h.0) h.1.1 in
       record { passed = h.0; substeps = l.0; below_one = l.1; norm_left = l.2; told = l.3 }
 
-  if_27 : (x : Float) → AtLimit checks o.max_substeps (krylov_run g tau count w o) x → call.answer ≡ Refusal 27 x
+  if_27 : (x : Float) → AtLimit checks o.max_substeps (krylov_run g tau count w o) x → call.answer ≡ Refused SubstepLimit x
   unfolding combination_run_krylov phi_combination_krylov unless_refused after_run norm2
   if_27 x h =
       let l = expv_if_27 _ tau _ o.tol o.m o.max_substeps (start_of g tau count w) (some_limit h.passed) (h.substeps, h.below_one, h.norm_left, h.told) in
@@ -147,70 +148,67 @@ module _
   exactly_27 x = (only_27 x, if_27 x)
 
   -- ---- 25 is not of a Krylov call
-  not_of_memory : {x : Float} → Refused 25 x ≡ first (memory_checks (length memory) (krylov_need n (count - 1) M g.stored)) → ⊥
+  not_of_memory : {x : Float} → Refused NoAdmissibleRow x ≡ first (memory_checks (length memory) (krylov_need n (count - 1) M g.stored)) → ⊥
   unfolding memory_checks first
-  not_of_memory {x} e = go (ltb (length memory) (krylov_need n (count - 1) M g.stored)) (e ∙ first_cons 26 (ltb (length memory) (krylov_need n (count - 1) M g.stored)) nan [])
+  not_of_memory {x} e = go (ltb (length memory) (krylov_need n (count - 1) M g.stored)) (e ∙ first_cons WorkLength (ltb (length memory) (krylov_need n (count - 1) M g.stored)) nan [])
     where
-      go : (b : Bool) → Refused 25 x ≡ unless b 26 nan Sound → ⊥
-      go true e = let n : ◌≡◌ {A = ℕ} 25 26 = cc in absurd (omega (arith, n))
+      go : (b : Bool) → Refused NoAdmissibleRow x ≡ unless b WorkLength nan Sound → ⊥
+      go true e = let n : 25 ≡ 26 = ap numbered (same_reason e) in absurd (omega (arith, n))
       go false e = let z : zero ≡ 1 = cc in absurd (omega (arith, z))
 
-  low_vectors : before 25 (vector_checks n (time_checks tau) count w (length output)) ≡ vector_checks n (time_checks tau) count w (length output)
+  low_vectors : before NoAdmissibleRow (vector_checks n (time_checks tau) count w (length output)) ≡ vector_checks n (time_checks tau) count w (length output)
   unfolding before vector_checks vector_checks_by count_checks time_checks length_checks finite_checks
   low_vectors = refl
 
-  low_options : before 25 (option_checks o M) ≡ option_checks o M
+  low_options : before NoAdmissibleRow (option_checks o M) ≡ option_checks o M
   unfolding before option_checks
   low_options = refl
 
-  low_magnitude : (f : List Float) (eta : Float) → before 25 (magnitude_checks n f tau (count - 1) eta) ≡ magnitude_checks n f tau (count - 1) eta
+  low_magnitude : (f : List Float) (eta : Float) → before NoAdmissibleRow (magnitude_checks n f tau (count - 1) eta) ≡ magnitude_checks n f tau (count - 1) eta
   unfolding before magnitude_checks
   low_magnitude f eta = refl
 
-  low_bound : (anorm : Float) → before 25 (bound_checks anorm) ≡ bound_checks anorm
+  low_bound : (anorm : Float) → before NoAdmissibleRow (bound_checks anorm) ≡ bound_checks anorm
   unfolding before bound_checks
   low_bound anorm = refl
 
-  checks_25 : {x : Float} → Refused 25 x ≡ first checks → ⊥
+  checks_25 : {x : Float} → Refused NoAdmissibleRow x ≡ first checks → ⊥
   unfolding krylov_checks krylov_checks_by vector_checks run_checks
   checks_25 e =
-      let v = refused_past 25 _ _ low_vectors (refused_past 25 _ _ none_25 e).1 in
-      let r = refused_past 25 _ _ (low_magnitude _ _) (refused_past 25 _ _ low_options v.1).1 in
-      not_of_memory (refused_past 25 _ _ (low_bound _) r.1).1
+      let v = refused_past NoAdmissibleRow _ _ low_vectors (refused_past NoAdmissibleRow _ _ none_25 e).1 in
+      let r = refused_past NoAdmissibleRow _ _ (low_magnitude _ _) (refused_past NoAdmissibleRow _ _ low_options v.1).1 in
+      not_of_memory (refused_past NoAdmissibleRow _ _ (low_bound _) r.1).1
 
-  low_33 : before 33 checks ≡ checks
+  low_33 : before DegreeRange checks ≡ checks
   unfolding before krylov_checks krylov_checks_by vector_checks vector_checks_by count_checks time_checks length_checks finite_checks option_checks run_checks magnitude_checks bound_checks memory_checks
-  low_33 = before_append 33 g.checks _ none_33
+  low_33 = before_append DegreeRange g.checks _ none_33
 
   -- no run refuses by j, and no check does
-  refused_by_none : (j : ℕ) → ((x : Float) → Refused j x ≡ first checks → ⊥) → ((k : ℕ) → 26 < k → k < 30 → k ≡ j → ⊥) → (c : Checked) (e : End) (need : ℕ) {x : Float} → c ≡ first checks
-      → ((r : ℕ) (z : Float) (s : State) → e ≡ refused r z s → (26 < r) × (r < 30))
-      → (unless_refused Refusal c output memory (after_run n need memory e)).answer ≡ Refusal j x → ⊥
+  refused_by_none : (j : Reason) → ((x : Float) → Refused j x ≡ first checks → ⊥) → ((k : Reason) → 26 < numbered k → numbered k < 30 → k ≡ j → ⊥) → (c : Checked) (e : End) (need : ℕ) {x : Float} → c ≡ first checks
+      → ((r : Reason) (z : Float) (s : State) → e ≡ refused r z s → (26 < numbered r) × (numbered r < 30))
+      → (unless_refused Refused c output memory (after_run n need memory e)).answer ≡ Refused j x → ⊥
   unfolding unless_refused after_run
-  refused_by_none j h other Sound (finished s) need d late f = let z : zero ≡ 1 = cc in absurd (omega (arith, z))
-  refused_by_none j h other Sound (refused k y s) need d late f = other k (late _ _ _ refl).0 (late _ _ _ refl).1 (number f)
+  refused_by_none j h other (Ok _) (finished s) need d late f = let z : zero ≡ 1 = cc in absurd (omega (arith, z))
+  refused_by_none j h other (Ok _) (refused k y s) need d late f = other k (late _ _ _ refl).0 (late _ _ _ refl).1 (same_reason f)
+  refused_by_none j h other (Err r) e need {x} d late f = h x (same f ∙ d)
     where
-      number : {i j : ℕ} {x y : Float} → Refusal i x ≡ Refusal j y → i ≡ j
-      number g = cc
-  refused_by_none j h other (Refused k y) e need {x} d late f = h x (same f ∙ d)
-    where
-      same : {i j : ℕ} {x y : Float} → Refusal i x ≡ Refusal j y → Refused j y ≡ Refused i x
-      same g = cc
+      same : {i j : Reason} {x y : Float} → Refused {A = KrylovPhiReport} i x ≡ Refused j y → Refused {A = Unit} j y ≡ Refused i x
+      same g = ap Err (sym (err_is g))
 
-  pub krylov_no_25 : (x : Float) → call.answer ≡ Refusal 25 x → ⊥
+  pub krylov_no_25 : (x : Float) → call.answer ≡ Refused NoAdmissibleRow x → ⊥
   unfolding combination_run_krylov phi_combination_krylov
-  krylov_no_25 x e = refused_by_none 25 (λ y. checks_25) (λ k l m n. absurd (omega (arith, l, n))) (first checks) _ _ refl (λ r z s. expv_late _ tau _ o.tol o.m o.max_substeps (start_of g tau count w)) e
+  krylov_no_25 x e = refused_by_none NoAdmissibleRow (λ y. checks_25) (λ k l m n. absurd (omega (arith, l, ap numbered n))) (first checks) _ _ refl (λ r z s. expv_late _ tau _ o.tol o.m o.max_substeps (start_of g tau count w)) e
 
-  pub krylov_no_33 : (x : Float) → call.answer ≡ Refusal 33 x → ⊥
+  pub krylov_no_33 : (x : Float) → call.answer ≡ Refused DegreeRange x → ⊥
   unfolding combination_run_krylov phi_combination_krylov
-  krylov_no_33 x e = refused_by_none 33 (λ y. not_by 33 checks low_33) (λ k l m n. absurd (omega (arith, m, n))) (first checks) _ _ refl (λ r z s. expv_late _ tau _ o.tol o.m o.max_substeps (start_of g tau count w)) e
+  krylov_no_33 x e = refused_by_none DegreeRange (λ y. not_by DegreeRange checks low_33) (λ k l m n. absurd (omega (arith, m, ap numbered n))) (first checks) _ _ refl (λ r z s. expv_late _ tau _ o.tol o.m o.max_substeps (start_of g tau count w)) e
 
-  pub zeros_idle : Sound ≡ first checks → Zeros (start_of g tau count w) → call.answer ≡ Result (record { matvecs = 0; substeps = 0; rejected = 0; est_error = +0; shortest = +0; last = +0 })
+  pub zeros_idle : Sound ≡ first checks → Zeros (start_of g tau count w) → call.answer ≡ Ok (record { matvecs = 0; substeps = 0; rejected = 0; est_error = +0; shortest = +0; last = +0 })
   unfolding combination_run_krylov phi_combination_krylov unless_refused after_run idle
   zeros_idle e z = rw (← e, expv_idle _ tau _ o.tol o.m o.max_substeps (start_of g tau count w) z) refl
 
   -- M as it is clamped
-  pub krylov_claim : {r : KrylovPhiReport} → call.answer ≡ Result r → KrylovCost n (clamped o.m (n + (count - 1))) o.max_substeps (start_of g tau count w) call.output (krylov_run g tau count w o) r
+  pub krylov_claim : {r : KrylovPhiReport} → call.answer ≡ Ok r → KrylovCost n (clamped o.m (n + (count - 1))) o.max_substeps (start_of g tau count w) call.output (krylov_run g tau count w o) r
   unfolding dimension clamp_m
   krylov_claim e = krylov_cost e
 
@@ -224,7 +222,7 @@ unfolding degrees thetas decimal sweeps quotient cost degree
 the_rows = record { degrees_are = refl; thetas_are = refl; fits = fits_is; all_at_30 = λ j l. (degree_bounds j l).1; sweeps_are = λ arg j. refl; costs = λ arg j. refl }
 
 -- ---- all four calls, of a generator none of whose checks is numbered 17, 25, 27 or 33, and whose norm is in range where they pass
-pub demand_3_of : (g : Generator) → (Sound ≡ first g.checks → out_of_range (row_sum_norm g.matrix) ≡ false) → before 25 g.checks ≡ g.checks → before 27 g.checks ≡ g.checks → before 17 g.checks ≡ g.checks → before 33 g.checks ≡ g.checks → (tau : Float) (output memory : List Float) → Demand3 g tau output memory
+pub demand_3_of : (g : Generator) → (Sound ≡ first g.checks → out_of_range (row_sum_norm g.matrix) ≡ false) → before NoAdmissibleRow g.checks ≡ g.checks → before SubstepLimit g.checks ≡ g.checks → before VectorNotFinite g.checks ≡ g.checks → before DegreeRange g.checks ≡ g.checks → (tau : Float) (output memory : List Float) → Demand3 g tau output memory
 demand_3_of g ranged_norm none_25 none_27 none_17 none_33 tau output memory =
     record {
       one_product = one_each;
@@ -240,22 +238,22 @@ demand_3_of g ranged_norm none_25 none_27 none_17 none_33 tau output memory =
     }
 
 -- a matrix and a mass have the checks 1 to 11
-forward_25 : (a : Csr) (mass : Mass) → before 25 (generator_checks a mass) ≡ generator_checks a mass
+forward_25 : (a : Csr) (mass : Mass) → before NoAdmissibleRow (generator_checks a mass) ≡ generator_checks a mass
 unfolding before generator_checks matrix_checks shape_checks row_checks entry_checks sums-checks mass_checks sum_checks norm_checks
 forward_25 a none = refl
 forward_25 a (some mass) = refl
 
-forward_27 : (a : Csr) (mass : Mass) → before 27 (generator_checks a mass) ≡ generator_checks a mass
+forward_27 : (a : Csr) (mass : Mass) → before SubstepLimit (generator_checks a mass) ≡ generator_checks a mass
 unfolding before generator_checks matrix_checks shape_checks row_checks entry_checks sums-checks mass_checks sum_checks norm_checks
 forward_27 a none = refl
 forward_27 a (some mass) = refl
 
-forward_17 : (a : Csr) (mass : Mass) → before 17 (generator_checks a mass) ≡ generator_checks a mass
+forward_17 : (a : Csr) (mass : Mass) → before VectorNotFinite (generator_checks a mass) ≡ generator_checks a mass
 unfolding before generator_checks matrix_checks shape_checks row_checks entry_checks sums-checks mass_checks sum_checks norm_checks
 forward_17 a none = refl
 forward_17 a (some mass) = refl
 
-forward_33 : (a : Csr) (mass : Mass) → before 33 (generator_checks a mass) ≡ generator_checks a mass
+forward_33 : (a : Csr) (mass : Mass) → before DegreeRange (generator_checks a mass) ≡ generator_checks a mass
 unfolding before generator_checks matrix_checks shape_checks row_checks entry_checks sums-checks mass_checks sum_checks norm_checks
 forward_33 a none = refl
 forward_33 a (some mass) = refl
@@ -265,7 +263,7 @@ demand_3 a mass tau output memory = demand_3_of (forward a mass) (no_23 a mass) 
 
 -- the transposed one has 1 to 11 and 30
 transposed_none : (a : Csr) (mass : Mass) (l : Lent)
-    → let cs = transposed_checks a mass l in (before 25 cs ≡ cs) × (before 27 cs ≡ cs) × (before 17 cs ≡ cs) × (before 33 cs ≡ cs)
+    → let cs = transposed_checks a mass l in (before NoAdmissibleRow cs ≡ cs) × (before SubstepLimit cs ≡ cs) × (before VectorNotFinite cs ≡ cs) × (before DegreeRange cs ≡ cs)
 unfolding before transposed_checks before_transposing forward_checks start_checks lent_checks matrix_checks shape_checks row_checks entry_checks mass_checks sum_checks norm_checks
 transposed_none a none l = (refl, refl, refl, refl)
 transposed_none a (some mass) l = (refl, refl, refl, refl)

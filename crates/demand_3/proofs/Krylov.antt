@@ -24,6 +24,9 @@ use Rattle.demand_3.specs.Krylov.{Each, Zeros, KrylovCost}
 use Rattle.demand_3.proofs.Runs.{run_runs}
 use Rattle.demand_3.proofs.Counts.{last, reached, Recorded, run_recorded}
 use Rattle.demand_3.proofs.Moments.{state_of, Stands, run_stands, goes_on, finished_cost, idle_cost}
+use Rattle.checks.specs.declared.Reason.TheVariants.{SubstepLimit, LengthsRejected, NoInnerPlan}
+use Rattle.checks.specs.declared.Reason.{Reason}
+use Rattle.checks.specs.Reasons.{number as numbered}
 
 -- ---- all values are zeros exactly where there are no factors
 abbrev pub Finite : List Float → Type 0
@@ -45,9 +48,9 @@ pub by_not_zeros : (y : List Float) (f : Scale) → pow2_scale y ≡ Some f → 
 by_not_zeros y f e z = let k : None ≡ Some f = sym (zeros_none y z) ∙ e in let o : zero ≡ 1 = cc in absurd (omega (arith, o))
 
 -- ---- the run from y to its end, each substep with the setting p
-not_27 : (r : ℕ) → (r ≡ 28) ⊎ (r ≡ 29) → r ≡ 27 → ⊥
-not_27 r (inl e) h = omega (arith, e, h)
-not_27 r (inr e) h = omega (arith, e, h)
+not_27 : (r : Reason) → (r ≡ LengthsRejected) ⊎ (r ≡ NoInnerPlan) → numbered r ≡ 27 → ⊥
+not_27 r (inl e) h = omega (arith, ap numbered e, h)
+not_27 r (inr e) h = omega (arith, ap numbered e, h)
 
 same_m : (p : Setting) (k : ℕ) → Each (λ q. q.m ≡ p.m) (replicate k p)
 same_m p zero = tt
@@ -67,7 +70,7 @@ module _ (p : Setting) (limit : ℕ) (y : List Float) (f : Option Scale) where
       go (out t) h = ap (λ (x : End). out x) h
 
   -- ---- 27
-  pub only_27 : (x : Float) (s : State) → 0 < limit → run p limit (started p y) ≡ refused 27 x s
+  pub only_27 : (x : Float) (s : State) → 0 < limit → run p limit (started p y) ≡ refused SubstepLimit x s
       → (length (accepted_by u) ≡ limit) × T (time_of u ⋖ 1f) × (eq (norm2 (field_of u)) +0 ≡ false) × (x ≡ estimate_of u)
   unfolding spent norm2
   only_27 x s some e = go (status_of u) (run_stands u) (run_recorded u) (sym (run_runs p limit (started p y)) ∙ e)
@@ -78,9 +81,9 @@ module _ (p : Setting) (limit : ℕ) (y : List Float) (f : Option Scale) where
 
       number : End → ℕ
       number (finished t) = 0
-      number (refused r z t) = r
+      number (refused r z t) = numbered r
 
-      go : (o : Turn State End) → Stands u o → Recorded y (accepted_by u) (reached o) → spent o ≡ refused 27 x s
+      go : (o : Turn State End) → Stands u o → Recorded y (accepted_by u) (reached o) → spent o ≡ refused SubstepLimit x s
           → (length (accepted_by u) ≡ limit) × T (time_of u ⋖ 1f) × (eq (norm2 (field_of u)) +0 ≡ false) × (x ≡ estimate_of u)
       go (on t) h c k =
           let n = h.all ∙ length-replicate limit p in
@@ -88,28 +91,28 @@ module _ (p : Setting) (limit : ℕ) (y : List Float) (f : Option Scale) where
       go (out (finished t)) h c k = let z : zero ≡ 1 = cc in absurd (omega (arith, z))
       go (out (refused r z t)) h c k = absurd (not_27 r h.number (ap number k))
 
-  pub if_27 : length (accepted_by u) ≡ limit → T (time_of u ⋖ 1f) → eq (norm2 (field_of u)) +0 ≡ false → (s : State) × (run p limit (started p y) ≡ refused 27 (estimate_of u) s)
+  pub if_27 : length (accepted_by u) ≡ limit → T (time_of u ⋖ 1f) → eq (norm2 (field_of u)) +0 ≡ false → (s : State) × (run p limit (started p y) ≡ refused SubstepLimit (estimate_of u) s)
   unfolding spent norm2
   if_27 n t b =
       let s = state_of u in
       let g = goes_on u (record { all = n ∙ sym (length-replicate limit p); below_one = t; norm_left = λ _. b }) in
-      (s, run_runs p limit (started p y) ∙ ap spent g ∙ ap (λ (x : Float). refused 27 x s) (run_recorded u).estimate)
+      (s, run_runs p limit (started p y) ∙ ap spent g ∙ ap (λ (x : Float). refused SubstepLimit x s) (run_recorded u).estimate)
 
   -- a run refuses by 27, 28 or 29
-  pub run_late : (r : ℕ) (x : Float) (s : State) → run p limit (started p y) ≡ refused r x s → (26 < r) × (r < 30)
+  pub run_late : (r : Reason) (x : Float) (s : State) → run p limit (started p y) ≡ refused r x s → (26 < numbered r) × (numbered r < 30)
   unfolding spent
   run_late r x s e = go (status_of u) (run_stands u) (sym (run_runs p limit (started p y)) ∙ e)
     where
       number : End → ℕ
       number (finished t) = 0
-      number (refused k z t) = k
+      number (refused k z t) = numbered k
 
-      go : (o : Turn State End) → Stands u o → spent o ≡ refused r x s → (26 < r) × (r < 30)
-      go (on t) h k = let i : 27 ≡ r = ap number k in (omega (arith, i), omega (arith, i))
+      go : (o : Turn State End) → Stands u o → spent o ≡ refused r x s → (26 < numbered r) × (numbered r < 30)
+      go (on t) h k = let i : 27 ≡ numbered r = ap number k in (omega (arith, i), omega (arith, i))
       go (out (finished t)) h k = let z : zero ≡ 1 = cc in absurd (omega (arith, z))
       go (out (refused j z t)) h k = elim h.number [
-        | inl i ↦ (omega (arith, i, ap number k), omega (arith, i, ap number k))
-        | inr i ↦ (omega (arith, i, ap number k), omega (arith, i, ap number k))
+        | inl i ↦ let d = ap numbered i in let e = ap number k in (omega (arith, d, e), omega (arith, d, e))
+        | inr i ↦ let d = ap numbered i in let e = ap number k in (omega (arith, d, e), omega (arith, d, e))
       ]
 
 -- ---- `expv`
@@ -142,7 +145,7 @@ module _ (b : Augmented) (tau anorm tol : Float) (m limit : ℕ) (y : List Float
   abbrev Limit : Run → Float → Type 0
   Limit u x = (length (accepted_by u) ≡ limit) × T (time_of u ⋖ 1f) × (eq (norm2 (field_of u)) +0 ≡ false) × (x ≡ estimate_of u)
 
-  only_by : (f : Option Scale) {x : Float} {s : State} → 0 < limit → expv_by b tau anorm tol m limit y f ≡ refused 27 x s → Limit (run_by b tau anorm tol m limit y f) x
+  only_by : (f : Option Scale) {x : Float} {s : State} → 0 < limit → expv_by b tau anorm tol m limit y f ≡ refused SubstepLimit x s → Limit (run_by b tau anorm tol m limit y f) x
   unfolding expv_by run_by scaled allowed back
   only_by None some g = let o : zero ≡ 1 = cc in absurd (omega (arith, o))
   only_by (Some f) {x} {s} some g = go (run _ limit (started _ _)) refl g
@@ -153,24 +156,24 @@ module _ (b : Augmented) (tau anorm tol : Float) (m limit : ℕ) (y : List Float
       y₀ : List Float
       y₀ = (run_by b tau anorm tol m limit y (Some f)).field
 
-      number : End → ℕ
-      number (finished t) = 0
-      number (refused r z t) = r
+      why : End → Reason
+      why (finished t) = SubstepLimit
+      why (refused r z t) = r
 
       told : End → Float
       told (finished t) = x
       told (refused r z t) = z
 
-      go : (e : End) → run p limit (started p y₀) ≡ e → back f.up (norm2 y₀) e ≡ refused 27 x s → Limit (run_by b tau anorm tol m limit y (Some f)) x
+      go : (e : End) → run p limit (started p y₀) ≡ e → back f.up (norm2 y₀) e ≡ refused SubstepLimit x s → Limit (run_by b tau anorm tol m limit y (Some f)) x
       go (finished t) h k = let o : zero ≡ 1 = cc in absurd (omega (arith, o))
       go (refused r z t) h k =
-          only_27 p limit y₀ (Some f) x t some (h ∙ ap (λ (i : ℕ). refused i z t) (ap number k) ∙ ap (λ (d : Float). refused 27 d t) (ap told k))
+          only_27 p limit y₀ (Some f) x t some (h ∙ ap (λ (i : Reason). refused i z t) (ap why k) ∙ ap (λ (d : Float). refused SubstepLimit d t) (ap told k))
 
-  pub expv_only_27 : {x : Float} {s : State} → 0 < limit → expv b tau anorm tol m limit y ≡ refused 27 x s → Limit (run_of b tau anorm tol m limit y) x
+  pub expv_only_27 : {x : Float} {s : State} → 0 < limit → expv b tau anorm tol m limit y ≡ refused SubstepLimit x s → Limit (run_of b tau anorm tol m limit y) x
   unfolding expv run_of
   expv_only_27 some g = only_by (pow2_scale y) some g
 
-  if_by : (f : Option Scale) {x : Float} → 0 < limit → Limit (run_by b tau anorm tol m limit y f) x → (s : State) × (expv_by b tau anorm tol m limit y f ≡ refused 27 x s)
+  if_by : (f : Option Scale) {x : Float} → 0 < limit → Limit (run_by b tau anorm tol m limit y f) x → (s : State) × (expv_by b tau anorm tol m limit y f ≡ refused SubstepLimit x s)
   unfolding expv_by run_by scaled allowed trace back
   if_by None some h = let n : 0 ≡ limit = h.0 in absurd (omega (arith, some, n))
   if_by (Some f) {x} some h = go (if_27 _ limit _ (Some f) h.0 h.1 h.2)
@@ -181,10 +184,10 @@ module _ (b : Augmented) (tau anorm tol : Float) (m limit : ℕ) (y : List Float
       y₀ : List Float
       y₀ = (run_by b tau anorm tol m limit y (Some f)).field
 
-      go : ((s : State) × (run p limit (started p y₀) ≡ refused 27 (estimate_of (run_by b tau anorm tol m limit y (Some f))) s)) → (s : State) × (back f.up (norm2 y₀) (run p limit (started p y₀)) ≡ refused 27 x s)
-      go (s, e) = (scaled_back f.up (norm2 y₀) s, ap (back f.up (norm2 y₀)) e ∙ ap (λ (d : Float). refused 27 d (scaled_back f.up (norm2 y₀) s)) (sym h.3))
+      go : ((s : State) × (run p limit (started p y₀) ≡ refused SubstepLimit (estimate_of (run_by b tau anorm tol m limit y (Some f))) s)) → (s : State) × (back f.up (norm2 y₀) (run p limit (started p y₀)) ≡ refused SubstepLimit x s)
+      go (s, e) = (scaled_back f.up (norm2 y₀) s, ap (back f.up (norm2 y₀)) e ∙ ap (λ (d : Float). refused SubstepLimit d (scaled_back f.up (norm2 y₀) s)) (sym h.3))
 
-  pub expv_if_27 : {x : Float} → 0 < limit → Limit (run_of b tau anorm tol m limit y) x → (s : State) × (expv b tau anorm tol m limit y ≡ refused 27 x s)
+  pub expv_if_27 : {x : Float} → 0 < limit → Limit (run_of b tau anorm tol m limit y) x → (s : State) × (expv b tau anorm tol m limit y ≡ refused SubstepLimit x s)
   unfolding expv run_of
   expv_if_27 some h = if_by (pow2_scale y) some h
 
@@ -194,7 +197,7 @@ module _ (b : Augmented) (tau anorm tol : Float) (m limit : ℕ) (y : List Float
   expv_idle z = rw (zeros_none y z) refl
 
   -- ---- a run refuses by 27, 28 or 29
-  late_by : (f : Option Scale) {r : ℕ} {x : Float} {s : State} → expv_by b tau anorm tol m limit y f ≡ refused r x s → (26 < r) × (r < 30)
+  late_by : (f : Option Scale) {r : Reason} {x : Float} {s : State} → expv_by b tau anorm tol m limit y f ≡ refused r x s → (26 < numbered r) × (numbered r < 30)
   unfolding expv_by run_by scaled allowed back
   late_by None g = let o : zero ≡ 1 = cc in absurd (omega (arith, o))
   late_by (Some f) {r} {x} {s} g = go (run _ limit (started _ _)) refl g
@@ -207,12 +210,12 @@ module _ (b : Augmented) (tau anorm tol : Float) (m limit : ℕ) (y : List Float
 
       number : End → ℕ
       number (finished t) = 0
-      number (refused k z t) = k
+      number (refused k z t) = numbered k
 
-      go : (e : End) → run p limit (started p y₀) ≡ e → back f.up (norm2 y₀) e ≡ refused r x s → (26 < r) × (r < 30)
+      go : (e : End) → run p limit (started p y₀) ≡ e → back f.up (norm2 y₀) e ≡ refused r x s → (26 < numbered r) × (numbered r < 30)
       go (finished t) h k = let o : zero ≡ 1 = cc in absurd (omega (arith, o))
       go (refused k z t) h j = subst (λ (i : ℕ). (26 < i) × (i < 30)) (ap number j) (run_late p limit y₀ (Some f) k z t h)
 
-  pub expv_late : {r : ℕ} {x : Float} {s : State} → expv b tau anorm tol m limit y ≡ refused r x s → (26 < r) × (r < 30)
+  pub expv_late : {r : Reason} {x : Float} {s : State} → expv b tau anorm tol m limit y ≡ refused r x s → (26 < numbered r) × (numbered r < 30)
   unfolding expv
   expv_late g = late_by (pow2_scale y) g

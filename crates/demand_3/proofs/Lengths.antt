@@ -30,6 +30,7 @@ use Rattle.demand_3.specs.Krylov.{Each, Within, Step, Short, Landed, Begun, Base
 use Rattle.demand_3.proofs.Built.{own_first, own_based}
 use Rattle.demand_3.proofs.Runs.{trace_over}
 use Rattle.demand_3.proofs.Counts.{each_append, reached, Normed, basis_of, trials_of}
+use Rattle.checks.specs.declared.Reason.TheVariants.{LengthsRejected, NoInnerPlan}
 
 pub clear_of : (t : Float) → T (+0 ⋖ t) → T (nonneg t)
 clear_of t h = above_zero t (is_true (+0 ⋖ t) h)
@@ -317,8 +318,8 @@ settle_steps : (p : Setting) (s : State) (b : Basis) (later : Turn State End →
     → Normed s → Each Short (tried_on p s b) → Lands s.control.time (tried_on p s b) o → Begun b s.control.beta s.y → Based p b (map (apply p) (columns_of b))
     → Steps s.control.time s.y (accepted_in p s b o ++ later (settle p s b o))
 unfolding settle accepted_in norm2
-settle_steps p s b later none rest h l (on t) k nm sh la bg me = rest (out (refused 28 p.tol s)) (h, l) nm
-settle_steps p s b later none rest h l (out (stuck arg)) k nm sh la bg me = rest (out (refused 29 arg s)) (h, l) nm
+settle_steps p s b later none rest h l (on t) k nm sh la bg me = rest (out (refused LengthsRejected p.tol s)) (h, l) nm
+settle_steps p s b later none rest h l (out (stuck arg)) k nm sh la bg me = rest (out (refused NoInnerPlan arg s)) (h, l) nm
 settle_steps p s b later none rest h l (out (accepted r t f err)) k nm sh la bg me =
     let n = advance p s (applied_of b) (columns_of b) r t f err in (
       refl,

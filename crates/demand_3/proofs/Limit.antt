@@ -14,6 +14,7 @@ use Rattle.krylov_advance.specs.Run.{State, End, finished, refused, applied_of, 
 use Rattle.lists.proofs.Walk.{Kept}
 use Rattle.demand_3.specs.Trace.{runs, Run, status_of}
 use Rattle.demand_3.proofs.Counts.{basis_of, trials_of}
+use Rattle.checks.specs.declared.Reason.TheVariants.{LengthsRejected, NoInnerPlan}
 
 -- all substeps so far were accepted; the start alone is not asked whether it is unfinished
 abbrev pub Going : ℕ → State → Type 0
@@ -22,7 +23,7 @@ Going i s = (s.report.substeps ≡ i) × (0 < i → unfinished s ≡ true)
 -- with a result, or 28 or 29 from a state that is not asked or unfinished
 abbrev pub Over : ℕ → End → Type 0
 Over i (finished s) = (0 < s.report.substeps) × (s.report.substeps ≤ i) × (unfinished s ≡ false)
-Over i (refused r x s) = ((r ≡ 28) ⊎ (r ≡ 29)) × (s.report.substeps < i) × (0 < s.report.substeps → unfinished s ≡ true)
+Over i (refused r x s) = ((r ≡ LengthsRejected) ⊎ (r ≡ NoInnerPlan)) × (s.report.substeps < i) × (0 < s.report.substeps → unfinished s ≡ true)
 
 over_later : (i j : ℕ) (e : End) → i ≤ j → Over i e → Over j e
 over_later i j (finished s) l h = (h.0, le_trans h.1 l, h.2)

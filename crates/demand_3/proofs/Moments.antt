@@ -28,6 +28,7 @@ use Rattle.demand_3.proofs.Limit.{Going, Over, run_kept}
 use Rattle.demand_3.proofs.Lengths.{Timed, run_timed, finished_time, norm_left, trace_steps, attempts_short, started_timed}
 use Rattle.demand_3.proofs.Attempts.{Judged, run_judged, run_told}
 use Rattle.demand_3.proofs.Shortest.{shortest_is}
+use Rattle.checks.specs.declared.Reason.{Reason}
 
 reached_long : (n : ℕ) (o : Turn State End) → FieldLong n o → length (reached o).y ≡ n
 reached_long n (on s) h = h
@@ -139,10 +140,10 @@ module _ (u : Run) where
   going_not_finished : GoesOn u → Finished u → ⊥
   going_not_finished g = below_not_reached g.below_one g.norm_left
 
-  failed_not_finished : {k : ℕ} → Failed u k → Finished u → ⊥
+  failed_not_finished : {k : Reason} → Failed u k → Finished u → ⊥
   failed_not_finished g = below_not_reached g.below_one g.norm_left
 
-  going_not_failed : {k : ℕ} → GoesOn u → Failed u k → ⊥
+  going_not_failed : {k : Reason} → GoesOn u → Failed u k → ⊥
   going_not_failed g h = lt_irrefl _ (subst (λ (n : ℕ). n < length u.settings) g.all h.fewer)
 
   -- so each says where the run stands

@@ -8,7 +8,6 @@ use Prim.Native.Nat.{ℕ, ◌-◌}
 use lib.ListN.{length}
 use lib.Ieee.{Float}
 use Rattle.checks.specs.First.{Check, refuse, first, before}
-use Rattle.checks.specs.declared.Checked.TheVariants.{Sound}
 use Rattle.checks.proofs.First.{never_holds}
 use Rattle.checks.proofs.Numbers.{before_append}
 use Rattle.general_operator.specs.Csr.{Csr, row_sum_norm}
@@ -23,17 +22,19 @@ use Rattle.combination.proofs.Range.{in_range, no_23}
 use Rattle.taylor_job.specs.Calls.{combination_checks, action_checks}
 use Rattle.krylov_job.specs.KrylovCall.{bound, dimension, option_checks, bound_checks, run_checks, krylov_need, krylov_checks_by, krylov_checks}
 use Rattle.krylov_job.specs.declared.KrylovPhiOptions.{KrylovPhiOptions}
+use Rattle.checks.specs.Reasons.{Sound}
+use Rattle.checks.specs.declared.Reason.TheVariants.{NormRange}
 
 -- what 23 was
 abbrev pub check_23 : Generator → Check
-check_23 g = refuse 23 (out_of_range (row_sum_norm g.matrix)) (row_sum_norm g.matrix)
+check_23 g = refuse NormRange (out_of_range (row_sum_norm g.matrix)) (row_sum_norm g.matrix)
 
 -- ---- a generator whose norm is in range where its checks pass, and none of whose checks is numbered 23
 pub record InRange (g : Generator) : Type 0 where
   pub ranged : Sound ≡ first g.checks → out_of_range (row_sum_norm g.matrix) ≡ false
-  pub unnumbered : before 23 g.checks ≡ g.checks
+  pub unnumbered : before NormRange g.checks ≡ g.checks
 
-forward_none : (a : Csr) (mass : Mass) → before 23 (generator_checks a mass) ≡ generator_checks a mass
+forward_none : (a : Csr) (mass : Mass) → before NormRange (generator_checks a mass) ≡ generator_checks a mass
 unfolding before generator_checks matrix_checks shape_checks row_checks entry_checks sums-checks mass_checks sum_checks norm_checks
 forward_none a none = refl
 forward_none a (some mass) = refl
@@ -41,7 +42,7 @@ forward_none a (some mass) = refl
 pub forward_in_range : (a : Csr) (mass : Mass) → InRange (forward a mass)
 forward_in_range a mass = record { ranged = no_23 a mass; unnumbered = forward_none a mass }
 
-transposed_none : (a : Csr) (mass : Mass) (l : Lent) → before 23 (transposed_checks a mass l) ≡ transposed_checks a mass l
+transposed_none : (a : Csr) (mass : Mass) (l : Lent) → before NormRange (transposed_checks a mass l) ≡ transposed_checks a mass l
 unfolding before transposed_checks before_transposing forward_checks start_checks lent_checks matrix_checks shape_checks row_checks entry_checks mass_checks sum_checks norm_checks
 transposed_none a none l = refl
 transposed_none a (some mass) l = refl
@@ -72,9 +73,9 @@ module _ (g : Generator) (h : InRange g) (tau : Float) where
     unfolding combination_checks sweep_checks vector_checks vector_checks_by count_checks plan_checks time_checks degree_checks length_checks finite_checks magnitude_checks
     combination_never_23 = never_23 g h (vector_checks n (plan_checks tau cap) count w output ++ of_magnitude count w) _
 
-    pub combination_no_number : before 23 (combination_checks g tau cap count w output memory) ≡ combination_checks g tau cap count w output memory
+    pub combination_no_number : before NormRange (combination_checks g tau cap count w output memory) ≡ combination_checks g tau cap count w output memory
     unfolding before combination_checks sweep_checks vector_checks vector_checks_by count_checks plan_checks time_checks degree_checks length_checks finite_checks magnitude_checks schedule_checks memory_checks
-    combination_no_number = before_append 23 g.checks _ h.unnumbered
+    combination_no_number = before_append NormRange g.checks _ h.unnumbered
 
   -- ---- `phi_action` and, of another output, `phi_action_batched`
   module _ (cap k : ℕ) (v : List Float) (output wanted memory : ℕ) where
@@ -84,9 +85,9 @@ module _ (g : Generator) (h : InRange g) (tau : Float) where
     unfolding action_checks job_checks index_checks plan_checks time_checks degree_checks length_checks finite_checks
     action_never_23 = never_23 g h (index_checks k ++ (plan_checks tau cap ++ (length_checks output wanted (length v) n ++ finite_checks v))) _
 
-    pub action_no_number : before 23 (action_checks g tau cap k v output wanted memory) ≡ action_checks g tau cap k v output wanted memory
+    pub action_no_number : before NormRange (action_checks g tau cap k v output wanted memory) ≡ action_checks g tau cap k v output wanted memory
     unfolding before action_checks job_checks index_checks plan_checks time_checks degree_checks length_checks finite_checks schedule_checks memory_checks
-    action_no_number = before_append 23 g.checks _ h.unnumbered
+    action_no_number = before_append NormRange g.checks _ h.unnumbered
 
   -- ---- `phi_combination_krylov`, whose list never had it: the Rust makes no schedule there
   module _ (count : ℕ) (w : List Float) (o : KrylovPhiOptions) (output memory : ℕ) where
@@ -99,6 +100,6 @@ module _ (g : Generator) (h : InRange g) (tau : Float) where
     unfolding krylov_checks krylov_checks_by run_checks vector_checks vector_checks_by count_checks time_checks length_checks finite_checks option_checks magnitude_checks
     krylov_never_23 = never_23 g h (vector_checks n (time_checks tau) count w output ++ (option_checks o M ++ of_magnitude count w)) _
 
-    pub krylov_no_number : before 23 (krylov_checks g tau count w o output memory) ≡ krylov_checks g tau count w o output memory
+    pub krylov_no_number : before NormRange (krylov_checks g tau count w o output memory) ≡ krylov_checks g tau count w o output memory
     unfolding before krylov_checks krylov_checks_by run_checks vector_checks vector_checks_by count_checks time_checks length_checks finite_checks option_checks magnitude_checks bound_checks memory_checks
-    krylov_no_number = before_append 23 g.checks _ h.unnumbered
+    krylov_no_number = before_append NormRange g.checks _ h.unnumbered

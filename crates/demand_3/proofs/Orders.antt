@@ -5,6 +5,7 @@ use mathlib.Core.Option.{none, some}
 use Prim.Native.Nat.{ℕ}
 use lib.Ieee.{Float}
 use Rattle.checks.specs.First.{Check}
+use Rattle.checks.specs.Reasons.{number}
 use Rattle.general_operator.specs.Csr.{Csr}
 use Rattle.generator_action.specs.Generator.{forward}
 use Rattle.transpose.specs.Transpose.{Lent, transposed, open_transpose}
@@ -13,7 +14,7 @@ use Rattle.krylov_job.specs.declared.KrylovPhiOptions.{KrylovPhiOptions}
 use Rattle.krylov_job.specs.KrylovCall.{krylov_checks, open_krylov_call}
 
 abbrev numbers : List Check → List ℕ
-numbers cs = map (λ (c : Check). c.number) cs
+numbers cs = map (λ (c : Check). number c.reason) cs
 
 module _ (a : Csr) (mass : List Float) (tau : Float) (cap count : ℕ) (w : List Float) (output wanted memory : ℕ) (o : KrylovPhiOptions) where
   combination : numbers (combination_checks (forward a none) tau cap count w output memory)

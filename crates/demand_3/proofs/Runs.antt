@@ -8,6 +8,7 @@ use Rattle.gram_schmidt.specs.Basis.{Setting, Basis, arnoldi}
 use Rattle.trial_steps.specs.Trials.{Trying, Tried, accepted, stuck}
 use Rattle.krylov_advance.specs.Run.{State, End, refused, applied_of, columns_of, advance, unfinished, standing, settle, substep, spent, run}
 use Rattle.demand_3.specs.Trace.{Accepted, Attempt, accepted_in, made, runs, trace, tried_on, attempts}
+use Rattle.checks.specs.declared.Reason.TheVariants.{LengthsRejected, NoInnerPlan}
 
 -- ---- an ended run stays as it is
 pub runs_over : (ps : List Setting) (e : End) → runs ps (out e) ≡ out e
@@ -69,8 +70,8 @@ settle_settings : (p : Setting) (ps : List Setting) (s : State) (b : Basis) (lat
     → ((o : Turn State End) → settings_in (later o) ≡ take (length (later o)) ps)
     → (o : Turn Trying Tried) → settings_in (accepted_in p s b o ++ later (settle p s b o)) ≡ take (length (accepted_in p s b o ++ later (settle p s b o))) (p ∷ ps)
 unfolding settle accepted_in
-settle_settings p ps s b later none rest (on t) = rw (none (refused 28 p.tol s)) refl
-settle_settings p ps s b later none rest (out (stuck arg)) = rw (none (refused 29 arg s)) refl
+settle_settings p ps s b later none rest (on t) = rw (none (refused LengthsRejected p.tol s)) refl
+settle_settings p ps s b later none rest (out (stuck arg)) = rw (none (refused NoInnerPlan arg s)) refl
 settle_settings p ps s b later none rest (out (accepted r t f err)) =
     let n = advance p s (applied_of b) (columns_of b) r t f err in
     ap (λ (l : List Setting). p ∷ l) (rest (standing n (unfinished n)))

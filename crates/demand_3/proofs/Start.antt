@@ -14,12 +14,12 @@ use Rattle.lists.proofs.Find.{none_below}
 use Rattle.lists.proofs.Window.{length_window, get_d_window}
 use Rattle.doubles.specs.F64.{◌⋖◌, +0, 1f, at, is_finite}
 use Rattle.checks.specs.First.{Check, first}
-use Rattle.checks.specs.declared.Checked.TheVariants.{Sound}
 use Rattle.checks.proofs.First.{sound_cons, sound_append}
 use Rattle.pow2.specs.Pow2.{eta_scaling}
 use Rattle.pow2.specs.Pow2 as pow2
 use Rattle.combination.specs.Combination.{vector, eta_of, combination_start}
 use Rattle.combination.specs.Checks.{not_finite_at, count_checks, length_checks, finite_checks, vector_checks_by, vector_checks}
+use Rattle.checks.specs.Reasons.{Sound}
 
 abbrev Finite : List Float → Type 0
 Finite y = (i : ℕ) → i < length y → is_finite (at y i) ≡ true

@@ -8,16 +8,17 @@ use Rattle.phi_action_helpers.specs.declared.Scales.{Scales}
 use Rattle.lists.specs.Window.{window}
 use Rattle.doubles.specs.F64.{+0}
 use Rattle.checks.specs.First.{first}
-use Rattle.checks.specs.declared.Checked.TheVariants.{Sound}
 use Rattle.combination.specs.Combination.{further, eta_of, combination_operator, combination_start, action_operator, init_aug_vector}
 use Rattle.taylor_job.specs.Calls.{combination_checks, phi_combination, action_checks, phi_action, phi_action_batched}
 use Rattle.krylov_advance.specs.declared.KrylovPhiReport.{KrylovPhiReport}
 use Rattle.krylov_job.specs.KrylovCall.{bound, krylov_checks, phi_combination_krylov}
 use Rattle.krylov_job.specs.declared.KrylovPhiOptions.{KrylovPhiOptions}
-use Rattle.krylov_job.specs.declared.KrylovAnswer.TheVariants.{Refusal, Result}
 use Rattle.demand_3.specs.Trace.{Run, run_of}
 use Rattle.demand_3.specs.Krylov.{Zeros, KrylovCost, Exactly27}
 use Rattle.demand_3.specs.Taylor.{Rows, TaylorClaim}
+use Rattle.checks.specs.Reasons.{Sound, Refused}
+use Rattle.std.specs.Prelude.{Ok}
+use Rattle.checks.specs.declared.Reason.TheVariants.{NoAdmissibleRow, DegreeRange}
 
 -- the n + d values from which a combination starts, and its operator
 abbrev pub start_of : Generator → Float → ℕ → List Float → List Float
@@ -67,13 +68,13 @@ pub record Demand3 (g : Generator) (tau : Float) (output memory : List Float) : 
   pub batch : (cap p : ℕ) (v : List Float)
       → TaylorClaim (phi_action_batched g tau cap p v output memory) (action_checks g tau cap p v (length output) (suc p * g.matrix.n) (length memory)) tau cap v (action_of g v) (suc p) (action_start g v)
   -- Krylov: the counts are those of what the run did, and bounded; the rounded sum of its steps is 1 at the last; 27 exactly at the limit
-  pub krylov : (count : ℕ) (w : List Float) (o : KrylovPhiOptions) {r : KrylovPhiReport} → (phi_combination_krylov g tau count w o output memory).answer ≡ Result r
+  pub krylov : (count : ℕ) (w : List Float) (o : KrylovPhiOptions) {r : KrylovPhiReport} → (phi_combination_krylov g tau count w o output memory).answer ≡ Ok r
       → KrylovCost g.matrix.n (clamped o.m (g.matrix.n + (count - 1))) o.max_substeps (start_of g tau count w) (phi_combination_krylov g tau count w o output memory).output (krylov_run g tau count w o) r
   pub at_limit : (count : ℕ) (w : List Float) (o : KrylovPhiOptions)
       → Exactly27 (phi_combination_krylov g tau count w o output memory) (krylov_checks g tau count w o (length output) (length memory)) o.max_substeps (krylov_run g tau count w o)
   -- a start of zeros gives a result, all counts and steps 0
   pub zeros : (count : ℕ) (w : List Float) (o : KrylovPhiOptions) → Sound ≡ first (krylov_checks g tau count w o (length output) (length memory)) → Zeros (start_of g tau count w)
-      → (phi_combination_krylov g tau count w o output memory).answer ≡ Result (record { matvecs = 0; substeps = 0; rejected = 0; est_error = +0; shortest = +0; last = +0 })
+      → (phi_combination_krylov g tau count w o output memory).answer ≡ Ok (record { matvecs = 0; substeps = 0; rejected = 0; est_error = +0; shortest = +0; last = +0 })
   -- 25 and 33 are Taylor's alone
-  pub no_25 : (count : ℕ) (w : List Float) (o : KrylovPhiOptions) (x : Float) → (phi_combination_krylov g tau count w o output memory).answer ≡ Refusal 25 x → ⊥
-  pub no_33 : (count : ℕ) (w : List Float) (o : KrylovPhiOptions) (x : Float) → (phi_combination_krylov g tau count w o output memory).answer ≡ Refusal 33 x → ⊥
+  pub no_25 : (count : ℕ) (w : List Float) (o : KrylovPhiOptions) (x : Float) → (phi_combination_krylov g tau count w o output memory).answer ≡ Refused NoAdmissibleRow x → ⊥
+  pub no_33 : (count : ℕ) (w : List Float) (o : KrylovPhiOptions) (x : Float) → (phi_combination_krylov g tau count w o output memory).answer ≡ Refused DegreeRange x → ⊥

@@ -6,7 +6,6 @@ use Rattle.std.specs.Float.Ieee.{eq, fits}
 use Rattle.lists.specs.Window.{window}
 use Rattle.doubles.specs.F64.{◌⊕◌, ◌⊖◌, ◌⊘◌, ◌⩽◌, ◌⋖◌, +0, 1f, at, nonneg}
 use Rattle.checks.specs.First.{Check, first}
-use Rattle.checks.specs.declared.Checked.TheVariants.{Sound}
 use Rattle.combination.specs.Call.{Call}
 use Rattle.sqrt.specs.Sqrt.{sqrt}
 use Rattle.vectors.specs.Vectors.{scale}
@@ -14,9 +13,11 @@ use Rattle.dot.specs.Dot.{dot}
 use Rattle.gram_schmidt.specs.Basis.{Setting, dim, Basis, breakdown, full, apply, orthogonal}
 use Rattle.krylov_advance.specs.Run.{columns_of}
 use Rattle.krylov_advance.specs.declared.KrylovPhiReport.{KrylovPhiReport}
-use Rattle.krylov_job.specs.declared.KrylovAnswer.{KrylovAnswer}
-use Rattle.krylov_job.specs.declared.KrylovAnswer.TheVariants.{Refusal}
+use Rattle.krylov_job.specs.KrylovCall.{KrylovAnswer}
 use Rattle.demand_3.specs.Trace.{Accepted, Attempt, total, Run, last_after, accepted_by, tried_by, time_of, field_of, left_by, estimate_of, relative}
+use Rattle.checks.specs.Reasons.{Sound, Refused}
+use Rattle.checks.specs.declared.Reason.TheVariants.{SubstepLimit, LengthsRejected, NoInnerPlan}
+use Rattle.checks.specs.declared.Reason.{Reason}
 
 -- the norm meant: the rounded Euclidean one of all values
 abbrev pub euclidean : List Float → Float
@@ -123,9 +124,9 @@ pub record Finished (u : Run) : Type 0 where
   pub reached : (eq (euclidean (field_of u)) +0 ≡ true) ⊎ (time_of u ≡ 1f)
 
 -- a substep that is not accepted ended it by k: 28 with its eleventh rejection, or 29
-pub record Failed (u : Run) (k : ℕ) : Type 0 where
-  pub number : (k ≡ 28) ⊎ (k ≡ 29)
-  pub eleven : k ≡ 28 → length (tried_by u) ≡ total (λ a. length a.tried) (accepted_by u) + 11
+pub record Failed (u : Run) (k : Reason) : Type 0 where
+  pub number : (k ≡ LengthsRejected) ⊎ (k ≡ NoInnerPlan)
+  pub eleven : k ≡ LengthsRejected → length (tried_by u) ≡ total (λ a. length a.tried) (accepted_by u) + 11
   pub fewer : length (accepted_by u) < length u.settings
   pub below_one : T (time_of u ⋖ 1f)
   pub norm_left : 0 < length (accepted_by u) → eq (euclidean (field_of u)) +0 ≡ false
@@ -152,4 +153,4 @@ pub record AtLimit (cs : List Check) (limit : ℕ) (u : Run) (x : Float) : Type 
 
 -- a call is refused by 27 exactly so
 abbrev pub Exactly27 : Call KrylovAnswer → List Check → ℕ → Run → Type 0
-Exactly27 c cs limit u = (x : Float) → (c.answer ≡ Refusal 27 x → AtLimit cs limit u x) × (AtLimit cs limit u x → c.answer ≡ Refusal 27 x)
+Exactly27 c cs limit u = (x : Float) → (c.answer ≡ Refused SubstepLimit x → AtLimit cs limit u x) × (AtLimit cs limit u x → c.answer ≡ Refused SubstepLimit x)

@@ -6,7 +6,6 @@ use Rattle.std.specs.Float.Ieee.{round, to_unsigned}
 use Rattle.lists.specs.Loop.{stack}
 use Rattle.lists.specs.Window.{window}
 use Rattle.checks.specs.First.{Check, first, before}
-use Rattle.checks.specs.declared.Checked.TheVariants.{Sound}
 use Rattle.general_operator.specs.Csr.{row_sum_norm}
 use Rattle.doubles.specs.F64.{◌⊕◌, ◌⊗◌, ◌⊘◌, ◌⩽◌, ◌⋖◌, 1f, 2f, nat, at, is_finite}
 use Rattle.doubles.specs.Whole.{ceil}
@@ -16,9 +15,11 @@ use Rattle.phi_action_helpers.specs.declared.SweepPlan.{SweepPlan}
 use Rattle.phi_shift.specs.Plan.{plan, sweep_plan, Chosen}
 use Rattle.combination.specs.Call.{Call}
 use Rattle.taylor_job.specs.declared.TaylorReport.{TaylorReport}
-use Rattle.taylor_job.specs.declared.TaylorAnswer.{TaylorAnswer}
-use Rattle.taylor_job.specs.declared.TaylorAnswer.TheVariants.{Refusal, Result}
+use Rattle.taylor_job.specs.Calls.{TaylorAnswer}
 use Rattle.demand_3.specs.Products.{field_at, products}
+use Rattle.checks.specs.Reasons.{Sound, Refused}
+use Rattle.std.specs.Prelude.{Ok}
+use Rattle.checks.specs.declared.Reason.TheVariants.{VectorNotFinite, NoAdmissibleRow, SubstepLimit, DegreeRange}
 
 -- the norm of the generator
 abbrev pub norm_of : Augmented → Float
@@ -73,26 +74,26 @@ pub record TaylorCost (tau : Float) (cap : ℕ) (b : Augmented) (runs : ℕ) (st
 
 -- 25 refuses with x: no check in front of it holds, and no row of the unshifted plan up to the cap is admissible; x is the argument
 pub record NoRowFits (cs : List Check) (tau : Float) (cap : ℕ) (norm x : Float) : Type 0 where
-  pub earlier : Sound ≡ first (before 25 cs)
+  pub earlier : Sound ≡ first (before NoAdmissibleRow cs)
   pub none : (j : ℕ) → j < 22 → row_fits cap (asked tau norm) j ≡ false
   pub told : x ≡ asked tau norm
 
 -- a call is refused by 25 exactly so
 abbrev pub Exactly25 : Call TaylorAnswer → List Check → Float → ℕ → Float → Type 0
-Exactly25 c cs tau cap norm = (x : Float) → (c.answer ≡ Refusal 25 x → NoRowFits cs tau cap norm x) × (NoRowFits cs tau cap norm x → c.answer ≡ Refusal 25 x)
+Exactly25 c cs tau cap norm = (x : Float) → (c.answer ≡ Refused NoAdmissibleRow x → NoRowFits cs tau cap norm x) × (NoRowFits cs tau cap norm x → c.answer ≡ Refused NoAdmissibleRow x)
 
 -- 33 refuses with x (document 02, N7): no check in front of it holds, and the highest degree is not 1 to 30; x is NaN
 pub record DegreeRefused (cs : List Check) (cap : ℕ) (x : Float) : Type 0 where
-  pub earlier : Sound ≡ first (before 33 cs)
+  pub earlier : Sound ≡ first (before DegreeRange cs)
   pub outside : (cap ≡ 0) ⊎ (30 < cap)
   pub told : x ≡ nan
 
 abbrev pub Exactly33 : Call TaylorAnswer → List Check → ℕ → Type 0
-Exactly33 c cs cap = (x : Float) → (c.answer ≡ Refusal 33 x → DegreeRefused cs cap x) × (DegreeRefused cs cap x → c.answer ≡ Refusal 33 x)
+Exactly33 c cs cap = (x : Float) → (c.answer ≡ Refused DegreeRange x → DegreeRefused cs cap x) × (DegreeRefused cs cap x → c.answer ≡ Refused DegreeRange x)
 
 -- 17 refuses with x (document 01; of an action document 02, N2): no check in front of it holds, and x is the first value that is not finite
 pub record ValueRefused (cs : List Check) (values : List Float) (x : Float) : Type 0 where
-  pub earlier : Sound ≡ first (before 17 cs)
+  pub earlier : Sound ≡ first (before VectorNotFinite cs)
   pub place : ℕ
   pub below : place < length values
   pub not_finite : is_finite (at values place) ≡ false
@@ -100,12 +101,12 @@ pub record ValueRefused (cs : List Check) (values : List Float) (x : Float) : Ty
   pub told : x ≡ at values place
 
 abbrev pub Exactly17 : Call TaylorAnswer → List Check → List Float → Type 0
-Exactly17 c cs values = (x : Float) → (c.answer ≡ Refusal 17 x → ValueRefused cs values x) × (ValueRefused cs values x → c.answer ≡ Refusal 17 x)
+Exactly17 c cs values = (x : Float) → (c.answer ≡ Refused VectorNotFinite x → ValueRefused cs values x) × (ValueRefused cs values x → c.answer ≡ Refused VectorNotFinite x)
 
 -- a Taylor call on these vectors: what it did where it gave a result; 33, 17 and 25; and never 27, which is of Krylov runs
 pub record TaylorClaim (c : Call TaylorAnswer) (cs : List Check) (tau : Float) (cap : ℕ) (vectors : List Float) (b : Augmented) (runs : ℕ) (start : ℕ → List Float) : Type 0 where
-  pub accepted : {r : TaylorReport} → c.answer ≡ Result r → TaylorCost tau cap b runs start c.output r
+  pub accepted : {r : TaylorReport} → c.answer ≡ Ok r → TaylorCost tau cap b runs start c.output r
   pub no_degree : Exactly33 c cs cap
   pub no_value : Exactly17 c cs vectors
   pub no_plan : Exactly25 c cs tau cap (norm_of b)
-  pub no_limit : (x : Float) → c.answer ≡ Refusal 27 x → ⊥
+  pub no_limit : (x : Float) → c.answer ≡ Refused SubstepLimit x → ⊥

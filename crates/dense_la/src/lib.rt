@@ -45,6 +45,7 @@ fn series(a: f64) -> f64
 {
     let mut result = 1.0;
     let mut term = 1.0;
+    // d is what a term is divided by
     for d in 1..=18u32 {
         term = matmul(term, a) * (1.0 / d as f64);
         result += term;

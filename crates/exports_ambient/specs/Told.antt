@@ -2,6 +2,7 @@
 use Rattle.std.specs.Prelude.{List, ℕ, Float}
 use Rattle.std.specs.Float.{nan}
 use Rattle.doubles.specs.F64.{+0}
+use Rattle.checks.specs.Reasons.{number}
 use Rattle.ambient_turns.specs.declared.AmbientAnswer.{AmbientAnswer}
 use Rattle.ambient_turns.specs.declared.AmbientAnswer.TheVariants.{Refusal, NotANumber, Logged}
 use Rattle.ambient_turns.specs.Ambient.{Results, Logging}
@@ -17,7 +18,7 @@ ambient_numbers k x i = record { number = k; value = x; record_number = i }
 
 -- a refusal with its record, 0 before any; a NaN temperature, which has no number, with NaN and its record; all done
 unfoldable pub ambient_told : AmbientAnswer → AmbientNumbers
-ambient_told (Refusal k x i) = ambient_numbers k x i
+ambient_told (Refusal r i) = ambient_numbers (number r.reason) r.value i
 ambient_told (NotANumber i) = ambient_numbers 0 nan i
 ambient_told Logged = ambient_numbers 0 +0 0
 

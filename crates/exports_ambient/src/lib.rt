@@ -17,10 +17,10 @@ fn ambient_told(answer: AmbientAnswer, value: &mut f64, record: &mut u32) -> u32
     ensures { ambient_numbers result value.new «record».new ≡ ambient_told answer }
 {
     match answer {
-        AmbientAnswer::Refusal(k, x, i) => {
-            *value = x;
+        AmbientAnswer::Refusal(r, i) => {
+            *value = r.value;
             *record = i;
-            k
+            r.reason.number()
         }
         AmbientAnswer::NotANumber(i) => {
             *value = float::not_a_number();

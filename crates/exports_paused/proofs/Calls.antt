@@ -13,8 +13,7 @@ use Rattle.lists.specs.Window.{window, splice}
 use Rattle.lists.proofs.Window.{length_window, splice_whole, splice_nil, splice_parts}
 use Rattle.checks.specs.First.{refuse, first}
 use Rattle.checks.proofs.First.{and_then, first_append, sound_append}
-use Rattle.checks.specs.declared.Checked.{Checked}
-use Rattle.checks.specs.declared.Checked.TheVariants.{Sound, Refused}
+use Rattle.checks.specs.First.{Checked}
 use Rattle.general_operator.specs.Csr.{Csr}
 use Rattle.general_operator.specs.Checks.{matrix_checks}
 use Rattle.general_operator.proofs.Sound.{shape_sound}
@@ -23,37 +22,38 @@ use Rattle.generator_action.specs.Generator.{forward}
 use Rattle.taylor_schedule.proofs.Stored.{quotients_rows}
 use Rattle.krylov_job.specs.KrylovCall.{krylov_checks, krylov_checks_by}
 use Rattle.krylov_job.specs.declared.KrylovPhiOptions.{KrylovPhiOptions}
-use Rattle.paused_run.specs.Paused.{Job, Input, PausedCall, leaves, rows, degree, field_checks, start_checks, start_unless, start, step}
+use Rattle.paused_run.specs.Paused.{Job, Input, PausedCall, leaves, rows, degree, field_checks, start_checks, StartAnswer, start_unless, start, StepAnswer, step}
 use Rattle.paused_run.specs.declared.PausedRun.{PausedRun}
-use Rattle.paused_run.specs.declared.StartAnswer.{StartAnswer}
-use Rattle.paused_run.specs.declared.StepAnswer.{StepAnswer}
 use Rattle.exports_paused.specs.Told.{fits, run_of, State, told, start_state, step_state, state_checks, start_told, step_told}
+use Rattle.checks.specs.Reasons.{Sound, Refused}
+use Rattle.std.specs.Prelude.{Ok, Err}
+use Rattle.checks.specs.declared.Reason.TheVariants.{WorkLength}
 
 -- ---- the last check of a list
 module _ (r : Checked) where
   -- does not hold
-  passed_last : (b : Bool) → b ≡ true → and_then r (first (refuse 26 (not b) nan ∷ [])) ≡ r
+  passed_last : (b : Bool) → b ≡ true → and_then r (first (refuse WorkLength (not b) nan ∷ [])) ≡ r
   unfolding and_then first
   passed_last b e = rw e (go r)
     where
       go : (r : Checked) → and_then r Sound ≡ r
-      go (Refused k x) = refl
-      go Sound = refl
+      go (Err r) = refl
+      go (Ok _) = refl
 
   -- holds, or one before it of the same number
-  twice : (a b : Bool) → b ≡ false → and_then r (first (refuse 26 a nan ∷ refuse 26 (not b) nan ∷ [])) ≡ and_then r (first (refuse 26 true nan ∷ []))
+  twice : (a b : Bool) → b ≡ false → and_then r (first (refuse WorkLength a nan ∷ refuse WorkLength (not b) nan ∷ [])) ≡ and_then r (first (refuse WorkLength true nan ∷ []))
   unfolding and_then first
   twice true b e = refl
   twice false b e = rw e refl
 
   -- holds where those before it pass
-  held_last : (a : Bool) → (Sound ≡ r → a ≡ true) → and_then r (first (refuse 26 a nan ∷ [])) ≡ and_then r (first (refuse 26 true nan ∷ []))
+  held_last : (a : Bool) → (Sound ≡ r → a ≡ true) → and_then r (first (refuse WorkLength a nan ∷ [])) ≡ and_then r (first (refuse WorkLength true nan ∷ []))
   unfolding and_then
   held_last a h = go r h
     where
-      go : (r : Checked) → (Sound ≡ r → a ≡ true) → and_then r (first (refuse 26 a nan ∷ [])) ≡ and_then r (first (refuse 26 true nan ∷ []))
-      go (Refused k x) h = refl
-      go Sound h = rw (h refl) refl
+      go : (r : Checked) → (Sound ≡ r → a ≡ true) → and_then r (first (refuse WorkLength a nan ∷ [])) ≡ and_then r (first (refuse WorkLength true nan ∷ []))
+      go (Err r) h = refl
+      go (Ok _) h = rw (h refl) refl
 
 none_left : (l : List Float) → length l ≡ zero → l ≡ []
 none_left [] e = refl
@@ -73,16 +73,16 @@ module _ (o : KrylovPhiOptions) (j : Job) (out w₀ field numbers : List Float) 
   pub checks_fit : fits numbers counts ≡ true
       → first (start_checks o j (length out) (length w₀) (length field) ++ state_checks numbers counts) ≡ first (start_checks o j (length out) (length w₀) (length field))
   unfolding state_checks
-  checks_fit e = first_append (start_checks o j (length out) (length w₀) (length field)) (refuse 26 (not (fits numbers counts)) nan ∷ []) ∙ passed_last _ (fits numbers counts) e
+  checks_fit e = first_append (start_checks o j (length out) (length w₀) (length field)) (refuse WorkLength (not (fits numbers counts)) nan ∷ []) ∙ passed_last _ (fits numbers counts) e
 
-  never : (r : Checked) → Sound ≡ and_then r (first (refuse 26 true nan ∷ [])) → ⊥
+  never : (r : Checked) → Sound ≡ and_then r (first (refuse WorkLength true nan ∷ [])) → ⊥
   unfolding and_then first
-  never (Refused k x) e =
-      let f : Sound ≡ Refused k x = e in
+  never (Err r) e =
+      let f : Sound ≡ Err r = e in
       let z : zero ≡ 1 = cc in
       absurd (omega (arith, z))
-  never Sound e =
-      let f : Sound ≡ Refused 26 nan = e in
+  never (Ok _) e =
+      let f : Sound ≡ Refused WorkLength nan = e in
       let z : zero ≡ 1 = cc in
       absurd (omega (arith, z))
 
@@ -97,7 +97,7 @@ module _ (o : KrylovPhiOptions) (j : Job) (out w₀ field numbers : List Float) 
   checks_not e h =
       let K = krylov_checks j.g j.tau j.count j.w o (length out) (length w₀) in
       record {
-        by = and_then (first K) (first (refuse 26 true nan ∷ []));
+        by = and_then (first K) (first (refuse WorkLength true nan ∷ []));
         without = first_append K _ ∙ held_last (first K) _ (λ s. ap not (ne_eqb 0 (rows j + degree j) (λ z. absurd (omega (arith, z, h s)))));
         with_all = ap first (append_assoc K _ _) ∙ first_append K _ ∙ twice (first K) _ (fits numbers counts) e;
         refused = never (first K);
@@ -112,8 +112,8 @@ module _ (o : KrylovPhiOptions) (j : Job) (out w₀ field numbers : List Float) 
   refused_both : (r : Checked) → (Sound ≡ r → ⊥) → {c : PausedCall StartAnswer} → c ≡ start_unless r o j out w₀ []
       → told (start_state c.answer numbers counts) c.output c.memory field ≡ told (start_state (start_unless r o j out w₀ field).answer numbers counts) (start_unless r o j out w₀ field).output (start_unless r o j out w₀ field).memory (start_unless r o j out w₀ field).field
   unfolding start_unless
-  refused_both (Refused k x) n h = ap (λ (x : PausedCall StartAnswer). told (start_state x.answer numbers counts) x.output x.memory field) h
-  refused_both Sound n h = absurd (n refl)
+  refused_both (Err r) n h = ap (λ (x : PausedCall StartAnswer). told (start_state x.answer numbers counts) x.output x.memory field) h
+  refused_both (Ok _) n h = absurd (n refl)
 
   pub told_not : {c : PausedCall StartAnswer} → fits numbers counts ≡ false → (Sound ≡ first (krylov_checks j.g j.tau j.count j.w o (length out) (length w₀)) → 0 < rows j) → c ≡ start o j out w₀ []
       → told (start_state c.answer numbers counts) c.output c.memory field ≡ start_told o j out w₀ field numbers counts

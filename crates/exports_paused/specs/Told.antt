@@ -7,10 +7,11 @@ use Rattle.krylov_advance.specs.Run.{empty_report}
 use Rattle.krylov_job.specs.declared.KrylovPhiOptions.{KrylovPhiOptions}
 use Rattle.paused_run.specs.Paused.{Job, Input, start_checks, start_unless, step}
 use Rattle.paused_run.specs.declared.PausedRun.{PausedRun}
-use Rattle.paused_run.specs.declared.StartAnswer.{StartAnswer}
-use Rattle.paused_run.specs.declared.StartAnswer.TheVariants as started
-use Rattle.paused_run.specs.declared.StepAnswer.{StepAnswer}
-use Rattle.paused_run.specs.declared.StepAnswer.TheVariants as stepped
+use Rattle.paused_run.specs.Paused.{StartAnswer}
+use Rattle.paused_run.specs.Paused.{StepAnswer}
+use Rattle.std.specs.Prelude.{Ok, Err}
+use Rattle.checks.specs.Reasons.{number}
+use Rattle.checks.specs.declared.Reason.TheVariants.{WorkLength}
 
 -- ---- a run's doubles and numbers, in this order
 abbrev pub numbers_of : PausedRun → List Float
@@ -101,16 +102,18 @@ written k x s numbers counts = if fits numbers counts then state k x (numbers_of
 
 -- a refused start writes no state; the estimate of a run that began is +0
 unfoldable pub start_state : StartAnswer → List Float → List ℕ → State
-start_state (started.Refusal k x) numbers counts = state k x numbers counts
-start_state (started.Started s) numbers counts = written 0 s.report.est_error s numbers counts
+start_state (Err r) numbers counts = state (number r.reason) r.value numbers counts
+start_state (Ok s) numbers counts = written 0 s.report.est_error s numbers counts
 
 -- 27 to 29 come with a substep, every other refusal before it: that writes no state
 abbrev pub ran : ℕ → Bool
 ran k = ltb 26 k && ltb k 30
 
 unfoldable pub step_state : StepAnswer → List Float → List ℕ → State
-step_state (stepped.Refusal k x s) numbers counts = if ran k then written k x s numbers counts else state k x numbers counts
-step_state (stepped.Stepped s) numbers counts = written 0 s.report.est_error s numbers counts
+step_state (Err r) numbers counts =
+    let k = number r.refusal.reason in
+    if ran k then written k r.refusal.value r.run numbers counts else state k r.refusal.value numbers counts
+step_state (Ok s) numbers counts = written 0 s.report.est_error s numbers counts
 
 -- with what the three lent slices of doubles hold
 pub record Told : Type 0 where
@@ -124,7 +127,7 @@ told s output memory field = record { state = s; output = output; memory = memor
 
 -- 26 also where the state's slices do not fit it
 unfoldable pub state_checks : List Float → List ℕ → List Check
-state_checks numbers counts = refuse 26 (not (fits numbers counts)) nan ∷ []
+state_checks numbers counts = refuse WorkLength (not (fits numbers counts)) nan ∷ []
 
 unfoldable pub start_told : KrylovPhiOptions → Job → List Float → List Float → List Float → List Float → List ℕ → Told
 start_told o j output memory field numbers counts =

@@ -8,8 +8,9 @@ ghost use Rattle.generator_action.specs.Generator.{forward};
 ghost use Rattle.answers.specs.Told.{options};
 ghost use Rattle.exports_paused.specs.Told.{numbers_of, flag, counts_of, fits, held, no_run, run_of, state, written, start_state, ran, step_state, told, start_told, tolerance, step_told};
 
+use checks::Refusal;
 use krylov_advance::KrylovPhiReport;
-use paused_run::{PausedRun, StartAnswer, StepAnswer};
+use paused_run::{PausedRun, StepRefusal};
 use pow2::Scale;
 
 // Whether the slices of a state have its lengths.
@@ -137,7 +138,7 @@ pub fn write_run(run: PausedRun, numbers: &mut [f64], counts: &mut [usize])
 
 // The result is 0 or the refusal's number; `value` is the estimate or the refusal's double.
 pub fn start_state(
-    answer: StartAnswer,
+    answer: Result<PausedRun, Refusal>,
     numbers: &mut [f64],
     counts: &mut [usize],
     value: &mut f64,
@@ -145,11 +146,11 @@ pub fn start_state(
     ensures { state result value.new numbers.new counts.new ≡ start_state answer numbers.old counts.old }
 {
     match answer {
-        StartAnswer::Refusal(k, x) => {
-            *value = x;
-            k
+        Err(r) => {
+            *value = r.value;
+            r.reason.number()
         }
-        StartAnswer::Started(run) => {
+        Ok(run) => {
             write_run(run, numbers, counts);
             *value = run.report.est_error;
             0
@@ -166,7 +167,7 @@ fn ran(k: u32) -> bool
 
 // The same of a step; a refusal before the substep writes no state.
 pub fn step_state(
-    answer: StepAnswer,
+    answer: Result<PausedRun, StepRefusal>,
     numbers: &mut [f64],
     counts: &mut [usize],
     value: &mut f64,
@@ -174,14 +175,15 @@ pub fn step_state(
     ensures { state result value.new numbers.new counts.new ≡ step_state answer numbers.old counts.old }
 {
     match answer {
-        StepAnswer::Refusal(k, x, run) => {
-            *value = x;
+        Err(r) => {
+            let k = r.refusal.reason.number();
+            *value = r.refusal.value;
             if ran(k) {
-                write_run(run, numbers, counts);
+                write_run(r.run, numbers, counts);
             }
             k
         }
-        StepAnswer::Stepped(run) => {
+        Ok(run) => {
             write_run(run, numbers, counts);
             *value = run.report.est_error;
             0

@@ -13,11 +13,9 @@ use lib.Ieee.{Float, nan}
 use borrow.Author.Tests.{ltb-true, ltb-false, ne_eqb, eqb-true, not-false}
 use Rattle.std.specs.Prelude.{Option}
 use Rattle.doubles.specs.F64.{nat}
-use Rattle.checks.specs.First.{Check, refuse, first, before}
-use Rattle.checks.specs.declared.Checked.{Checked}
-use Rattle.checks.specs.declared.Checked.TheVariants.{Sound, Refused}
+use Rattle.checks.specs.First.{Check, refuse, first, Checked, same, before}
 use Rattle.checks.proofs.First.{and_then, first_append, sound_append, sound_cons}
-use Rattle.checks.proofs.Numbers.{before_append, before_number}
+use Rattle.checks.proofs.Numbers.{before_append, before_number, alike_before}
 use Rattle.general_operator.specs.Csr.{Csr, csr, row_sum_norm}
 use Rattle.general_operator.specs.Checks.{shape_checks, row_checks, entry_checks, matrix_checks}
 use Rattle.general_operator.proofs.Sound.{or_false}
@@ -39,6 +37,10 @@ use Rattle.byte_arrays.proofs.Forward.{forward_refuses}
 use Rattle.paused_byte_calls.specs.Inner.{job, called_run}
 use Rattle.paused_byte_calls.specs.declared.RunCall.{RunCall}
 use Rattle.paused_byte_calls.specs.declared.RunCall.TheVariants.{Start, Step}
+use Rattle.checks.specs.Reasons.{number, Sound, Refused}
+use Rattle.std.specs.Prelude.{Ok, Err}
+use Rattle.checks.specs.declared.Reason.TheVariants.{RowStartsLength, MassLength, VectorCount, OutputLength, VectorLength, WorkLength, SubstepLimit, LengthsRejected, NoInnerPlan, RunEnded}
+use Rattle.checks.specs.declared.Reason.{Reason}
 
 -- ---- all checks of a call, by output, working memory, the field's length and the state
 pub checks : RunCall → Job → List Float → List Float → ℕ → List Float → List ℕ → List Check
@@ -46,7 +48,7 @@ checks (Start tol m limit) j output memory field numbers counts = start_checks (
 checks (Step with_tol tol) j output memory field numbers counts = step_checks (run_of numbers counts) field (record { tolerance = tolerance with_tol tol; job = j; output = output; memory = memory })
 
 -- ---- none of them is numbered 27 to 29, so that a refusal by one of them writes no state
-not_27 : (a : Csr) (mass : Mass) → (before 27 (generator_checks a mass) ≡ generator_checks a mass) × (before 28 (generator_checks a mass) ≡ generator_checks a mass) × (before 29 (generator_checks a mass) ≡ generator_checks a mass)
+not_27 : (a : Csr) (mass : Mass) → (before SubstepLimit (generator_checks a mass) ≡ generator_checks a mass) × (before LengthsRejected (generator_checks a mass) ≡ generator_checks a mass) × (before NoInnerPlan (generator_checks a mass) ≡ generator_checks a mass)
 unfolding before generator_checks bound_checks mass_checks sum_checks norm_checks matrix_checks shape_checks row_checks entry_checks
 not_27 a none = (refl, refl, refl)
 not_27 a (some mass) = (refl, refl, refl)
@@ -62,20 +64,20 @@ behind_matrix s field t j output memory =
     ++ run_checks n j.tau d (further n j.w) s.eta (bound j.tau (row_sum_norm j.g.matrix)) (length memory) (krylov_need n d M j.g.stored))
 
 step_on : (s : PausedRun) (field : ℕ) (t : Option Float) (j : Job) (output memory : List Float)
-    → step_checks s field (record { tolerance = t; job = j; output = output; memory = memory }) ≡ refuse 31 (over s) nan ∷ (j.g.checks ++ (behind_matrix s field t j output memory ++ field_checks field (rows j + degree j)))
+    → step_checks s field (record { tolerance = t; job = j; output = output; memory = memory }) ≡ refuse RunEnded (over s) nan ∷ (j.g.checks ++ (behind_matrix s field t j output memory ++ field_checks field (rows j + degree j)))
 unfolding step_checks krylov_checks_by
-step_on s field t j output memory = ap (λ (l : List Check). refuse 31 (over s) nan ∷ l) (append_assoc j.g.checks (behind_matrix s field t j output memory) (field_checks field (rows j + degree j)))
+step_on s field t j output memory = ap (λ (l : List Check). refuse RunEnded (over s) nan ∷ l) (append_assoc j.g.checks (behind_matrix s field t j output memory) (field_checks field (rows j + degree j)))
 
-behind_27 : (s : PausedRun) (field : ℕ) (t : Option Float) (j : Job) (output memory : List Float) → (let l = behind_matrix s field t j output memory ++ field_checks field (rows j + degree j) in (before 27 l ≡ l) × (before 28 l ≡ l) × (before 29 l ≡ l))
+behind_27 : (s : PausedRun) (field : ℕ) (t : Option Float) (j : Job) (output memory : List Float) → (let l = behind_matrix s field t j output memory ++ field_checks field (rows j + degree j) in (before SubstepLimit l ≡ l) × (before LengthsRejected l ≡ l) × (before NoInnerPlan l ≡ l))
 unfolding before vector_checks_by count_checks time_checks length_checks finite_checks option_checks run_checks magnitude_checks argument_checks memory_checks field_checks other_checks
 behind_27 s field t j output memory = (refl, refl, refl)
 
-other : (k : ℕ) (b : Bool) (g l : List Check) {j : ℕ} {x : Float} → eqb 31 k ≡ false → before k g ≡ g → before k l ≡ l → Refused j x ≡ first (refuse 31 b nan ∷ (g ++ l)) → j ≡ k → ⊥
+other : (k : Reason) (b : Bool) (g l : List Check) {j : Reason} {x : Float} → same RunEnded k ≡ false → before k g ≡ g → before k l ≡ l → Refused j x ≡ first (refuse RunEnded b nan ∷ (g ++ l)) → number j ≡ number k → ⊥
 unfolding before
-other k b g l e eg el f = before_number k (refuse 31 b nan ∷ (g ++ l)) (f ∙ ap first (sym none))
+other k b g l {j} e eg el f n = before_number j (refuse RunEnded b nan ∷ (g ++ l)) (f ∙ ap first (sym (alike_before j k n (refuse RunEnded b nan ∷ (g ++ l)) ∙ none))) refl
   where
-    none : before k (refuse 31 b nan ∷ (g ++ l)) ≡ refuse 31 b nan ∷ (g ++ l)
-    none = rw e (ap (λ (r : List Check). refuse 31 b nan ∷ r) (before_append k g l eg ∙ ap (λ (r : List Check). g ++ r) el))
+    none : before k (refuse RunEnded b nan ∷ (g ++ l)) ≡ refuse RunEnded b nan ∷ (g ++ l)
+    none = rw e (ap (λ (r : List Check). refuse RunEnded b nan ∷ r) (before_append k g l eg ∙ ap (λ (r : List Check). g ++ r) el))
 
 not_ran : (k : ℕ) → (k ≡ 27 → ⊥) → (k ≡ 28 → ⊥) → (k ≡ 29 → ⊥) → ran k ≡ false
 not_ran k a b c = go (ltb 26 k) refl (ltb k 30) refl
@@ -85,18 +87,18 @@ not_ran k a b c = go (ltb 26 k) refl (ltb k 30) refl
     go true e false f = refl
     go true e true f = absurd (omega (arith, ltb-true 26 k e, ltb-true k 30 f, a, b, c))
 
-early : (s : PausedRun) (field : ℕ) (t : Option Float) (a : Csr) (mass : Mass) (tau : Float) (count : ℕ) (w output memory : List Float) {k : ℕ} {x : Float}
-    → first (step_checks s field (record { tolerance = t; job = job a mass tau count w; output = output; memory = memory })) ≡ Refused k x → ran k ≡ false
+early : (s : PausedRun) (field : ℕ) (t : Option Float) (a : Csr) (mass : Mass) (tau : Float) (count : ℕ) (w output memory : List Float) {k : Reason} {x : Float}
+    → first (step_checks s field (record { tolerance = t; job = job a mass tau count w; output = output; memory = memory })) ≡ Refused k x → ran (number k) ≡ false
 early s field t a mass tau count w output memory {k} {x} e =
     let j = job a mass tau count w in
     let l = behind_matrix s field t j output memory ++ field_checks field (rows j + degree j) in
     let g = generator_checks a mass in
-    let f : Refused k x ≡ first (refuse 31 (over s) nan ∷ (g ++ l)) = sym e ∙ ap first (step_on s field t j output memory) in
-    not_ran k (other 27 (over s) g l refl (not_27 a mass).0 (behind_27 s field t j output memory).0 f) (other 28 (over s) g l refl (not_27 a mass).1 (behind_27 s field t j output memory).1 f) (other 29 (over s) g l refl (not_27 a mass).2 (behind_27 s field t j output memory).2 f)
+    let f : Refused k x ≡ first (refuse RunEnded (over s) nan ∷ (g ++ l)) = sym e ∙ ap first (step_on s field t j output memory) in
+    not_ran (number k) (other SubstepLimit (over s) g l refl (not_27 a mass).0 (behind_27 s field t j output memory).0 f) (other LengthsRejected (over s) g l refl (not_27 a mass).1 (behind_27 s field t j output memory).1 f) (other NoInnerPlan (over s) g l refl (not_27 a mass).2 (behind_27 s field t j output memory).2 f)
 
 -- ---- a refused call changes nothing
-pub refused : (call : RunCall) (a : Csr) (mass : Mass) (tau : Float) (count : ℕ) (w output memory field numbers : List Float) (counts : List ℕ) {k : ℕ} {x : Float}
-    → first (checks call (job a mass tau count w) output memory (length field) numbers counts) ≡ Refused k x → called_run call (job a mass tau count w) output memory field numbers counts ≡ told (state k x numbers counts) output memory field
+pub refused : (call : RunCall) (a : Csr) (mass : Mass) (tau : Float) (count : ℕ) (w output memory field numbers : List Float) (counts : List ℕ) {k : Reason} {x : Float}
+    → first (checks call (job a mass tau count w) output memory (length field) numbers counts) ≡ Refused k x → called_run call (job a mass tau count w) output memory field numbers counts ≡ told (state (number k) x numbers counts) output memory field
 unfolding checks called_run start_told start_unless start_state step_told step step_unless step_state
 refused (Start tol m limit) a mass tau count w output memory field numbers counts e = rw e refl
 refused (Step with_tol tol) a mass tau count w output memory field numbers counts e = rw (e, early (run_of numbers counts) (length field) (tolerance with_tol tol) a mass tau count w output memory e) refl
@@ -117,8 +119,8 @@ unfolding and_then
 same_tail xs ys zs h = first_append xs ys ∙ go (first xs) refl ∙ sym (first_append xs zs)
   where
     go : (r : Checked) → r ≡ first xs → and_then (first xs) (first ys) ≡ and_then (first xs) (first zs)
-    go Sound e = rw (← e) (h e)
-    go (Refused k x) e = rw (← e) refl
+    go (Ok _) e = rw (← e) (h e)
+    go (Err r) e = rw (← e) refl
 
 few_count : (g : Generator) (tau : Float) (count : ℕ) (w : List Float) (eta : Float) (of_lengths : List Check) (o : KrylovPhiOptions) (memory : ℕ) → Sound ≡ first (krylov_checks_by g tau count w eta of_lengths o memory) → count ≤ 4
 unfolding krylov_checks_by vector_checks_by count_checks
@@ -175,11 +177,11 @@ module _ {cf cn ck : ℕ} {field field₁ numbers numbers₁ : List Float} {coun
   same_checks (Start tol m limit) j output memory few =
       let K = krylov_checks j.g j.tau j.count j.w (options tol m limit) (length output) (length memory) in
       ap first (append_assoc K _ _)
-      ∙ same_tail K _ _ (λ e. let x = sym (same_field j few (few_count _ _ _ _ _ _ _ _ e)) in let y = sym same_fits in λ i. first (refuse 26 (not (x i)) nan ∷ refuse 26 (not (y i)) nan ∷ []))
+      ∙ same_tail K _ _ (λ e. let x = sym (same_field j few (few_count _ _ _ _ _ _ _ _ e)) in let y = sym same_fits in λ i. first (refuse WorkLength (not (x i)) nan ∷ refuse WorkLength (not (y i)) nan ∷ []))
       ∙ ap first (sym (append_assoc K _ _))
   same_checks (Step with_tol tol) j output memory few =
       ap (λ (s : PausedRun). first (step_checks s (length field) (record { tolerance = tolerance with_tol tol; job = j; output = output; memory = memory }))) (sym same_run)
-      ∙ same_tail (refuse 31 (over (run_of numbers₁ counts₁)) nan ∷ of_call (run_of numbers₁ counts₁) (tolerance with_tol tol) j output memory) _ _ (λ e. let x = sym (same_field j few (few_count _ _ _ _ _ _ _ _ (sound_cons _ _ _ _ e).1)) in λ i. first (refuse 26 (not (x i)) nan ∷ []))
+      ∙ same_tail (refuse RunEnded (over (run_of numbers₁ counts₁)) nan ∷ of_call (run_of numbers₁ counts₁) (tolerance with_tol tol) j output memory) _ _ (λ e. let x = sym (same_field j few (few_count _ _ _ _ _ _ _ _ (sound_cons _ _ _ _ e).1)) in λ i. first (refuse WorkLength (not (x i)) nan ∷ []))
 
   -- where all of them pass, nothing was cut
   pub whole_lent : (call : RunCall) (j : Job) (output memory : List Float) → rows j ≤ 64 → Sound ≡ first (checks call j output memory (length field₁) numbers₁ counts₁) → ((field₁ ≡ field) × (cf ≤ 512)) × Whole
@@ -208,10 +210,10 @@ module _ (call : RunCall) (n : ℕ) (vals : List Float) (few : n ≤ 64) (entrie
 
   front : RunCall → List Check
   front (Start tol m limit) = []
-  front (Step with_tol tol) = refuse 31 (over (run_of numbers counts)) nan ∷ []
+  front (Step with_tol tol) = refuse RunEnded (over (run_of numbers counts)) nan ∷ []
 
   limit : Check
-  limit = refuse 12 (eqb count 0 || ltb 4 count) (nat count)
+  limit = refuse VectorCount (eqb count 0 || ltb 4 count) (nat count)
 
   -- behind 16
   others : RunCall → Job → List Check
@@ -234,29 +236,29 @@ module _ (call : RunCall) (n : ℕ) (vals : List Float) (few : n ≤ 64) (entrie
       ++ field_checks field (rows j + degree j)))
 
   ordered : (call : RunCall) (s c : List ℕ) (u : Mass) (w output : List Float) → (let j = over_lists s c u w in first (checks call j output memory field numbers counts)
-      ≡ first (front call ++ (generator_checks (csr n s c vals) u ++ (limit ∷ (time_checks tau ++ (refuse 15 (not (eqb (length output) (rows j))) (nat (length output)) ∷ refuse 16 (not (eqb (length w) (count * rows j))) (nat (length w)) ∷ others call j))))))
+      ≡ first (front call ++ (generator_checks (csr n s c vals) u ++ (limit ∷ (time_checks tau ++ (refuse OutputLength (not (eqb (length output) (rows j))) (nat (length output)) ∷ refuse VectorLength (not (eqb (length w) (count * rows j))) (nat (length w)) ∷ others call j))))))
   unfolding checks front limit others start_checks step_checks krylov_checks krylov_checks_by vector_checks_by count_checks time_checks length_checks finite_checks other_checks
   ordered (Start tol m most) s c u w output = ap first (append_assoc (krylov_checks (forward (csr n s c vals) u) tau count w (options tol m most) (length output) (length memory)) _ _ ∙ append_assoc (generator_checks (csr n s c vals) u) _ _)
-  ordered (Step with_tol tol) s c u w output = ap (λ (l : List Check). first (refuse 31 (over (run_of numbers counts)) nan ∷ l)) (append_assoc (generator_checks (csr n s c vals) u) _ _)
+  ordered (Step with_tol tol) s c u w output = ap (λ (l : List Check). first (refuse RunEnded (over (run_of numbers counts)) nan ∷ l)) (append_assoc (generator_checks (csr n s c vals) u) _ _)
 
   in_order : (s c : List ℕ) (u : Mass) (w output : List Float) → (let j = over_lists s c u w in first (checks call j output memory field numbers counts)
-      ≡ first (front call ++ (generator_checks (csr n s c vals) u ++ (limit ∷ (time_checks tau ++ (refuse 15 (not (eqb (length output) (rows j))) (nat (length output)) ∷ refuse 16 (not (eqb (length w) (count * rows j))) (nat (length w)) ∷ others call j))))))
+      ≡ first (front call ++ (generator_checks (csr n s c vals) u ++ (limit ∷ (time_checks tau ++ (refuse OutputLength (not (eqb (length output) (rows j))) (nat (length output)) ∷ refuse VectorLength (not (eqb (length w) (count * rows j))) (nat (length w)) ∷ others call j))))))
   in_order s c u w output = ordered call s c u w output
 
-  free : (call : RunCall) → (before 1 (front call) ≡ front call) × (before 7 (front call) ≡ front call) × (before 15 (front call) ≡ front call) × (before 16 (front call) ≡ front call)
+  free : (call : RunCall) → (before RowStartsLength (front call) ≡ front call) × (before MassLength (front call) ≡ front call) × (before OutputLength (front call) ≡ front call) × (before VectorLength (front call) ≡ front call)
   unfolding before front
   free (Start tol m most) = (refl, refl, refl, refl)
   free (Step with_tol tol) = (refl, refl, refl, refl)
 
-  low : limit.number ≤ 13
+  low : number limit.reason ≤ 13
   unfolding limit
   low = omega arith
 
-  time_not_15 : before 15 (time_checks tau) ≡ time_checks tau
+  time_not_15 : before OutputLength (time_checks tau) ≡ time_checks tau
   unfolding before time_checks
   time_not_15 = refl
 
-  output_not_16 : (c : Check) → before 16 (time_checks tau ++ (refuse 15 c.holds c.reported ∷ [])) ≡ time_checks tau ++ (refuse 15 c.holds c.reported ∷ [])
+  output_not_16 : (c : Check) → before VectorLength (time_checks tau ++ (refuse OutputLength c.holds c.reported ∷ [])) ≡ time_checks tau ++ (refuse OutputLength c.holds c.reported ∷ [])
   unfolding before time_checks
   output_not_16 c = refl
 

@@ -5,9 +5,7 @@ use mathlib.Core.Path.{◌≡◌, refl, sym, ◌∙◌, ap}
 use Prim.Native.Nat.{ℕ, ◌/◌, ◌≤◌, ◌<◌}
 use lib.ListN.{length, get_or, take, drop}
 use lib.Ieee.{Float}
-use Rattle.checks.specs.First.{first}
-use Rattle.checks.specs.declared.Checked.{Checked}
-use Rattle.checks.specs.declared.Checked.TheVariants.{Sound, Refused}
+use Rattle.checks.specs.First.{first, Checked}
 use Rattle.general_operator.specs.Csr.{csr}
 use Rattle.generator_action.specs.Mass.{Mass, given}
 use Rattle.paused_run.specs.Paused.{Job, rows}
@@ -21,6 +19,7 @@ use Rattle.paused_byte_calls.specs.Replies.{Slices, slices, Reply, replies, pack
 use Rattle.paused_byte_calls.specs.Inner.{job, called_run}
 use Rattle.paused_byte_calls.specs.declared.RunCall.{RunCall}
 use Rattle.exports_paused_bytes.proofs.Checks.{checks, refused, same_checks, whole_lent, few_rows, checks_cut}
+use Rattle.std.specs.Prelude.{Ok, Err}
 
 module _ (call : RunCall) (n : ℕ) (vals : List Float) (few : n ≤ 64) (entries : length vals ≤ 512) (b : Bool) (tau : Float) (count : ℕ) (starts cols mass w out work field numbers counts : List ℕ) (len a d m p r f h k : ℕ) where
   abbrev wholes : Slices
@@ -83,10 +82,10 @@ module _ (call : RunCall) (n : ℕ) (vals : List Float) (few : n ≤ 64) (entrie
     replied_cut = go checked₁ refl
       where
         go : (c : Checked) → checked₁ ≡ c → mended (packs q₁ cuts) ≡ packs q wholes
-        go (Refused i x) e =
+        go (Err e₁) e =
             by_refusal bo bf bn bk (refused call (csr n (numbers_of (take a starts)) (numbers_of (take d cols)) vals) (given b (doubles_of (take m mass))) tau count (doubles_of (take p w)) (doubles_of (take r out)) (doubles_of work) (doubles_of (take f field)) (doubles_of (take h numbers)) (words_of (take k counts)) e)
-            (refused call (csr n (numbers_of starts) (numbers_of cols) vals) (given b (doubles_of mass)) tau count (doubles_of w) (doubles_of out) (doubles_of work) (doubles_of field) (doubles_of numbers) (words_of counts) (recut.told ∙ ap (retold (length starts / 4) (len / 8) (length out / 8) (length w / 8)) e ∙ retold_refused (length starts / 4) (len / 8) (length out / 8) (length w / 8) i x))
-        go Sound e =
+            (refused call (csr n (numbers_of starts) (numbers_of cols) vals) (given b (doubles_of mass)) tau count (doubles_of w) (doubles_of out) (doubles_of work) (doubles_of field) (doubles_of numbers) (words_of counts) (recut.told ∙ ap (retold (length starts / 4) (len / 8) (length out / 8) (length w / 8)) e ∙ retold_refused (length starts / 4) (len / 8) (length out / 8) (length w / 8) e₁.reason e₁.value))
+        go (Ok _) e =
             let z = recut.same e in
             let u = z.0.0 in
             let l = whole_lent (doubles_part field cf) (doubles_part numbers ch) (words_part counts ck) call j₁ (doubles_of (take r out)) (doubles_of work) (rows_of (numbers_of (take a starts)) (numbers_of (take d cols)) (given b (doubles_of (take m mass))) (doubles_of (take p w))) (sym e) in

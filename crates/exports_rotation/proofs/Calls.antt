@@ -15,15 +15,11 @@ use Rattle.lists.specs.Loop.{tabulate}
 use Rattle.lists.specs.Window.{window, splice}
 use Rattle.lists.proofs.Window.{splice_whole, splice_nil}
 use Rattle.checks.specs.First.{first}
-use Rattle.checks.specs.declared.Checked.{Checked}
-use Rattle.checks.specs.declared.Checked.TheVariants.{Sound, Refused}
+use Rattle.checks.specs.First.{Checked}
 use Rattle.krylov_job.specs.KrylovCall.{krylov_checks}
 use Rattle.krylov_job.specs.declared.KrylovPhiOptions.{KrylovPhiOptions}
-use Rattle.paused_run.specs.Paused.{Job, Input, PausedCall, leaves, rows, start_checks, start_unless, start}
+use Rattle.paused_run.specs.Paused.{Job, Input, PausedCall, leaves, rows, start_checks, StartAnswer, start_unless, start, StepAnswer}
 use Rattle.paused_run.specs.declared.PausedRun.{PausedRun}
-use Rattle.paused_run.specs.declared.StartAnswer.{StartAnswer}
-use Rattle.paused_run.specs.declared.StartAnswer.TheVariants.{Refusal, Started}
-use Rattle.paused_run.specs.declared.StepAnswer.{StepAnswer}
 use Rattle.rotation.specs.Unit.{empty, waiting, next_place, UnitCall, unit_call, lowest_free, room, admitted_by, admitted, join, turn_of, turn}
 use Rattle.rotation.specs.declared.Rotation.{Rotation}
 use Rattle.rotation_joins.specs.declared.Joined.{Joined}
@@ -31,6 +27,9 @@ use Rattle.rotation_turns.specs.declared.Turned.{Turned}
 use Rattle.exports_paused.specs.Told.{fits, State, start_state, step_state, told, state_checks}
 use Rattle.exports_paused.proofs.Calls.{checks_fit, checks_not}
 use Rattle.exports_rotation.specs.Told.{unit_numbers, unit_counts, unit_fits, no_unit, unit_of, UnitTold, unit_told, kept_or, told_by, join_told, turn_told, next_told, cleared, clear_told}
+use Rattle.checks.specs.Reasons.{Sound, Refused}
+use Rattle.std.specs.Prelude.{Ok, Err}
+use Rattle.checks.specs.declared.Reason.TheVariants.{UnitFull}
 
 -- ---- which is next, by the queue alone
 pub next_by : (queues : List ℕ) (places : List PausedRun) {queue : List ℕ} {p : ℕ} → length queues ≡ 144 → queue ≡ window 128 16 queues → p ≡ next_place (record { places = places; queue = queue }) → p ≡ next_told queues
@@ -74,8 +73,8 @@ module _ (units : List Float) (queues : List ℕ) where
 
   pub joins_none : unit_fits units queues ≡ false → (a : StartAnswer) (c full : PausedCall StartAnswer) → (admitted (unit_of units queues) a c full).place ≡ 16
   unfolding admitted
-  joins_none e (Refusal k x) c full = refl
-  joins_none e (Started s) c full = by_none s.ended (room (unit_of units queues)) (ap room (is_none e) ∙ no_room) (unit_of units queues) s c full
+  joins_none e (Err r) c full = refl
+  joins_none e (Ok s) c full = by_none s.ended (room (unit_of units queues)) (ap room (is_none e) ∙ no_room) (unit_of units queues) s c full
 
   pub turns_none : unit_fits units queues ≡ false → (y : List Float) (i : Input) → (turn (unit_of units queues) y i).place ≡ 16
   unfolding turn turn_of
@@ -127,7 +126,7 @@ module _ (units : List Float) (queues : List ℕ) where
     abbrev call_by : Checked → List Float → UnitCall StartAnswer
     call_by r y =
         let c = start_unless r o j out w₀ y in
-        admitted (unit_of units queues) c.answer c (leaves (Refusal 32 nan) out w₀ y)
+        admitted (unit_of units queues) c.answer c (leaves (Refused UnitFull nan) out w₀ y)
 
     abbrev told_of : UnitCall StartAnswer → List Float → UnitTold
     told_of r y = told_by (unit_call r.unit r.place (leaves r.call.answer r.call.output r.call.memory y)) (start_state r.call.answer numbers counts) units queues
@@ -135,13 +134,13 @@ module _ (units : List Float) (queues : List ℕ) where
     -- refused alike on no field
     alike : (r : Checked) → (Sound ≡ r → ⊥) → told_of (call_by r []) field ≡ told_of (call_by r field) field
     unfolding start_unless admitted
-    alike (Refused k x) h = refl
-    alike Sound h = absurd (h refl)
+    alike (Err r) h = refl
+    alike (Ok _) h = absurd (h refl)
 
     same_field : (r : Checked) → (Sound ≡ r → ⊥) → (call_by r field).call.field ≡ field
     unfolding start_unless admitted
-    same_field (Refused k x) h = refl
-    same_field Sound h = absurd (h refl)
+    same_field (Err r) h = refl
+    same_field (Ok _) h = absurd (h refl)
 
     module _ {u : Rotation} {r : Joined} {st : State} {to : ℕ} {out₁ w₁ ys y₁ : List Float} {place : ℕ} {units₁ : List Float} {queues₁ : List ℕ}
         (eu : u ≡ unit_of units queues)

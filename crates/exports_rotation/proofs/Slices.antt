@@ -16,10 +16,8 @@ use Rattle.lists.specs.Loop.{tabulate, stack}
 use Rattle.lists.specs.Window.{window}
 use Rattle.lists.proofs.Loop.{length_tabulate, tabulate_ext, tabulate_get_or}
 use Rattle.krylov_job.specs.declared.KrylovPhiOptions.{KrylovPhiOptions}
-use Rattle.paused_run.specs.Paused.{Job, Input, PausedCall, leaves, start_unless, start}
+use Rattle.paused_run.specs.Paused.{Job, Input, PausedCall, leaves, StartAnswer, start_unless, start}
 use Rattle.paused_run.specs.declared.PausedRun.{PausedRun}
-use Rattle.paused_run.specs.declared.StartAnswer.{StartAnswer}
-use Rattle.paused_run.specs.declared.StartAnswer.TheVariants.{Refusal, Started}
 use Rattle.rotation.specs.Unit.{unread, run_at, empty, next_place, UnitCall, lowest_free, room, admitted_by, admitted, join, turn_of, turn}
 use Rattle.rotation.specs.declared.Rotation.{Rotation}
 use Rattle.rotation.proofs.Queue.{has_room}
@@ -30,6 +28,9 @@ use Rattle.exports_rotation.specs.Told.{unit_numbers, unit_counts, unit_fits, he
 use Rattle.exports_rotation.specs.Slices.{in_slices, UnitSlices}
 use Rattle.exports_rotation.proofs.Units.{unit_fitting, stack_long}
 use Rattle.exports_rotation.proofs.Calls.{next_by}
+use Rattle.checks.specs.Reasons.{Refused}
+use Rattle.std.specs.Prelude.{Ok, Err}
+use Rattle.checks.specs.declared.Reason.TheVariants.{UnitFull}
 
 -- ---- a row of several
 front : {A : Type 0} (at len : ℕ) (xs ys : List A) → at + len ≤ length xs → window at len (xs ++ ys) ≡ window at len xs
@@ -137,8 +138,8 @@ module _ (u : Rotation) where
 
     joined_unit : (a : StartAnswer) (c full : PausedCall StartAnswer) → ltb (admitted u a c full).place 16 ≡ false → (admitted u a c full).unit ≡ u
     unfolding admitted
-    joined_unit (Refusal k x) c full h = refl
-    joined_unit (Started s) c full h = go s.ended (room u) refl h
+    joined_unit (Err r) c full h = refl
+    joined_unit (Ok s) c full h = go s.ended (room u) refl h
       where
         go : (d b : Bool) → room u ≡ b → ltb (admitted_by d b u s c full).place 16 ≡ false → (admitted_by d b u s c full).unit ≡ u
         go true b e h = refl
@@ -159,7 +160,7 @@ module _ (u : Rotation) where
         let r = join u o j output memory field in
         (λ k.
         let c = start_unless (checks_fit o j output memory field numbers counts e k) o j output memory field in
-        let x = admitted (same k) c.answer c (leaves (Refusal 32 nan) output memory field) in
+        let x = admitted (same k) c.answer c (leaves (Refused UnitFull nan) output memory field) in
         told_by x (start_state x.call.answer numbers counts) (unit_numbers u) (unit_counts u))
         ∙ kept_same r (joined_unit _ _ _) (start_state r.call.answer numbers counts)
 

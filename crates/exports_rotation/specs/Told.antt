@@ -6,10 +6,11 @@ use Rattle.lists.specs.Window.{window}
 use Rattle.checks.specs.First.{first}
 use Rattle.krylov_job.specs.declared.KrylovPhiOptions.{KrylovPhiOptions}
 use Rattle.paused_run.specs.Paused.{Job, Input, leaves, start_checks, start_unless}
-use Rattle.paused_run.specs.declared.StartAnswer.TheVariants.{Refusal}
 use Rattle.rotation.specs.Unit.{unread, run_at, empty, next_place, UnitCall, admitted, turn}
 use Rattle.rotation.specs.declared.Rotation.{Rotation}
 use Rattle.exports_paused.specs.Told.{numbers_of, counts_of, held, State, start_state, step_state, Told, told, state_checks}
+use Rattle.checks.specs.Reasons.{Refused}
+use Rattle.checks.specs.declared.Reason.TheVariants.{UnitFull}
 
 -- ---- the unit's doubles: those of the run in place 0, in place 1, .. in place 15; its numbers: so too, then the queue
 abbrev pub unit_numbers : Rotation → List Float
@@ -56,7 +57,7 @@ told_by r s numbers counts =
 unfoldable pub join_told : KrylovPhiOptions → Job → List Float → List Float → List Float → List Float → List ℕ → List Float → List ℕ → UnitTold
 join_told o j output memory field units queues numbers counts =
     let c = start_unless (first (start_checks o j (length output) (length memory) (length field) ++ state_checks numbers counts)) o j output memory field in
-    let r = admitted (unit_of units queues) c.answer c (leaves (Refusal 32 nan) output memory field) in
+    let r = admitted (unit_of units queues) c.answer c (leaves (Refused UnitFull nan) output memory field) in
     told_by r (start_state r.call.answer numbers counts) units queues
 
 -- the run's state is written where it was not refused early, to slices that fit it

@@ -16,7 +16,6 @@ use krylov_advance::KrylovPhiReport;
 use paused_run::PausedRun;
 use pow2::Scale;
 use rotation::Rotation;
-
 // Whether the slices of a unit have its lengths.
 fn unit_fits(numbers: &[f64], counts: &[usize]) -> bool
     ensures { result ≡ unit_fits numbers.now counts.now }
@@ -38,12 +37,9 @@ fn held_places(numbers: &[f64], counts: &[usize]) -> [PausedRun; 16]
     requires { (length numbers.now ≡ 160) × (length counts.now ≡ 144) }
     ensures { result ≡ tabulate 16 (λ p. held (window (10 * p) 10 numbers.now) (window (8 * p) 8 counts.now)) }
 {
-    let run = rotation::vacant();
-    let mut places = [run; 16];
-    let mut p = 0;
-    while p < 16 {
-        places[p] = held_at(numbers, counts, p);
-        p += 1;
+    let mut places = [rotation::vacant(); 16];
+    for (p, place) in places.iter_mut().enumerate() {
+        *place = held_at(numbers, counts, p);
     }
     places
 }
@@ -53,11 +49,7 @@ fn held_queue(counts: &[usize]) -> [usize; 16]
     ensures { result ≡ window 128 16 counts.now }
 {
     let mut queue = [16; 16];
-    let mut k = 0;
-    while k < 16 {
-        queue[k] = counts[128 + k];
-        k += 1;
-    }
+    queue.copy_from_slice(&counts[128..144]);
     queue
 }
 
@@ -126,11 +118,8 @@ fn write_places(unit: Rotation, numbers: &mut [f64], counts: &mut [usize])
     ensures numbers_after { numbers.new ≡ unit_numbers unit }
     ensures counts_after { counts.new ≡ splice 0 (stack 16 (λ p. counts_of (run_at unit p))) counts.old }
 {
-    let mut p = 0;
-    while p < 16 {
-        let run = unit.places[p];
-        write_at(run, p, numbers, counts);
-        p += 1;
+    for (p, run) in unit.places.iter().enumerate() {
+        write_at(*run, p, numbers, counts);
     }
 }
 
@@ -138,11 +127,7 @@ fn write_queue(queue: [usize; 16], counts: &mut [usize])
     requires { length counts.old ≡ 144 }
     ensures { counts.new ≡ splice 128 (tabulate 16 (λ k. get_or queue k 0)) counts.old }
 {
-    let mut k = 0;
-    while k < 16 {
-        counts[128 + k] = queue[k];
-        k += 1;
-    }
+    counts[128..144].copy_from_slice(&queue);
 }
 
 // A unit that took a run or had a turn, to slices that fit it.

@@ -11,11 +11,11 @@ ghost use Rattle.schedule_checks.specs.Inner.{schedule_of};
 ghost use Rattle.stage_calls.specs.Stages.{staged};
 ghost use Rattle.exports_stages.specs.Told.{staged_numbers, staged_told};
 
-use schedule_checks::StagedAnswer;
+use schedule_checks::{StageRefusal, StagedReport};
 
 // The result is 0 or the refusal's number; `value` is 0 or the refusal's double; `stage` is 0 where no stage was refused.
 fn staged_told(
-    answer: StagedAnswer,
+    answer: Result<StagedReport, StageRefusal>,
     value: &mut f64,
     stage: &mut u32,
     applications: &mut u64,
@@ -25,15 +25,15 @@ fn staged_told(
     ensures { staged_numbers result value.new stage.new applications.new substeps.new rejected.new ≡ staged_told answer }
 {
     match answer {
-        StagedAnswer::Refusal(k, x, i) => {
-            *value = x;
-            *stage = i;
+        Err(e) => {
+            *value = e.refusal.value;
+            *stage = e.stage;
             *applications = 0;
             *substeps = 0;
             *rejected = 0;
-            k
+            e.refusal.reason.number()
         }
-        StagedAnswer::Staged(r) => {
+        Ok(r) => {
             *value = 0.0;
             *stage = 0;
             *applications = r.applications;

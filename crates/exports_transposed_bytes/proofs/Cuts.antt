@@ -11,8 +11,7 @@ use lib.Seq.{length-take-le}
 use lib.Ieee.{Float, nan}
 use Rattle.lists.specs.Window.{splice}
 use Rattle.checks.specs.First.{Check, refuse, first, before}
-use Rattle.checks.specs.declared.Checked.{Checked}
-use Rattle.checks.specs.declared.Checked.TheVariants.{Sound, Refused}
+use Rattle.checks.specs.First.{Checked}
 use Rattle.general_operator.specs.Csr.{Csr, csr}
 use Rattle.general_operator.specs.Checks.{shape_checks, row_checks, entry_checks, matrix_checks}
 use Rattle.generator_action.specs.Mass.{Mass, given, quotients, mass_checks, sum_checks, norm_checks}
@@ -39,23 +38,27 @@ use Rattle.byte_calls.proofs.Jobs.{checks_cut}
 use Rattle.byte_calls.proofs.Calls.{CallCut, retell, told_again, call_cut}
 use Rattle.transposed_byte_calls.specs.Replies.{Lent as Bytes, lent, unpacked, packed, Reply, replies, packs, MatrixReply, matrix_replies, matrix_packs}
 use Rattle.transposed_byte_calls.specs.Inner.{called_transposed, checked_transposed}
+use Rattle.checks.specs.Reasons.{Sound, Refused, number}
+use Rattle.std.specs.Prelude.{Ok, Err}
+use Rattle.checks.specs.declared.Reason.TheVariants.{OutputLength, VectorLength, TransposedLength}
+use Rattle.checks.specs.declared.Reason.{Reason}
 
 -- ---- the checks up to 30, and the 11 behind it, where a list is too long
-none_15 : (a : Csr) (mass : Mass) (l : Lent) → before 15 (before_transposing a mass l) ≡ before_transposing a mass l
+none_15 : (a : Csr) (mass : Mass) (l : Lent) → before OutputLength (before_transposing a mass l) ≡ before_transposing a mass l
 unfolding before before_transposing forward_checks lent_checks start_checks mass_checks sum_checks norm_checks matrix_checks shape_checks row_checks entry_checks
 none_15 a none l = refl
 none_15 a (some mass) l = refl
 
-none_16 : (a : Csr) (mass : Mass) (l : Lent) → before 16 (before_transposing a mass l) ≡ before_transposing a mass l
+none_16 : (a : Csr) (mass : Mass) (l : Lent) → before VectorLength (before_transposing a mass l) ≡ before_transposing a mass l
 unfolding before before_transposing forward_checks lent_checks start_checks mass_checks sum_checks norm_checks matrix_checks shape_checks row_checks entry_checks
 none_16 a none l = refl
 none_16 a (some mass) l = refl
 
-norm_15 : (a : Csr) → before 15 (norm_checks a) ≡ norm_checks a
+norm_15 : (a : Csr) → before OutputLength (norm_checks a) ≡ norm_checks a
 unfolding before norm_checks
 norm_15 a = refl
 
-norm_16 : (a : Csr) → before 16 (norm_checks a) ≡ norm_checks a
+norm_16 : (a : Csr) → before VectorLength (norm_checks a) ≡ norm_checks a
 unfolding before norm_checks
 norm_16 a = refl
 
@@ -89,14 +92,14 @@ module _ {b b₁ : Buffers} {cs cc cv : ℕ} (h : Parts b b₁ cs cc cv) (a : Cs
 
   same_before : (mass : Mass) → before_transposing a mass (lengths b₁) ≡ before_transposing a mass (lengths b)
   unfolding before_transposing lent_checks
-  same_before mass = ap (λ (t : Bool). matrix_checks a ++ (forward_checks a mass ++ (refuse 30 t nan ∷ []))) same_short
+  same_before mass = ap (λ (t : Bool). matrix_checks a ++ (forward_checks a mass ++ (refuse TransposedLength t nan ∷ []))) same_short
 
   same_generator : (mass : Mass) → transposed a mass (lengths b₁) ≡ transposed a mass (lengths b)
   unfolding transposed_checks
   same_generator mass = ap (λ (cs : List Check). let g = transposed a mass (lengths b) in record { checks = cs ++ norm_checks (transpose (quotients a mass)); matrix = g.matrix; stored = g.stored }) (same_before mass)
 
 -- ---- what the buffers hold
-after_refused : (a : Csr) (mass : Mass) (b : Buffers) {j : ℕ} {x : Float} → first (before_transposing a mass (lengths b)) ≡ Refused j x → buffers_after a mass b ≡ b
+after_refused : (a : Csr) (mass : Mass) (b : Buffers) {j : Reason} {x : Float} → first (before_transposing a mass (lengths b)) ≡ Refused j x → buffers_after a mass b ≡ b
 unfolding buffers_after filled
 after_refused a mass b e = rw e refl
 
@@ -104,7 +107,7 @@ after_sound : (a : Csr) (mass : Mass) (b : Buffers) → first (before_transposin
 unfolding buffers_after filled
 after_sound a mass b e = rw e refl
 
-answer_refused : (a : Csr) (mass : Mass) (l : Lent) {j : ℕ} {x : Float} → first (transposed_checks a mass l) ≡ Refused j x → matrix_numbers (transposed_answer a mass l) ≡ numbers j x 0 0 0
+answer_refused : (a : Csr) (mass : Mass) (l : Lent) {j : Reason} {x : Float} → first (transposed_checks a mass l) ≡ Refused j x → matrix_numbers (transposed_answer a mass l) ≡ numbers (number j) x 0 0 0
 unfolding transposed_answer unless_refused matrix_numbers
 answer_refused a mass l e = rw e refl
 
@@ -125,7 +128,7 @@ module _ (entries : ℕ) (few : entries ≤ 512) (G : List ℕ → List ℕ → 
       let t = matrix_cut entries few G R [] refl refl (λ s c g. []) b hs hc hm hm' in
       (ap first (sym (append-nil (G s cols (given b m)))) ∙ t.0 ∙ ap (λ (u : List Check). again 7 cm (again 1 cs (first u))) (append-nil (G s₁ cols₁ (given b m₁))), λ z. t.1 (ap first (append-nil (G s₁ cols₁ (given b m₁))) ∙ z))
 
-again_refused : (cs cm j : ℕ) (x : Float) → again 7 cm (again 1 cs (Refused j x)) ≡ Refused j (long_told 7 cm j (long_told 1 cs j x))
+again_refused : (cs cm : ℕ) (j : Reason) (x : Float) → again 7 cm (again 1 cs (Refused j x)) ≡ Refused j (long_told 7 cm (number j) (long_told 1 cs (number j) x))
 unfolding again
 again_refused cs cm j x = refl
 
@@ -189,11 +192,11 @@ module _ (tb tc tv : List ℕ) (x y z : ℕ) (bytes_b : (i : ℕ) → get_or tb 
           same = same_before lent_parts q₁ few fits g₁
 
           go : (c : Checked) → first (before_transposing q₁ g₁ (lengths (unpacked wholes))) ≡ c → joined (packed (buffers_after q₁ g₁ (unpacked cuts)) cuts) ≡ packed (buffers_after q g (unpacked wholes)) wholes
-          go (Refused j v) e =
+          go (Err r) e =
               ap (λ (u : Buffers). joined (packed u cuts)) (after_refused q₁ g₁ (unpacked cuts) (ap first same ∙ e))
               ∙ unwritten
-              ∙ ap (λ (u : Buffers). packed u wholes) (sym (after_refused q g (unpacked wholes) (before_cut.0 ∙ ap (λ (u : Checked). again 7 (len / 8) (again 1 (length starts / 4) u)) e ∙ again_refused (length starts / 4) (len / 8) j v)))
-          go Sound e =
+              ∙ ap (λ (u : Buffers). packed u wholes) (sym (after_refused q g (unpacked wholes) (before_cut.0 ∙ ap (λ (u : Checked). again 7 (len / 8) (again 1 (length starts / 4) u)) e ∙ again_refused (length starts / 4) (len / 8) r.reason r.value)))
+          go (Ok _) e =
               let u = before_cut.1 e in
               let eq : q₁ ≡ q = λ i. matrix (u.0 i) (u.1 i) in
               let here : first (before_transposing q g (lengths (unpacked cuts))) ≡ Sound = (λ i. first (before_transposing (sym eq i) (sym u.2 i) (lengths (unpacked cuts)))) ∙ ap first same ∙ e in
@@ -219,11 +222,11 @@ module _ (tb tc tv : List ℕ) (x y z : ℕ) (bytes_b : (i : ℕ) → get_or tb 
           same = same_answer q₁ g₁ (lengths (unpacked cuts)) (lengths (unpacked wholes)) (ap (λ (s : Generator). s.checks) (same_generator lent_parts q₁ few fits g₁))
 
           go : (c : Checked) → first (transposed_checks q₁ g₁ (lengths (unpacked wholes))) ≡ c → matrix_numbers (transposed_answer q g (lengths (unpacked wholes))) ≡ re (matrix_numbers (transposed_answer q₁ g₁ (lengths (unpacked cuts))))
-          go (Refused j v) e =
-              answer_refused q g (lengths (unpacked wholes)) (t.0 ∙ ap (λ (u : Checked). again 7 (len / 8) (again 1 (length starts / 4) u)) e ∙ again_refused (length starts / 4) (len / 8) j v)
-              ∙ ap (λ (x : Float). numbers j x 0 0 0) (sym (long_few 15 0 j _ (omega arith)) ∙ sym (long_few 16 0 j _ (omega arith)))
+          go (Err r) e =
+              answer_refused q g (lengths (unpacked wholes)) (t.0 ∙ ap (λ (u : Checked). again 7 (len / 8) (again 1 (length starts / 4) u)) e ∙ again_refused (length starts / 4) (len / 8) r.reason r.value)
+              ∙ ap (λ (x : Float). numbers (number r.reason) x 0 0 0) (sym (long_few 15 0 (number r.reason) _ (omega arith)) ∙ sym (long_few 16 0 (number r.reason) _ (omega arith)))
               ∙ ap re (sym (answer_refused q₁ g₁ (lengths (unpacked wholes)) e) ∙ ap matrix_numbers (sym same))
-          go Sound e =
+          go (Ok _) e =
               let u = t.1 e in
               let x = matrix_numbers (transposed_answer q₁ g₁ (lengths (unpacked wholes))) in
               (λ i. matrix_numbers (transposed_answer (matrix (sym u.0 i) (sym u.1 i)) (sym u.2 i) (lengths (unpacked wholes))))

@@ -1,86 +1,76 @@
 // The run over unit time: substeps until the time is 1, from a field scaled by a power of two.
 #![tactic(auto)]
 
-ghost use Rattle.std.specs.Prelude.{◌≡◌, List, ◌+◌, ◌*◌, ◌≤◌, length, Some, Float};
+ghost use Rattle.std.specs.Prelude.{◌≡◌, List, ◌+◌, ◌*◌, ◌≤◌, Some, Float};
 ghost use Rattle.lists.specs.Walk.{on, walk};
 ghost use Rattle.lists.specs.Window.{window};
 ghost use Rattle.lists.specs.Frame.{Kept};
 ghost use Rattle.doubles.specs.F64.{+0};
 ghost use Rattle.vectors.specs.Vectors.{scale};
-ghost use Rattle.phi_action_helpers.specs.declared.Coupling.{Coupling};
 ghost use Rattle.phi_action_helpers.specs.declared.Layout.{Layout};
-ghost use Rattle.phi_action_helpers.specs.Laid.{matrix_at, operator_at};
-ghost use Rattle.gram_schmidt.specs.Memory.{setting_at, Room};
+ghost use Rattle.phi_action_helpers.specs.Laid.{operator_in};
+ghost use Rattle.gram_schmidt.specs.Memory.{setting_in, RoomFor};
 ghost use Rattle.krylov_advance.specs.Run.{substep, spent, started, run, back, clamp_m, expv, expv_by};
 ghost use Rattle.krylov_advance.specs.declared.KrylovPhiReport.{KrylovPhiReport};
 ghost use Rattle.krylov_advance.specs.Memory.{state_at, progress_at, end_at};
 
+use checks::{Reason, Refusal};
 use gram_schmidt::Krylov;
 use krylov_advance::{Control, KrylovPhiReport, Progress, RunAnswer};
-use phi_action_helpers::{Coupling, Layout};
+use phi_action_helpers::{AugmentedOperator, Layout};
 use pow2::Scale;
 
 // At most `limit` substeps.
 fn run_substeps(
-    starts: &[u32],
-    cols: &[u32],
-    vals: &[f64],
-    vectors: &[f64],
+    o: AugmentedOperator,
     work: &mut [f64],
-    l: Layout,
-    b: Coupling,
     k: Krylov,
     limit: usize,
     c: Control,
     r: KrylovPhiReport,
 ) -> Progress
-    requires room { Room l b k (matrix_at l starts.now cols.now vals.now work.old) (length vals.now) (length vectors.now) (length work.old) }
+    requires room { RoomFor o k work.old }
     requires m_bound { (k.m ≤ 128) × (limit ≤ 1000000) × (r.matvecs ≡ 0) × (r.substeps ≡ 0) × (r.rejected ≡ 0) }
-    ensures work_after { progress_at l k result work.new ≡ walk (λ _. substep (setting_at l b k (matrix_at l starts.now cols.now vals.now work.old) vectors.now)) limit 0 (on (state_at l k c r work.old)) }
-    ensures kept { Kept 0 l.q +0 work.old work.new }
+    ensures work_after { progress_at o.entry.l k result work.new ≡ walk (λ _. substep (setting_in o.entry k work.old)) limit 0 (on (state_at o.entry.l k c r work.old)) }
+    ensures kept { Kept 0 o.entry.l.q +0 work.old work.new }
 {
-    let mut o = Progress::On(c, r);
+    let mut reached = Progress::On(c, r);
     for _ in 0..limit {
-        let Progress::On(control, report) = o else {
-            return o;
+        let Progress::On(control, report) = reached else {
+            return reached;
         };
-        o = phi_krylov_arnoldi::substep(
-            starts, cols, vals, vectors, work, l, b, k, control, report,
-        );
+        reached = phi_krylov_arnoldi::substep(o, work, k, control, report);
     }
-    o
+    reached
 }
 
-// 27 for a run that has not ended.
+// Refused for its limit: a run that has not ended.
 fn spent(o: Progress) -> RunAnswer
     ensures { (l : Layout) (k : Krylov) (w : List Float) → end_at l k result w ≡ spent (progress_at l k o w) }
 {
     match o {
-        Progress::On(c, r) => RunAnswer::Refused(27, r.est_error, c, r),
+        Progress::On(c, r) => RunAnswer::Refused(
+            Refusal {
+                reason: Reason::SubstepLimit,
+                value: r.est_error,
+            },
+            c,
+            r,
+        ),
         Progress::Finished(c, r) => RunAnswer::Finished(c, r),
-        Progress::Refused(number, x, c, r) => RunAnswer::Refused(number, x, c, r),
+        Progress::Refused(e, c, r) => RunAnswer::Refused(e, c, r),
     }
 }
 
 // The run from the field at y, over unit time.
-fn substeps(
-    starts: &[u32],
-    cols: &[u32],
-    vals: &[f64],
-    vectors: &[f64],
-    work: &mut [f64],
-    l: Layout,
-    b: Coupling,
-    k: Krylov,
-    limit: usize,
-) -> RunAnswer
-    requires room { Room l b k (matrix_at l starts.now cols.now vals.now work.old) (length vals.now) (length vectors.now) (length work.old) }
+fn substeps(o: AugmentedOperator, work: &mut [f64], k: Krylov, limit: usize) -> RunAnswer
+    requires room { RoomFor o k work.old }
     requires m_bound { (k.m ≤ 128) × (limit ≤ 1000000) }
-    ensures work_after { end_at l k result work.new ≡ run (setting_at l b k (matrix_at l starts.now cols.now vals.now work.old) vectors.now) limit (started (setting_at l b k (matrix_at l starts.now cols.now vals.now work.old) vectors.now) (window k.y (l.n + l.d) work.old)) }
-    ensures kept { Kept 0 l.q +0 work.old work.new }
+    ensures work_after { end_at o.entry.l k result work.new ≡ run (setting_in o.entry k work.old) limit (started (setting_in o.entry k work.old) (window k.y (o.entry.l.n + o.entry.l.d) work.old)) }
+    ensures kept { Kept 0 o.entry.l.q +0 work.old work.new }
 {
     let y = k.y;
-    let end = y + (l.n + l.d);
+    let end = y + (o.l.n + o.l.d);
     let beta = gram_schmidt::norm2(&work[y..end]);
     let c = Control {
         time: 0.0,
@@ -95,7 +85,7 @@ fn substeps(
         shortest: 0.0,
         last: 0.0,
     };
-    spent(run_substeps(starts, cols, vals, vectors, work, l, b, k, limit, c, r))
+    spent(run_substeps(o, work, k, limit, c, r))
 }
 
 // The estimate relative to the first norm; the field is scaled back by the caller.
@@ -107,9 +97,8 @@ fn relative(o: RunAnswer, beta: f64) -> RunAnswer
             c,
             phi_krylov_arnoldi::relative_report(r, beta),
         ),
-        RunAnswer::Refused(number, x, c, r) => RunAnswer::Refused(
-            number,
-            x,
+        RunAnswer::Refused(e, c, r) => RunAnswer::Refused(
+            e,
             c,
             phi_krylov_arnoldi::relative_report(r, beta),
         ),
@@ -118,54 +107,39 @@ fn relative(o: RunAnswer, beta: f64) -> RunAnswer
 
 // The run on the field scaled by a power of two, and scaled back.
 fn scaled_run(
-    starts: &[u32],
-    cols: &[u32],
-    vals: &[f64],
-    vectors: &[f64],
+    o: AugmentedOperator,
     work: &mut [f64],
-    l: Layout,
-    b: Coupling,
     k: Krylov,
     limit: usize,
     f: Scale,
 ) -> RunAnswer
-    requires room { Room l b k (matrix_at l starts.now cols.now vals.now work.old) (length vals.now) (length vectors.now) (length work.old) }
-    requires m_bound { (k.m ≤ 128) × (limit ≤ 1000000) × (clamp_m k.m (l.n + l.d) ≡ k.m) }
-    ensures work_after { end_at l k result work.new ≡ expv_by (operator_at l b starts.now cols.now vals.now vectors.now work.old) k.tau k.anorm k.tol k.m limit (window k.y (l.n + l.d) work.old) (Some f) }
-    ensures kept { Kept 0 l.q +0 work.old work.new }
+    requires room { RoomFor o k work.old }
+    requires m_bound { (k.m ≤ 128) × (limit ≤ 1000000) × (clamp_m k.m (o.l.n + o.l.d) ≡ k.m) }
+    ensures work_after { end_at o.entry.l k result work.new ≡ expv_by (operator_in o.entry work.old) k.tau k.anorm k.tol k.m limit (window k.y (o.entry.l.n + o.entry.l.d) work.old) (Some f) }
+    ensures kept { Kept 0 o.entry.l.q +0 work.old work.new }
 {
     let y = k.y;
-    let end = y + (l.n + l.d);
+    let end = y + (o.l.n + o.l.d);
     vectors::scale(&mut work[y..end], f.down);
     let beta = gram_schmidt::norm2(&work[y..end]);
     let scaled = Krylov {
         tol: k.tol * beta,
         ..k
     };
-    let o = substeps(starts, cols, vals, vectors, work, l, b, scaled, limit);
+    let ended = substeps(o, work, scaled, limit);
     vectors::scale(&mut work[y..end], f.up);
-    relative(o, beta)
+    relative(ended, beta)
 }
 
 // The field at y becomes e^B y, by adaptive Krylov substeps over unit time.
-pub fn expv(
-    starts: &[u32],
-    cols: &[u32],
-    vals: &[f64],
-    vectors: &[f64],
-    work: &mut [f64],
-    l: Layout,
-    b: Coupling,
-    k: Krylov,
-    limit: usize,
-) -> RunAnswer
-    requires room { Room l b k (matrix_at l starts.now cols.now vals.now work.old) (length vals.now) (length vectors.now) (length work.old) }
-    requires m_bound { (k.m ≤ 128) × (limit ≤ 1000000) × (clamp_m k.m (l.n + l.d) ≡ k.m) }
-    ensures work_after { end_at l k result work.new ≡ expv (operator_at l b starts.now cols.now vals.now vectors.now work.old) k.tau k.anorm k.tol k.m limit (window k.y (l.n + l.d) work.old) }
-    ensures kept { Kept 0 l.q +0 work.old work.new }
+pub fn expv(o: AugmentedOperator, work: &mut [f64], k: Krylov, limit: usize) -> RunAnswer
+    requires room { RoomFor o k work.old }
+    requires m_bound { (k.m ≤ 128) × (limit ≤ 1000000) × (clamp_m k.m (o.l.n + o.l.d) ≡ k.m) }
+    ensures work_after { end_at o.entry.l k result work.new ≡ expv (operator_in o.entry work.old) k.tau k.anorm k.tol k.m limit (window k.y (o.entry.l.n + o.entry.l.d) work.old) }
+    ensures kept { Kept 0 o.entry.l.q +0 work.old work.new }
 {
     let y = k.y;
-    let end = y + (l.n + l.d);
+    let end = y + (o.l.n + o.l.d);
     let Some(f) = pow2::pow2_scale(&work[y..end]) else {
         return RunAnswer::Finished(
             Control {
@@ -183,5 +157,5 @@ pub fn expv(
             },
         );
     };
-    scaled_run(starts, cols, vals, vectors, work, l, b, k, limit, f)
+    scaled_run(o, work, k, limit, f)
 }

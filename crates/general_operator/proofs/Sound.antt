@@ -14,11 +14,11 @@ use Rattle.lists.specs.Find.{exists}
 use Rattle.lists.proofs.Find.{none_below}
 use Rattle.checks.specs.First.{first}
 use Rattle.checks.proofs.First.{sound_cons, sound_append}
-use Rattle.checks.specs.declared.Checked.{Checked}
-use Rattle.checks.specs.declared.Checked.TheVariants.{Sound}
+use Rattle.checks.specs.First.{Checked}
 use Rattle.doubles.specs.F64.{is_finite, at}
 use Rattle.general_operator.specs.Csr.{Csr, Valid}
 use Rattle.general_operator.specs.Checks.{wrong_rows, wrong_entries, too_large, falls, bad_column, bad_entry, shape_checks, row_checks, entry_checks, matrix_checks}
+use Rattle.checks.specs.Reasons.{Sound}
 
 -- ---- 1 to 3
 pub record Shape (n : ℕ) (starts : List ℕ) (columns entries : ℕ) : Type 0 where

@@ -5,6 +5,7 @@ use Rattle.lists.specs.Find.{find, exists, open_find}
 use Rattle.doubles.specs.F64.{is_finite, nat, at}
 use Rattle.checks.specs.First.{Check, refuse, first}
 use Rattle.general_operator.specs.Csr.{Csr, open_csr}
+use Rattle.checks.specs.declared.Reason.TheVariants.{RowStartsLength, EntryCount, MatrixTooLarge, RowStartsFall, ColumnRange, EntryNotFinite}
 
 -- n = 0, or row starts not n + 1 long
 unfoldable pub wrong_rows : ℕ → ℕ → Bool
@@ -30,20 +31,20 @@ bad_entry n columns entries k = bad_column n columns k || not (is_finite (at ent
 
 unfoldable pub shape_checks : ℕ → List ℕ → ℕ → ℕ → List Check
 shape_checks n starts columns entries =
-    refuse 1 (wrong_rows n (length starts)) (nat (length starts))
-    ∷ refuse 2 (wrong_entries n starts columns entries) (nat entries)
-    ∷ refuse 3 (too_large n entries) nan
+    refuse RowStartsLength (wrong_rows n (length starts)) (nat (length starts))
+    ∷ refuse EntryCount (wrong_entries n starts columns entries) (nat entries)
+    ∷ refuse MatrixTooLarge (too_large n entries) nan
     ∷ []
 
 unfoldable pub row_checks : ℕ → List ℕ → List Check
-row_checks n starts = refuse 4 (exists (falls starts) n) (nat (find (falls starts) n)) ∷ []
+row_checks n starts = refuse RowStartsFall (exists (falls starts) n) (nat (find (falls starts) n)) ∷ []
 
 -- 5 and 6 are tested together, entry by entry, 5 first: both speak of the first entry that either refuses
 unfoldable pub entry_checks : ℕ → List ℕ → List Float → List Check
 entry_checks n columns entries =
     let k = find (bad_entry n columns entries) (length entries) in
-    refuse 5 (ltb k (length entries) && bad_column n columns k) (nat (get_or columns k 0))
-    ∷ refuse 6 (ltb k (length entries)) (at entries k)
+    refuse ColumnRange (ltb k (length entries) && bad_column n columns k) (nat (get_or columns k 0))
+    ∷ refuse EntryNotFinite (ltb k (length entries)) (at entries k)
     ∷ []
 
 unfoldable pub matrix_checks : Csr → List Check

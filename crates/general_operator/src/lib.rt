@@ -8,7 +8,16 @@ ghost use Rattle.checks.specs.First.{first};
 ghost use Rattle.general_operator.specs.Csr.{csr};
 ghost use Rattle.general_operator.specs.Checks.{wrong_rows, wrong_entries, too_large, falls, bad_entry, shape_checks, row_checks, entry_checks, matrix_checks};
 
-use checks::Checked;
+use checks::{Checked, Reason, Refusal};
+
+// A sparse matrix by rows: n of them, the entries of row i from starts[i] up to starts[i + 1], each with its column.
+#[derive(Clone, Copy)]
+pub struct CsrMatrix<'a> {
+    pub n: usize,
+    pub starts: &'a [u32],
+    pub cols: &'a [u32],
+    pub vals: &'a [f64],
+}
 
 // n + 1 is not formed: n may be the largest number.
 #[tactic(auto, unfolding(crate::specs::Checks::wrong_rows))]
@@ -38,15 +47,24 @@ fn check_shape(n: usize, starts: &[u32], columns: usize, entries: usize) -> Chec
     ensures { result ≡ first (shape_checks n starts.now columns entries) }
 {
     if wrong_rows(n, starts.len()) {
-        return Checked::Refused(1, float::count(starts.len()));
+        return Err(Refusal {
+            reason: Reason::RowStartsLength,
+            value: float::count(starts.len()),
+        });
     }
     if wrong_entries(n, starts, columns, entries) {
-        return Checked::Refused(2, float::count(entries));
+        return Err(Refusal {
+            reason: Reason::EntryCount,
+            value: float::count(entries),
+        });
     }
     if too_large(n, entries) {
-        return Checked::Refused(3, float::not_a_number());
+        return Err(Refusal {
+            reason: Reason::MatrixTooLarge,
+            value: float::not_a_number(),
+        });
     }
-    Checked::Sound
+    Ok(())
 }
 
 // The first row whose start falls.
@@ -62,9 +80,12 @@ fn check_rows(starts: &[u32]) -> Checked
     ensures { result ≡ first (row_checks (length starts.now - 1) starts.now) }
 {
     if let Some(i) = first_fall(starts) {
-        return Checked::Refused(4, float::count(i));
+        return Err(Refusal {
+            reason: Reason::RowStartsFall,
+            value: float::count(i),
+        });
     }
-    Checked::Sound
+    Ok(())
 }
 
 fn is_bad_entry(n: usize, c: u32, x: f64) -> bool
@@ -90,26 +111,26 @@ fn check_entries(n: usize, cols: &[u32], vals: &[f64]) -> Checked
     ensures { result ≡ first (entry_checks n cols.now vals.now) }
 {
     let Some(k) = first_bad_entry(n, cols, vals) else {
-        return Checked::Sound;
+        return Ok(());
     };
     let c = cols[k] as usize;
     if n <= c {
-        return Checked::Refused(5, float::count(c));
+        return Err(Refusal {
+            reason: Reason::ColumnRange,
+            value: float::count(c),
+        });
     }
-    Checked::Refused(6, vals[k])
+    Err(Refusal {
+        reason: Reason::EntryNotFinite,
+        value: vals[k],
+    })
 }
 
 // 1 to 6.
 pub fn validate_csr(n: usize, starts: &[u32], cols: &[u32], vals: &[f64]) -> Checked
     ensures { result ≡ first (matrix_checks (csr n starts.now cols.now vals.now)) }
 {
-    let shape = check_shape(n, starts, cols.len(), vals.len());
-    let Checked::Sound = shape else {
-        return shape;
-    };
-    let rows = check_rows(starts);
-    let Checked::Sound = rows else {
-        return rows;
-    };
+    check_shape(n, starts, cols.len(), vals.len())?;
+    check_rows(starts)?;
     check_entries(n, cols, vals)
 }

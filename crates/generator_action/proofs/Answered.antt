@@ -13,29 +13,32 @@ use Rattle.lists.proofs.Find.{none_below}
 use Rattle.doubles.specs.F64.{+0, is_finite, max_num}
 use Rattle.doubles.proofs.Extremes.{replaced_finite}
 use Rattle.checks.specs.First.{first}
-use Rattle.checks.specs.declared.Checked.{Checked}
-use Rattle.checks.specs.declared.Checked.TheVariants.{Sound, Refused}
-use Rattle.checks.proofs.First.{sound_cons, sound_append}
+use Rattle.checks.specs.First.{Checked}
+use Rattle.checks.proofs.First.{ok_is, sound_cons, sound_append}
+use Rattle.generator_action.specs.declared.Largest.{Largest}
 use Rattle.general_operator.specs.Csr.{Csr, row_sum, row_sum_norm, Valid}
 use Rattle.general_operator.specs.Checks.{matrix_checks}
 use Rattle.general_operator.proofs.Sound.{sound_valid}
-use Rattle.generator_action.specs.declared.MatrixAnswer.{MatrixAnswer}
-use Rattle.generator_action.specs.declared.MatrixAnswer.TheVariants.{Refusal, Norm}
+use Rattle.generator_action.specs.Answer.{MatrixAnswer}
 use Rattle.generator_action.specs.Mass.{Mass, given, normalise, quotients, quotient_need, mass_checks, bad_sum, sum_checks, norm_checks, bound_checks, generator_checks}
-use Rattle.generator_action.specs.Answer.{number, value, unless_refused, matrix_answer}
+use Rattle.generator_action.specs.Answer.{unless_refused, matrix_answer}
 use Rattle.generator_action.specs.Known.{Dividing, Divided, Accepted, shape_of, Passed}
 use Rattle.generator_action.proofs.Quotients.{quotients_valid}
 use Rattle.generator_action.proofs.Ways.{mass_sound}
+use Rattle.checks.specs.Reasons.{Sound, Refused}
+use Rattle.generator_action.specs.Answer.{Norm}
+use Rattle.std.specs.Prelude.{Ok, Err}
+use Rattle.checks.specs.declared.Reason.{Reason}
 
-pub refusal_of : (r : Checked) (q : Csr) {k : ℕ} {x : Float} → Refusal k x ≡ unless_refused r q → Refused k x ≡ r
+pub refusal_of : (r : Checked) (q : Csr) {k : Reason} {x : Float} → Refused k x ≡ unless_refused r q → Refused k x ≡ r
 unfolding unless_refused
-refusal_of (Refused j y) q e = cc
-refusal_of Sound q e = cc
+refusal_of (Err r) q e = cc
+refusal_of (Ok _) q e = cc
 
 pub norm_of : (r : Checked) (q : Csr) {x : Float} {i : ℕ} → Norm x i ≡ unless_refused r q → (Sound ≡ r) × (x ≡ row_sum_norm q)
 unfolding unless_refused
-norm_of (Refused j y) q e = (cc, cc)
-norm_of Sound q e = (refl, cc)
+norm_of (Err r) q e = (cc, cc)
+norm_of (Ok _) q e = (refl, ap (λ (l : Largest). l.norm) (ok_is e))
 
 -- the largest of finite sums is finite
 largest_finite : (q : Csr) (i : ℕ) → ((k : ℕ) → k < i → is_finite (row_sum q k) ≡ true) → is_finite (iter (λ j m. max_num m (row_sum q j)) i +0) ≡ true
@@ -60,13 +63,8 @@ unfolding bound_checks quotients
 bound_sound a none e = (norm_finite a e, tt)
 bound_sound a (some mass) e = let s = sound_append (mass_checks a mass) (sum_checks (normalise a mass)) e in (sums_finite (normalise a mass) s.1, mass_sound a mass s.0)
 
--- a refusal taken apart by its number and its double
-pub passed_up : {r : MatrixAnswer} {j k : ℕ} {x y : Float} → r ≡ Refusal j x → k ≡ number r → y ≡ value r → r ≡ Refusal k y
-unfolding number value
-passed_up e ek ey = rw (ek, ey, e)
-
 module _ (a : Csr) (mass : Mass) {r : MatrixAnswer} (e : r ≡ matrix_answer a mass) where
-  pub refusal_told : {k : ℕ} {x : Float} → r ≡ Refusal k x → Refused k x ≡ first (generator_checks a mass)
+  pub refusal_told : {k : Reason} {x : Float} → r ≡ Refused k x → Refused k x ≡ first (generator_checks a mass)
   unfolding matrix_answer
   refusal_told d = refusal_of _ _ (sym d ∙ e)
 

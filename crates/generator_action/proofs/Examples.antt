@@ -5,9 +5,11 @@ use mathlib.Core.Path.{◌≡◌, refl}
 use lib.Ieee.{Float, nan}
 use Rattle.doubles.specs.F64.{bits, +0, 1f, 2f, 1/2f, +∞}
 use Rattle.general_operator.specs.Csr.{Csr, csr, apply_generator}
-use Rattle.generator_action.specs.declared.MatrixAnswer.TheVariants.{Refusal, Norm}
 use Rattle.generator_action.specs.Mass.{quotients}
 use Rattle.generator_action.specs.Answer.{matrix_answer, open_answer}
+use Rattle.checks.specs.Reasons.{Refused}
+use Rattle.generator_action.specs.Answer.{Norm}
+use Rattle.checks.specs.declared.Reason.TheVariants.{MassLength, MassRange, FirstRowStart, RowSumNotFinite, NormNotFinite}
 
 abbrev 3f : Float
 3f = bits 0x4008_0000_0000_0000
@@ -36,11 +38,11 @@ norm_by_mass : matrix_answer two (some (4f ∷ [])) ≡ Norm 1/2f 0
 unfolding open_answer
 norm_by_mass = refl
 
-empty_mass : matrix_answer two (some []) ≡ Refusal 7 +0
+empty_mass : matrix_answer two (some []) ≡ Refused MassLength +0
 unfolding open_answer
 empty_mass = refl
 
-mass_not_above_0 : matrix_answer two (some (+0 ∷ [])) ≡ Refusal 8 +0
+mass_not_above_0 : matrix_answer two (some (+0 ∷ [])) ≡ Refused MassRange +0
 unfolding open_answer
 mass_not_above_0 = refl
 
@@ -52,7 +54,7 @@ late_norm : matrix_answer late none ≡ Norm 2f 0
 unfolding open_answer
 late_norm = refl
 
-late_with_mass : matrix_answer late (some (4f ∷ [])) ≡ Refusal 9 nan
+late_with_mass : matrix_answer late (some (4f ∷ [])) ≡ Refused FirstRowStart nan
 unfolding open_answer
 late_with_mass = refl
 
@@ -60,7 +62,7 @@ late_with_mass = refl
 abbrev huge : Csr
 huge = csr 1 (0 ∷ 2 ∷ []) (0 ∷ 0 ∷ []) (bits 0x7fef_ffff_ffff_ffff ∷ bits 0x7fef_ffff_ffff_ffff ∷ [])
 
-huge_norm : matrix_answer huge none ≡ Refusal 11 +∞
+huge_norm : matrix_answer huge none ≡ Refused NormNotFinite +∞
 unfolding open_answer
 huge_norm = refl
 
@@ -68,7 +70,7 @@ huge_by_4 : matrix_answer huge (some (4f ∷ [])) ≡ Norm (bits 0x7fdf_ffff_fff
 unfolding open_answer
 huge_by_4 = refl
 
-huge_by_half : matrix_answer huge (some (1/2f ∷ [])) ≡ Refusal 10 +∞
+huge_by_half : matrix_answer huge (some (1/2f ∷ [])) ≡ Refused RowSumNotFinite +∞
 unfolding open_answer
 huge_by_half = refl
 

@@ -14,7 +14,6 @@ use Rattle.doubles.proofs.Order.{nonneg_number}
 use Rattle.doubles.proofs.Sizes.{zero_nonneg}
 use Rattle.doubles.proofs.Total.{⩽_refl, ⋖_not}
 use Rattle.checks.specs.First.{first}
-use Rattle.checks.specs.declared.Checked.TheVariants.{Sound}
 use Rattle.checks.proofs.First.{sound_append}
 use Rattle.general_operator.specs.Csr.{Csr, row_sum, row_sum_norm}
 use Rattle.general_operator.specs.Checks.{matrix_checks}
@@ -24,6 +23,7 @@ use Rattle.generator_action.specs.Answer.{largest_row}
 use Rattle.generator_action.proofs.Quotients.{quotients_valid}
 use Rattle.generator_action.proofs.Norm.{sums_nonneg}
 use Rattle.generator_action.proofs.Leading.{Leading, leading_start, leading_turn, leading_end}
+use Rattle.checks.specs.Reasons.{Sound}
 
 pub record FirstLargest (q : Csr) : Type 0 where
   pub below : largest_row q < q.n

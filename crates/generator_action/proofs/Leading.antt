@@ -13,7 +13,7 @@ pub use Rattle.general_operator.proofs.Rows.{row_sum_nonneg}
 use Rattle.lists.specs.Loop.{iter}
 use Rattle.lists.proofs.Bounds.{lt_or_le}
 use Rattle.lists.proofs.Loop.{iter_none, iter_turn}
-use Rattle.lists.proofs.Find.{Passed, found_at}
+use Rattle.lists.proofs.Find.{found_at}
 use Rattle.doubles.specs.F64.{◌⋖◌, ◌⩽◌, +0, max_num, nonneg}
 use Rattle.doubles.proofs.Order.{nonneg_number}
 use Rattle.doubles.proofs.Sizes.{zero_nonneg, equals_itself, not_above_zero}

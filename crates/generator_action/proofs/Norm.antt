@@ -11,16 +11,16 @@ use Rattle.doubles.specs.F64.{+0, is_finite, nonneg, max_num}
 use Rattle.doubles.proofs.Extremes.{replaced_nonneg}
 use Rattle.doubles.proofs.Sizes.{zero_nonneg}
 use Rattle.checks.specs.First.{first}
-use Rattle.checks.specs.declared.Checked.TheVariants.{Sound}
 use Rattle.checks.proofs.First.{sound_append}
 use Rattle.general_operator.specs.Csr.{Csr, row_sum, row_sum_norm}
 use Rattle.general_operator.specs.Checks.{matrix_checks}
 use Rattle.general_operator.proofs.Sound.{sound_valid, sound_finite}
 use Rattle.generator_action.specs.Mass.{Mass, normalise, quotients, mass_checks, bound_checks, generator_checks}
 use Rattle.generator_action.specs.Answer.{largest_row, unless_refused, matrix_answer}
-use Rattle.generator_action.specs.declared.MatrixAnswer.TheVariants.{Norm}
 use Rattle.generator_action.proofs.Ways.{mass_sound, entries_nonneg, quotients_nonneg}
 use Rattle.generator_action.proofs.Answered.{norm_told}
+use Rattle.checks.specs.Reasons.{Sound}
+use Rattle.generator_action.specs.Answer.{Norm}
 
 largest_nonneg : (q : Csr) (i : ℕ) → ((k : ℕ) → k < i → T (nonneg (row_sum q k))) → T (nonneg (iter (λ j m. max_num m (row_sum q j)) i +0))
 unfolding iter max_num

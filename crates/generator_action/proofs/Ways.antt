@@ -17,22 +17,24 @@ use Rattle.doubles.proofs.Order.{nonneg_number}
 use Rattle.doubles.proofs.Sizes.{zero_nonneg}
 use Rattle.doubles.proofs.Total.{not_⩽}
 use Rattle.checks.specs.First.{Check, first}
-use Rattle.checks.specs.declared.Checked.{Checked}
-use Rattle.checks.specs.declared.Checked.TheVariants.{Sound, Refused}
+use Rattle.checks.specs.First.{Checked}
 use Rattle.checks.proofs.First.{stops, stops_not, passes_not, passes_find, ends_sound, refused_up, sound_on, sound_cons}
 use Rattle.general_operator.specs.Csr.{Csr, start, row_sum, row_sum_norm, Valid}
 use Rattle.general_operator.proofs.Sound.{or_false}
 use Rattle.general_operator.proofs.Rows.{row_within}
-use Rattle.generator_action.specs.declared.MatrixAnswer.{MatrixAnswer}
-use Rattle.generator_action.specs.declared.MatrixAnswer.TheVariants.{Refusal, Norm}
+use Rattle.generator_action.specs.Answer.{MatrixAnswer}
 use Rattle.generator_action.specs.Mass.{Mass, normalise, quotients, bad_mass, mass_checks, bad_sum, sum_checks, norm_checks, generator_checks}
 use Rattle.generator_action.specs.Answer.{largest_row, unless_refused, matrix_answer}
 use Rattle.generator_action.specs.Known.{Finite, Dividing, Answered}
 use Rattle.general_operator.proofs.Rows.{row_sum_nonneg}
 use Rattle.generator_action.proofs.Quotients.{quotient_at}
+use Rattle.checks.specs.Reasons.{Sound, Refused}
+use Rattle.generator_action.specs.Answer.{Norm}
+use Rattle.checks.specs.declared.Reason.TheVariants.{RowSumNotFinite, NormNotFinite}
+use Rattle.checks.specs.declared.Reason.{Reason}
 
 -- ---- the two answers
-pub answered_refusal : {q : Csr} {checks : List Check} {k : ℕ} {x : Float} → Refused k x ≡ first checks → Answered q checks (Refusal k x)
+pub answered_refusal : {q : Csr} {checks : List Check} {k : Reason} {x : Float} → Refused k x ≡ first checks → Answered q checks (Refused k x)
 unfolding unless_refused
 answered_refusal e = record { is = rw (← e) }
 
@@ -41,7 +43,7 @@ unfolding unless_refused
 answered_norm e h = record { is = rw (← e, h.0, h.1) }
 
 -- the first of two lists of checks refuses, or has passed
-pub answered_up : {q : Csr} (xs ys : List Check) {s : Checked} {k : ℕ} {x : Float} → s ≡ Refused k x → s ≡ first xs → Answered q (xs ++ ys) (Refusal k x)
+pub answered_up : {q : Csr} (xs ys : List Check) {s : Checked} {k : Reason} {x : Float} → s ≡ Refused k x → s ≡ first xs → Answered q (xs ++ ys) (Refused k x)
 answered_up xs ys e d = answered_refusal (sym e ∙ refused_up xs ys e d)
 
 pub answered_on : {q : Csr} (xs : List Check) {ys : List Check} {s : Checked} {r : MatrixAnswer} → s ≡ Sound → s ≡ first xs → Answered q ys r → Answered q (xs ++ ys) r
@@ -54,7 +56,7 @@ answer_is a mass h = h.is
 
 -- ---- 10: a search passes the rows whose sums are finite
 module _ (q : Csr) {i : ℕ} (p : Passed (bad_sum q) i) where
-  pub refused_sum : (s : Float) → i < q.n → s ≡ row_sum q i → not (is_finite s) ≡ true → Refused 10 s ≡ first (sum_checks q)
+  pub refused_sum : (s : Float) → i < q.n → s ≡ row_sum q i → not (is_finite s) ≡ true → Refused RowSumNotFinite s ≡ first (sum_checks q)
   unfolding sum_checks exists bad_sum
   refused_sum s l e b =
       let here = found_at p q.n l (rw e at b) in
@@ -62,17 +64,17 @@ module _ (q : Csr) {i : ℕ} (p : Passed (bad_sum q) i) where
 
   pub sound_sums : q.n ≤ i → Sound ≡ first (sum_checks q)
   unfolding sum_checks
-  sound_sums l = passes_find 10 _ [] (bad_sum q) q.n (found_none p q.n l) (le_refl q.n) ends_sound
+  sound_sums l = passes_find RowSumNotFinite _ [] (bad_sum q) q.n (found_none p q.n l) (le_refl q.n) ends_sound
 
 -- ---- 11
 module _ (a : Csr) {x : Float} {t : Bool} (e : x ≡ row_sum_norm a) (d : t ≡ is_finite x) where
-  pub refused_norm : not t ≡ true → Refused 11 x ≡ first (norm_checks a)
+  pub refused_norm : not t ≡ true → Refused NormNotFinite x ≡ first (norm_checks a)
   unfolding norm_checks
   refused_norm b = stops_not [] (d ∙ ap is_finite e) b e
 
   pub sound_norm : not t ≡ false → Sound ≡ first (norm_checks a)
   unfolding norm_checks
-  sound_norm b = passes_not 11 _ [] (d ∙ ap is_finite e) b ends_sound
+  sound_norm b = passes_not NormNotFinite _ [] (d ∙ ap is_finite e) b ends_sound
 
 -- ---- 7 to 9
 pub mass_sound : (a : Csr) (mass : List Float) → Sound ≡ first (mass_checks a mass) → Dividing a mass

@@ -3,12 +3,12 @@ use Rattle.std.specs.Prelude.{Bool, true, List, ◌≡◌, ℕ, ◌≤◌, ◌<�
 use Rattle.std.proofs.Math.Option.{none, some}
 use Rattle.doubles.specs.F64.{◌⋖◌, +0, at, is_finite}
 use Rattle.checks.specs.First.{Check, first}
-use Rattle.checks.specs.declared.Checked.TheVariants.{Sound}
 use Rattle.general_operator.specs.Csr.{Csr, Valid, start, row_sum_norm}
-use Rattle.generator_action.specs.declared.MatrixAnswer.{MatrixAnswer}
+use Rattle.generator_action.specs.Answer.{MatrixAnswer}
 use Rattle.generator_action.specs.Mass.{Mass, given, quotients, quotient_need, generator_checks}
 use Rattle.generator_action.specs.declared.Shape.{Shape}
 use Rattle.generator_action.specs.Answer.{unless_refused}
+use Rattle.checks.specs.Reasons.{Sound}
 
 -- what 6 leaves
 abbrev pub Finite : Csr → Type 0

@@ -9,6 +9,7 @@ use Rattle.doubles.specs.F64.{◌⊘◌, ◌⩽◌, +0, nat, at, is_finite}
 use Rattle.checks.specs.First.{Check, refuse}
 use Rattle.general_operator.specs.Csr.{Csr, csr, start, row_sum, row_sum_norm}
 use Rattle.general_operator.specs.Checks.{matrix_checks, open_checks}
+use Rattle.checks.specs.declared.Reason.TheVariants.{MassLength, MassRange, FirstRowStart, RowSumNotFinite, NormNotFinite}
 
 -- one mass to a row, if there is one
 abbrev pub Mass : Type 0
@@ -48,9 +49,9 @@ bad_mass x = not (is_finite x) || x ⩽ +0
 unfoldable pub mass_checks : Csr → List Float → List Check
 mass_checks a mass =
     let bad : ℕ → Bool = λ i. bad_mass (at mass i) in
-    refuse 7 (not (eqb (length mass) a.n)) (nat (length mass))
-    ∷ refuse 8 (exists bad (length mass)) (at mass (find bad (length mass)))
-    ∷ refuse 9 (not (eqb (start a 0) 0)) nan
+    refuse MassLength (not (eqb (length mass) a.n)) (nat (length mass))
+    ∷ refuse MassRange (exists bad (length mass)) (at mass (find bad (length mass)))
+    ∷ refuse FirstRowStart (not (eqb (start a 0) 0)) nan
     ∷ []
 
 unfoldable pub bad_sum : Csr → ℕ → Bool
@@ -58,11 +59,11 @@ bad_sum q i = not (is_finite (row_sum q i))
 
 -- with a mass: of the quotients
 unfoldable pub sum_checks : Csr → List Check
-sum_checks q = refuse 10 (exists (bad_sum q) q.n) (row_sum q (find (bad_sum q) q.n)) ∷ []
+sum_checks q = refuse RowSumNotFinite (exists (bad_sum q) q.n) (row_sum q (find (bad_sum q) q.n)) ∷ []
 
 -- without one
 unfoldable pub norm_checks : Csr → List Check
-norm_checks a = refuse 11 (not (is_finite (row_sum_norm a))) (row_sum_norm a) ∷ []
+norm_checks a = refuse NormNotFinite (not (is_finite (row_sum_norm a))) (row_sum_norm a) ∷ []
 
 unfoldable pub bound_checks : Csr → Mass → List Check
 bound_checks a none = norm_checks a

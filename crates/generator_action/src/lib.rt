@@ -6,35 +6,7 @@ ghost use Rattle.doubles.specs.Sum.{sum};
 ghost use Rattle.checks.specs.First.{first};
 ghost use Rattle.general_operator.specs.Csr.{csr};
 ghost use Rattle.generator_action.specs.Mass.{stored};
-ghost use Rattle.generator_action.specs.Answer.{number, value};
 ghost use Rattle.generator_action.specs.Known.{shape_of};
-
-// A refusal's number and double, or the norm and the first row whose sum equals it.
-#[derive(Clone, Copy)]
-pub enum MatrixAnswer {
-    Refusal(u32, f64),
-    Norm(f64, usize),
-}
-
-// 0, or the refusal's number.
-pub fn number(answer: MatrixAnswer) -> u32
-    ensures { result ≡ number answer }
-{
-    match answer {
-        MatrixAnswer::Refusal(k, _) => k,
-        MatrixAnswer::Norm(_, _) => 0,
-    }
-}
-
-// The norm, or the refusal's double.
-pub fn value(answer: MatrixAnswer) -> f64
-    ensures { result ≡ value answer }
-{
-    match answer {
-        MatrixAnswer::Refusal(_, x) => x,
-        MatrixAnswer::Norm(norm, _) => norm,
-    }
-}
 
 // A generator that passed its checks: its rows, whether its quotients are stored, the places that they take, and its norm.
 #[derive(Clone, Copy)]

@@ -1,17 +1,17 @@
 // The checks 7 to 11: the mass, the row sums, the norm and the first row that has it. Rows are gone through by their number, which is part of the answer.
 #![tactic(auto)]
 
-ghost use Rattle.std.specs.Prelude.{◌≡◌, true, cond, List, ℕ, ◌+◌, ◌-◌, ◌≤◌, ◌<◌, length, fold, Float};
+ghost use Rattle.std.specs.Prelude.{◌≡◌, cond, List, ℕ, ◌+◌, ◌-◌, ◌<◌, length, fold, Float};
 ghost use Rattle.lists.specs.Positions.{IsPosition};
 ghost use Rattle.doubles.specs.F64.{◌⊕◌, ◌⊘◌, ◌⋖◌, +0, at, abs};
 ghost use Rattle.checks.specs.First.{first};
 ghost use Rattle.general_operator.specs.Csr.{csr, Valid};
 ghost use Rattle.generator_action.specs.Mass.{given, normalise, stored, bad_mass, mass_checks, sum_checks, norm_checks};
-ghost use Rattle.generator_action.specs.Answer.{number, matrix_answer};
+ghost use Rattle.generator_action.specs.Answer.{matrix_answer};
 ghost use Rattle.generator_action.specs.Known.{Finite, Dividing, Answered};
 
-use checks::Checked;
-use generator_action::{Largest, MatrixAnswer};
+use checks::{Checked, Reason, Refusal};
+use generator_action::Largest;
 
 #[tactic(auto, unfolding(generator_action::specs::Mass::bad_mass))]
 fn is_bad_mass(x: f64) -> bool
@@ -33,15 +33,24 @@ pub fn check_mass(n: usize, starts: &[u32], mass: &[f64]) -> Checked
     ensures { (columns : List ℕ) (entries : List Float) → result ≡ first (mass_checks (csr n starts.now columns entries) mass.now) }
 {
     if mass.len() != n {
-        return Checked::Refused(7, float::count(mass.len()));
+        return Err(Refusal {
+            reason: Reason::MassLength,
+            value: float::count(mass.len()),
+        });
     }
     if let Some(i) = first_bad_mass(mass) {
-        return Checked::Refused(8, mass[i]);
+        return Err(Refusal {
+            reason: Reason::MassRange,
+            value: mass[i],
+        });
     }
     if starts[0] != 0 {
-        return Checked::Refused(9, float::not_a_number());
+        return Err(Refusal {
+            reason: Reason::FirstRowStart,
+            value: float::not_a_number(),
+        });
     }
-    Checked::Sound
+    Ok(())
 }
 
 // The sum of the sizes of a row's entries.
@@ -69,7 +78,7 @@ fn larger(l: Largest, s: f64, i: usize) -> Largest
 }
 
 // 11, and the norm of a matrix that has no mass.
-pub fn entry_norm(n: usize, starts: &[u32], cols: &[u32], vals: &[f64]) -> MatrixAnswer
+pub fn entry_norm(n: usize, starts: &[u32], cols: &[u32], vals: &[f64]) -> Result<Largest, Refusal>
     requires valid { Valid (csr n starts.now cols.now vals.now) }
     requires finite { Finite (csr n starts.now cols.now vals.now) }
     ensures { Answered (csr n starts.now cols.now vals.now) (norm_checks (csr n starts.now cols.now vals.now)) result }
@@ -82,9 +91,12 @@ pub fn entry_norm(n: usize, starts: &[u32], cols: &[u32], vals: &[f64]) -> Matri
         best = larger(best, s, row);
     }
     if !float::is_finite(best.norm) {
-        return MatrixAnswer::Refusal(11, best.norm);
+        return Err(Refusal {
+            reason: Reason::NormNotFinite,
+            value: best.norm,
+        });
     }
-    MatrixAnswer::Norm(best.norm, best.row)
+    Ok(best)
 }
 
 // 10, and the norm of the quotients, which are not stored.
@@ -94,7 +106,7 @@ pub fn quotient_norm(
     cols: &[u32],
     vals: &[f64],
     mass: &[f64],
-) -> MatrixAnswer
+) -> Result<Largest, Refusal>
     requires valid { Valid (csr n starts.now cols.now vals.now) }
     requires finite { Finite (csr n starts.now cols.now vals.now) }
     requires dividing { Dividing (csr n starts.now cols.now vals.now) mass.now }
@@ -106,11 +118,14 @@ pub fn quotient_norm(
         let to = starts[i + 1] as usize;
         let s = quotient_sum(&vals[from..to], mass[i]);
         if !float::is_finite(s) {
-            return MatrixAnswer::Refusal(10, s);
+            return Err(Refusal {
+                reason: Reason::RowSumNotFinite,
+                value: s,
+            });
         }
         largest = larger(largest, s, i);
     }
-    MatrixAnswer::Norm(largest.norm, largest.row)
+    Ok(largest)
 }
 
 // 1 to 11, on any input; then the norm of Q, and the first row whose sum it is.
@@ -121,18 +136,12 @@ pub fn check_generator(
     vals: &[f64],
     with_mass: bool,
     mass: &[f64],
-) -> MatrixAnswer
+) -> Result<Largest, Refusal>
     ensures { result ≡ matrix_answer (csr n starts.now cols.now vals.now) (given with_mass mass.now) }
 {
-    let matrix = general_operator::validate_csr(n, starts, cols, vals);
-    let Checked::Sound = matrix else {
-        return MatrixAnswer::Refusal(checks::number(matrix), checks::reported(matrix));
-    };
+    general_operator::validate_csr(n, starts, cols, vals)?;
     if with_mass {
-        let masses = check_mass(n, starts, mass);
-        let Checked::Sound = masses else {
-            return MatrixAnswer::Refusal(checks::number(masses), checks::reported(masses));
-        };
+        check_mass(n, starts, mass)?;
         return quotient_norm(n, starts, cols, vals, mass);
     }
     entry_norm(n, starts, cols, vals)

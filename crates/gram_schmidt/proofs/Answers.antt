@@ -1,6 +1,6 @@
 -- The turns and the answer of a run on lists. Assumes nothing.
 use mathlib.Core.List.{List, [], ◌∷◌}
-use mathlib.Core.Path.{◌≡◌, refl, sym, ap, ◌∙◌}
+use mathlib.Core.Path.{◌≡◌, refl, ap, ◌∙◌}
 use Prim.Native.Nat.{ℕ, ◌+◌, ◌*◌, ◌≤◌}
 use native.Mathlib.Numerals.{add-one}
 use native.Mathlib.Omega.{arith}
@@ -8,7 +8,7 @@ use lib.ListN.{length, get_or, replicate, length-replicate}
 use lib.Ieee.{Float}
 use Rattle.std.specs.Prelude.{Result, Ok, Err}
 use Rattle.lists.specs.Loop.{tabulate}
-use Rattle.lists.specs.Walk.{Turn, on, out, walk}
+use Rattle.lists.specs.Walk.{Turn, on, walk}
 use Rattle.lists.specs.Window.{window, splice}
 use Rattle.lists.proofs.Frame.{wrote, written, untouched, wrote_long}
 use Rattle.lists.proofs.Loop.{get_d_tabulate}

@@ -1,5 +1,5 @@
 -- Where a Krylov run keeps its columns, and what the memory stands for. Definitions only.
-use Rattle.std.specs.Prelude.{Result, Ok, Err, ◌≡◌, List, ℕ, ◌+◌, ◌*◌, ◌≤◌, ◌<◌, set, Float}
+use Rattle.std.specs.Prelude.{Result, Ok, Err, ◌≡◌, List, ℕ, ◌+◌, ◌*◌, ◌≤◌, ◌<◌, length, set, Float}
 use Rattle.lists.specs.Frame.{Kept}
 use Rattle.lists.specs.Loop.{tabulate}
 use Rattle.lists.specs.Walk.{Turn, on, out}
@@ -9,7 +9,8 @@ use Rattle.hess_rows.specs.HessProduct.{place}
 use Rattle.general_operator.specs.Csr.{Csr}
 use Rattle.phi_action_helpers.specs.declared.Layout.{Layout}
 use Rattle.phi_action_helpers.specs.declared.Coupling.{Coupling}
-use Rattle.phi_action_helpers.specs.Laid.{operator_of, Laid}
+use Rattle.phi_action_helpers.specs.declared.AugmentedOperator.{AugmentedOperator}
+use Rattle.phi_action_helpers.specs.Laid.{matrix_in, operator_of, Laid}
 use Rattle.gram_schmidt.specs.Basis.{Setting, Columns, Rest, Breakdown, Basis, breakdown, full, norm2, apply, rest}
 use Rattle.gram_schmidt.specs.declared.Krylov.{Krylov}
 use Rattle.gram_schmidt.specs.declared.Broken.{Broken}
@@ -17,6 +18,9 @@ use Rattle.gram_schmidt.specs.declared.Full.{Full}
 
 abbrev pub setting_at : Layout → Coupling → Krylov → Csr → List Float → Setting
 setting_at l b k q vectors = record { operator = operator_of l b q vectors; tau = k.tau; anorm = k.anorm; tol = k.tol; m = k.m }
+
+abbrev pub setting_in : AugmentedOperator → Krylov → List Float → Setting
+setting_in o k work = setting_at o.l o.b k (matrix_in o work) o.vectors.now
 
 -- the columns from the front, then the product, the small matrix, the field, G w, and the quotients: of vals, vectors and work the lengths
 pub record Room (l : Layout) (b : Coupling) (k : Krylov) (q : Csr) (vals vectors work : ℕ) : Type 0 where
@@ -27,6 +31,9 @@ pub record Room (l : Layout) (b : Coupling) (k : Krylov) (q : Csr) (vals vectors
   pub then_y : k.h + (k.m + 2) * (k.m + 2) ≤ k.y
   pub then_av : k.y + (l.n + l.d) ≤ l.av
   pub then_q : l.av + l.n ≤ l.q
+
+abbrev pub RoomFor : AugmentedOperator → Krylov → List Float → Type 0
+RoomFor o k work = Room o.l o.b k (matrix_in o work) (length o.vals.now) (length o.vectors.now) (length work)
 
 -- the field and all from the quotients on are as they were
 pub record Spared (l : Layout) (k : Krylov) (w₀ w : List Float) : Type 0 where

@@ -2,15 +2,12 @@
 #![tactic(auto)]
 
 ghost use Rattle.std.specs.Prelude.{◌≡◌, ◌+◌, ◌*◌, ◌≤◌, ◌<◌, length};
-ghost use Rattle.lists.specs.Walk.{on};
 ghost use Rattle.lists.specs.Window.{splice};
 ghost use Rattle.hess_rows.specs.HessProduct.{place};
-ghost use Rattle.phi_action_helpers.specs.Laid.{matrix_at};
-ghost use Rattle.phi_action_helpers.specs.declared.Coupling.{Coupling};
 ghost use Rattle.gram_schmidt.specs.Basis.{norm2, apply, orthogonal};
-ghost use Rattle.gram_schmidt.specs.Memory.{setting_at, Room, column, behind, rest_at, Rested};
+ghost use Rattle.gram_schmidt.specs.Memory.{column, behind, rest_at, Rested, setting_in, RoomFor};
 
-use phi_action_helpers::{Coupling, Layout, Scales};
+use phi_action_helpers::{AugmentedOperator, Scales};
 
 // A run's memory and what stays the same during it: M + 1 columns of n + d values from place 0, the product from the Layout's w,
 // the small matrix of (M + 2) squared from h, column by column, the field of n + d from y, then the Layout's av and q.
@@ -46,29 +43,19 @@ pub fn norm2(x: &[f64]) -> f64
 }
 
 // The product of column j: `Augmented::apply` of the Rust.
-pub fn apply_in(
-    starts: &[u32],
-    cols: &[u32],
-    vals: &[f64],
-    vectors: &[f64],
-    work: &mut [f64],
-    l: Layout,
-    b: Coupling,
-    k: Krylov,
-    j: usize,
-)
-    requires room { Room l b k (matrix_at l starts.now cols.now vals.now work.old) (length vals.now) (length vectors.now) (length work.old) }
+pub fn apply_in(o: AugmentedOperator, work: &mut [f64], k: Krylov, j: usize)
+    requires room { RoomFor o k work.old }
     requires j_le_m { j ≤ k.m }
-    ensures { work.new ≡ splice l.w (apply (setting_at l b k (matrix_at l starts.now cols.now vals.now work.old) vectors.now) (column (l.n + l.d) work.old j)) work.old }
+    ensures { work.new ≡ splice o.entry.l.w (apply (setting_in o.entry k work.old) (column (o.entry.l.n + o.entry.l.d) work.old j)) work.old }
 {
-    let len = l.n + l.d;
+    let len = o.l.n + o.l.d;
     let s = Scales {
         shifted: false,
         tau: k.tau,
         one: 1.0,
         mu: 0.0,
     };
-    phi_action_helpers::aug_product(starts, cols, vals, vectors, work, l, b, s, j * len);
+    phi_action_helpers::aug_product(o, work, s, j * len);
 }
 
 // z less its parts along columns 0 to j, whose sizes go to column j of h: one pass of modified Gram-Schmidt. Each part is taken away
@@ -96,21 +83,11 @@ fn orthogonal(work: &mut [f64], z_at: usize, h_at: usize, dim: usize, len: usize
 }
 
 // The product of column j, orthogonal to columns 0 to j.
-pub fn rest_in(
-    starts: &[u32],
-    cols: &[u32],
-    vals: &[f64],
-    vectors: &[f64],
-    work: &mut [f64],
-    l: Layout,
-    b: Coupling,
-    k: Krylov,
-    j: usize,
-)
-    requires room { Room l b k (matrix_at l starts.now cols.now vals.now work.old) (length vals.now) (length vectors.now) (length work.old) }
+pub fn rest_in(o: AugmentedOperator, work: &mut [f64], k: Krylov, j: usize)
+    requires room { RoomFor o k work.old }
     requires j_le_m { j ≤ k.m }
-    ensures { Rested l k (setting_at l b k (matrix_at l starts.now cols.now vals.now work.old) vectors.now) j work.old work.new }
+    ensures { Rested o.entry.l k (setting_in o.entry k work.old) j work.old work.new }
 {
-    apply_in(starts, cols, vals, vectors, work, l, b, k, j);
-    orthogonal(work, l.w, k.h, k.m + 2, l.n + l.d, j);
+    apply_in(o, work, k, j);
+    orthogonal(work, o.l.w, k.h, k.m + 2, o.l.n + o.l.d, j);
 }

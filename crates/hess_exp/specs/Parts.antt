@@ -1,5 +1,5 @@
 -- The parts of `hess_exp_e1` that functions of their own give, and what a SmallExp stands for. Definitions only.
-use Rattle.std.specs.Prelude.{List, ℕ, ◌+◌, ◌*◌, Float, if◌then◌else◌}
+use Rattle.std.specs.Prelude.{List, ℕ, Float, if◌then◌else◌}
 use Rattle.lists.specs.Window.{window}
 use Rattle.doubles.specs.F64.{at, abs}
 use Rattle.doubles.specs.Sum.{sum}

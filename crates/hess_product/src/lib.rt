@@ -1,7 +1,7 @@
 // The product with a small Hessenberg matrix that is stored by columns, in place, eight rows at a time.
 #![tactic(auto)]
 
-ghost use Rattle.std.specs.Prelude.{◌≡◌, map, ◌+◌, ◌-◌, ◌*◌, ◌<◌, ◌≤◌, length};
+ghost use Rattle.std.specs.Prelude.{◌≡◌, map, ◌+◌, ◌-◌, ◌*◌, ◌≤◌, length};
 ghost use Rattle.doubles.specs.F64.{◌⊗◌, at};
 ghost use Rattle.hess_rows.specs.HessProduct.{hess_product};
 ghost use Rattle.hess_rows.specs.Parts.{four_parts, put, Leading};
@@ -50,6 +50,7 @@ pub fn hess_product_in(h: &[f64], dim: usize, mx: usize, f: f64, w: &mut [f64])
     requires w_len { length w.old ≡ mx }
     ensures { w.new ≡ map (λ e. f ⊗ e) (hess_product h.now dim mx w.old) }
 {
+    // Each row writes a place of w and reads those behind it, which an iterator over w would hold.
     let mut x = 0.0;
     let blocks = mx / 8;
     for b in 0..blocks {

@@ -8,10 +8,11 @@ use borrow.Author.Tests.{le-ltb, lt-leb, eq-eqb, ne_eqb}
 use Rattle.lists.proofs.Find.{Passed, found_none, exists_none}
 use Rattle.checks.specs.First.{first}
 use Rattle.checks.proofs.First.{passes, ends_sound, sound_on}
-use Rattle.checks.specs.declared.Checked.TheVariants.{Sound}
 use Rattle.general_operator.specs.Csr.{Csr, Valid}
 use Rattle.general_operator.specs.Checks.{wrong_rows, wrong_entries, too_large, falls, bad_column, bad_entry, shape_checks, row_checks, entry_checks, matrix_checks}
 use Rattle.generator_action.specs.Known.{Finite}
+use Rattle.checks.specs.Reasons.{Sound}
+use Rattle.checks.specs.declared.Reason.TheVariants.{RowStartsLength, EntryCount, MatrixTooLarge, RowStartsFall, ColumnRange, EntryNotFinite}
 
 module _ {q : Csr} (v : Valid q) where
   rows_pass : wrong_rows q.n (length q.starts) ≡ false
@@ -28,13 +29,13 @@ module _ {q : Csr} (v : Valid q) where
 
   shape_passes : Sound ≡ first (shape_checks q.n q.starts (length q.columns) (length q.entries))
   unfolding shape_checks
-  shape_passes = passes 1 _ _ rows_pass (passes 2 _ _ entries_pass (passes 3 _ _ size_passes ends_sound))
+  shape_passes = passes RowStartsLength _ _ rows_pass (passes EntryCount _ _ entries_pass (passes MatrixTooLarge _ _ size_passes ends_sound))
 
   starts_pass : Sound ≡ first (row_checks q.n q.starts)
   unfolding row_checks falls
   starts_pass =
       let none : Passed (falls q.starts) q.n = record { none = λ k l. le-ltb _ _ (v.rising k l) } in
-      passes 4 _ _ (sym (exists_none none q.n (le_refl q.n))) ends_sound
+      passes RowStartsFall _ _ (sym (exists_none none q.n (le_refl q.n))) ends_sound
 
   module _ (f : Finite q) where
     fine_entries : Sound ≡ first (entry_checks q.n q.columns q.entries)
@@ -43,7 +44,7 @@ module _ {q : Csr} (v : Valid q) where
         let n = length q.entries in
         let none : Passed (bad_entry q.n q.columns q.entries) n = record { none = λ k l. rw (lt-leb _ _ (v.below k (omega (arith, v.paired))), f k l) refl } in
         let e = found_none none n (le_refl n) in
-        passes 5 _ _ (rw (← e, le-ltb n n (le_refl n)) refl) (passes 6 _ _ (rw (← e) (le-ltb n n (le_refl n))) ends_sound)
+        passes ColumnRange _ _ (rw (← e, le-ltb n n (le_refl n)) refl) (passes EntryNotFinite _ _ (rw (← e) (le-ltb n n (le_refl n))) ends_sound)
 
     pub valid_passes : Sound ≡ first (matrix_checks q)
     unfolding matrix_checks

@@ -22,15 +22,14 @@ use Rattle.lists.proofs.Places.{places_found, spot}
 use Rattle.lists.proofs.Window.{window_splice_same}
 use Rattle.doubles.specs.F64.{◌⊕◌, at, is_finite}
 use Rattle.checks.specs.First.{first}
-use Rattle.checks.proofs.First.{passes, sound_cons, sound_append}
-use Rattle.checks.specs.declared.Checked.{Checked}
-use Rattle.checks.specs.declared.Checked.TheVariants.{Sound, Refused}
+use Rattle.checks.proofs.First.{ok_is, passes, sound_cons, sound_append}
+use Rattle.checks.specs.First.{Checked}
 use Rattle.general_operator.specs.Csr.{Csr, csr, start, Valid}
 use Rattle.general_operator.specs.Checks.{matrix_checks}
 use Rattle.general_operator.proofs.Sound.{or_false}
 use Rattle.general_operator.proofs.Rows.{start_le}
 use Rattle.generator_action.specs.Known.{Finite}
-use Rattle.join_rows.specs.declared.JoinAnswer.TheVariants.{Joined}
+use Rattle.join_rows.specs.Join.{JoinAnswer}
 use Rattle.join_rows.specs.declared.Lengths.{Lengths}
 use Rattle.join_rows.specs.Join.{place, holds, value, joined_columns, joined_value, join, unordered, not_rising, input_checks, value_checks, pair_checks, result_checks, join_checks, written, join_call, Call, ends}
 use Rattle.join_rows.specs.Inner.{Ordered, Fitting}
@@ -38,6 +37,8 @@ use Rattle.join.proofs.Passing.{valid_passes}
 use Rattle.join_rows.proofs.Steps.{held}
 use Rattle.join_checks.proofs.Result.{values_long, input_valid, ordered, same_n, fitting}
 use Rattle.join.proofs.Entries.{Entry, holds_entry, entry_holds, entry_place, start_is, row_ends, entry_held, entry_value, held_entry, result_rises}
+use Rattle.checks.specs.Reasons.{Sound}
+use Rattle.std.specs.Prelude.{Ok, Err}
 
 -- ---- 6 carries a sum: a value that is not finite is one of both
 both_by : (s t : Bool) (x y z : Float) → (s || t) ≡ true → (s ≡ true → is_finite x ≡ true) → (t ≡ true → is_finite y ≡ true) → is_finite (if s && t then z else if s then x else y) ≡ false → (s && t) ≡ true
@@ -55,12 +56,12 @@ unfolding joined_value
 bad_sum a b va fa vb fb i j la lb h e = both_by (holds a i j) (holds b i j) (value a i j) (value b i j) (value a i j ⊕ value b i j) h (held_finite a va fa i j la) (held_finite b vb fb i j lb) e
 
 -- ---- an accepted call
-joined_by : (c : Csr) (r : Checked) (s cs : List ℕ) (vs : List Float) (k : ℕ) → (written r c s cs vs).answer ≡ Joined k → Sound ≡ r
+joined_by : (c : Csr) (r : Checked) (s cs : List ℕ) (vs : List Float) (k : ℕ) → (written r c s cs vs).answer ≡ Ok k → Sound ≡ r
 unfolding written
-joined_by c Sound s cs vs k e = refl
-joined_by c (Refused j x) s cs vs k e = cc
+joined_by c (Ok _) s cs vs k e = refl
+joined_by c (Err r) s cs vs k e = cc
 
-pub joined_accepted : (a b : Csr) (s cs : List ℕ) (vs : List Float) (k : ℕ) → (join_call a b s cs vs).answer ≡ Joined k → Sound ≡ first (join_checks a b (record { starts = length s; columns = length cs; values = length vs }))
+pub joined_accepted : (a b : Csr) (s cs : List ℕ) (vs : List Float) (k : ℕ) → (join_call a b s cs vs).answer ≡ Ok k → Sound ≡ first (join_checks a b (record { starts = length s; columns = length cs; values = length vs }))
 unfolding join_call
 joined_accepted a b s cs vs k e = joined_by (join a b) _ s cs vs k e
 
@@ -220,14 +221,14 @@ module _ (a b : Csr) (s cs : List ℕ) (vs : List Float) where
   abbrev lengths : Lengths
   lengths = record { starts = length s; columns = length cs; values = length vs }
 
-  call_is : Sound ≡ first (join_checks a b lengths) → call ≡ ends (Joined (length (join a b).entries)) (splice 0 (join a b).starts s) (splice 0 (join a b).columns cs) (splice 0 (join a b).entries vs)
+  call_is : Sound ≡ first (join_checks a b lengths) → call ≡ ends (Ok (length (join a b).entries)) (splice 0 (join a b).starts s) (splice 0 (join a b).columns cs) (splice 0 (join a b).entries vs)
   unfolding join_call written
   call_is e = rw (← e) refl
 
   front : {A : Type 0} (xs w : List A) (m : ℕ) → length xs ≡ m → m ≤ length w → window 0 m (splice 0 xs w) ≡ xs
   front xs w m e h = window_splice_same 0 m xs w e (omega arith)
 
-  pub read_back : (k : ℕ) → call.answer ≡ Joined k → csr a.n (window 0 (a.n + 1) call.starts) (window 0 k call.columns) (window 0 k call.values) ≡ join a b
+  pub read_back : (k : ℕ) → call.answer ≡ Ok k → csr a.n (window 0 (a.n + 1) call.starts) (window 0 k call.columns) (window 0 k call.values) ≡ join a b
   read_back k d =
       let e = joined_accepted a b s cs vs k d in
       let t = call_is e in
@@ -236,8 +237,8 @@ module _ (a b : Csr) (s cs : List ℕ) (vs : List Float) where
       let n : length (join a b).entries ≡ k = joined_same (sym (ap (λ (r : Call). r.answer) t) ∙ d) in
       rw t (whole k n (result_n a b lengths e) f v)
     where
-      joined_same : {m k : ℕ} → Joined m ≡ Joined k → m ≡ k
-      joined_same e = cc
+      joined_same : {m k : ℕ} → ◌≡◌ {A = JoinAnswer} (Ok m) (Ok k) → m ≡ k
+      joined_same e = ok_is e
 
       whole : (k : ℕ) → length (join a b).entries ≡ k → (join a b).n ≡ a.n → Fitting (join a b) lengths → Valid (join a b)
           → csr a.n (window 0 (a.n + 1) (splice 0 (join a b).starts s)) (window 0 k (splice 0 (join a b).columns cs)) (window 0 k (splice 0 (join a b).entries vs)) ≡ join a b

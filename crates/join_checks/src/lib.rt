@@ -1,28 +1,21 @@
 // The checks of a join: those of both inputs, 34 and 35, and 36, 3 and 6 of the result.
 #![tactic(auto)]
 
-ghost use Rattle.std.specs.Prelude.{◌≡◌, List, true, ◌||◌, ltb, ◌+◌, ◌-◌, ◌≤◌, ◌<◌, Float};
+ghost use Rattle.std.specs.Prelude.{◌≡◌, List, ◌||◌, ltb, ◌+◌, ◌-◌, ◌≤◌, ◌<◌, Float};
 ghost use Rattle.checks.specs.First.{first};
 ghost use Rattle.general_operator.specs.Csr.{csr};
 ghost use Rattle.join_rows.specs.Join.{join, input_checks, pair_checks, result_checks, join_checks};
 ghost use Rattle.join_rows.specs.Inner.{Rows, Joinable};
 
-use checks::Checked;
-use generator_action::MatrixAnswer;
+use checks::{Checked, Reason, Refusal};
 use join_rows::Lengths;
 
 // 1 to 6 and 11 of one input: those of a generator without mass.
 fn check_input(n: usize, starts: &[u32], cols: &[u32], vals: &[f64]) -> Checked
     ensures { result ≡ first (input_checks (csr n starts.now cols.now vals.now)) }
 {
-    let answer = generator_checks::check_generator(n, starts, cols, vals, false, vals);
-    let MatrixAnswer::Norm(_, _) = answer else {
-        return Checked::Refused(
-            generator_action::number(answer),
-            generator_action::value(answer),
-        );
-    };
-    Checked::Sound
+    generator_checks::check_generator(n, starts, cols, vals, false, vals)?;
+    Ok(())
 }
 
 // 36 of a result with n rows and so many entries.
@@ -30,13 +23,7 @@ fn is_short(n: usize, entries: usize, l: Lengths) -> bool
     requires { n ≤ 1000000 }
     ensures { result ≡ (ltb l.starts (n + 1) || (ltb l.columns entries || ltb l.values entries)) }
 {
-    if l.starts < n + 1 {
-        return true;
-    }
-    if l.columns < entries {
-        return true;
-    }
-    l.values < entries
+    l.starts < n + 1 || l.columns < entries || l.values < entries
 }
 
 // 36, 3 and 6 of the result, which is counted before it is written.
@@ -56,10 +43,16 @@ fn check_result(
     let entries = join_rows::count_entries(n, starts_a, cols_a, starts_b, cols_b);
     let short = is_short(n, entries, l);
     if short {
-        return Checked::Refused(36, float::not_a_number());
+        return Err(Refusal {
+            reason: Reason::JoinLength,
+            value: float::not_a_number(),
+        });
     }
     if entries > 16777216 {
-        return Checked::Refused(3, float::not_a_number());
+        return Err(Refusal {
+            reason: Reason::MatrixTooLarge,
+            value: float::not_a_number(),
+        });
     }
     join_rows::check_values(n, starts_a, cols_a, vals_a, starts_b, cols_b, vals_b)
 }
@@ -78,15 +71,24 @@ fn check_pair(
     ensures { (u v : List Float) → result ≡ first (pair_checks (csr n_a starts_a.now cols_a.now u) (csr n_b starts_b.now cols_b.now v)) }
 {
     if n_a != n_b {
-        return Checked::Refused(34, float::not_a_number());
+        return Err(Refusal {
+            reason: Reason::JoinRows,
+            value: float::not_a_number(),
+        });
     }
     if join_rows::is_unordered(n_a, starts_a, cols_a) {
-        return Checked::Refused(35, float::not_a_number());
+        return Err(Refusal {
+            reason: Reason::JoinColumnOrder,
+            value: float::not_a_number(),
+        });
     }
     if join_rows::is_unordered(n_b, starts_b, cols_b) {
-        return Checked::Refused(35, float::not_a_number());
+        return Err(Refusal {
+            reason: Reason::JoinColumnOrder,
+            value: float::not_a_number(),
+        });
     }
-    Checked::Sound
+    Ok(())
 }
 
 // Every check, the barrel's wholly before the mount's.
@@ -103,17 +105,8 @@ pub fn check_join(
 ) -> Checked
     ensures { result ≡ first (join_checks (csr n_a starts_a.now cols_a.now vals_a.now) (csr n_b starts_b.now cols_b.now vals_b.now) l) }
 {
-    let barrel = check_input(n_a, starts_a, cols_a, vals_a);
-    let Checked::Sound = barrel else {
-        return barrel;
-    };
-    let mount = check_input(n_b, starts_b, cols_b, vals_b);
-    let Checked::Sound = mount else {
-        return mount;
-    };
-    let pair = check_pair(n_a, starts_a, cols_a, n_b, starts_b, cols_b);
-    let Checked::Sound = pair else {
-        return pair;
-    };
+    check_input(n_a, starts_a, cols_a, vals_a)?;
+    check_input(n_b, starts_b, cols_b, vals_b)?;
+    check_pair(n_a, starts_a, cols_a, n_b, starts_b, cols_b)?;
     check_result(n_a, starts_a, cols_a, vals_a, starts_b, cols_b, vals_b, l)
 }

@@ -2,22 +2,15 @@
 // Rows are gone through by their number: a row is told by two places of two slices, and windows of both read no plainer.
 #![tactic(auto)]
 
-ghost use Rattle.std.specs.Prelude.{◌≡◌, List, true, ◌+◌, ◌-◌, ◌≤◌, ◌<◌, length, Float, MatchBool};
+ghost use Rattle.std.specs.Prelude.{◌≡◌, List, ◌+◌, ◌-◌, ◌<◌, length, Float, MatchBool};
 ghost use Rattle.lists.specs.Loop.{stack};
 ghost use Rattle.checks.specs.First.{first};
 ghost use Rattle.general_operator.specs.Csr.{csr};
-ghost use Rattle.join_rows.specs.Join.{joined_columns, joined_values, join, unordered, value_checks, ends};
-ghost use Rattle.join_rows.specs.Inner.{Rows, Ordered, Joinable, Repeats, Rises};
+ghost use Rattle.join_rows.specs.Join.{joined_columns, joined_values, join, unordered, value_checks};
+ghost use Rattle.join_rows.specs.Inner.{Rows, unordered_row, Ordered, Joinable, Repeats, Rises};
 ghost use Rattle.row_merge.specs.Merge.{advance};
 
-use checks::Checked;
-
-// A refusal's number and double, or the number of entries of the result.
-#[derive(Clone, Copy)]
-pub enum JoinAnswer {
-    Refusal(u32, f64),
-    Joined(usize),
-}
+use checks::{Checked, Reason, Refusal};
 
 // The lengths of the slices that the result is written to.
 #[derive(Clone, Copy)]
@@ -34,19 +27,23 @@ fn row_unordered(row: &[u32]) -> bool
     row.windows(2).any(|w| w[1] <= w[0])
 }
 
+// 35 of row i of one input.
+fn unordered_at(n: usize, starts: &[u32], cols: &[u32], i: usize) -> bool
+    requires rows { Rows n starts.now cols.now }
+    requires i_lt_n { i < n }
+    ensures { result ≡ unordered_row starts.now cols.now i }
+{
+    let from = starts[i] as usize;
+    let to = starts[i + 1] as usize;
+    row_unordered(&cols[from..to])
+}
+
 // 35 of one input. Entries before the first row start are in no row.
 pub fn is_unordered(n: usize, starts: &[u32], cols: &[u32]) -> bool
     requires { Rows n starts.now cols.now }
     ensures { (vals : List Float) → result ≡ unordered (csr n starts.now cols.now vals) }
 {
-    for i in 0..n {
-        let from = starts[i] as usize;
-        let to = starts[i + 1] as usize;
-        if row_unordered(&cols[from..to]) {
-            return true;
-        }
-    }
-    false
+    (0..n).any(|i| unordered_at(n, starts, cols, i))
 }
 
 // How many entries row i of the result has.
@@ -113,11 +110,14 @@ fn check_row_values(
     loop {
         let x = row_merge::next_column(n, cols_a, cols_b, m);
         if x.column >= n {
-            return Checked::Sound;
+            return Ok(());
         }
         let value = row_merge::value_at(vals_a, vals_b, m, x);
         if !float::is_finite(value) {
-            return Checked::Refused(6, value);
+            return Err(Refusal {
+                reason: Reason::EntryNotFinite,
+                value,
+            });
         }
         m = row_merge::advance(m, x);
     }
@@ -137,10 +137,7 @@ pub fn check_values(
     ensures { result ≡ first (value_checks (join (csr n starts_a.now cols_a.now vals_a.now) (csr n starts_b.now cols_b.now vals_b.now)).entries) }
 {
     for i in 0..n {
-        let row = check_row_values(n, starts_a, cols_a, vals_a, starts_b, cols_b, vals_b, i);
-        let Checked::Sound = row else {
-            return row;
-        };
+        check_row_values(n, starts_a, cols_a, vals_a, starts_b, cols_b, vals_b, i)?;
     }
-    Checked::Sound
+    Ok(())
 }

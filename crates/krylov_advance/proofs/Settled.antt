@@ -28,6 +28,8 @@ use Rattle.trial_steps.specs.declared.Outcome.{Outcome}
 use Rattle.trial_steps.specs.declared.Outcome.TheVariants.{Next, Accepted, NoPlan}
 use Rattle.krylov_advance.specs.declared.Progress.{Progress}
 use Rattle.krylov_advance.specs.declared.Progress.TheVariants.{Refused}
+use Rattle.checks.specs.Reasons.{refusal}
+use Rattle.checks.specs.declared.Reason.TheVariants.{LengthsRejected, NoInnerPlan}
 
 -- ---- what the answer's basis has
 columns_are : (l : Layout) (k : Krylov) (basis : Result Full Broken) (w : List Float) → columns_of (basis_at l k basis w) ≡ tabulate (columns_in k basis) (column (l.n + l.d) w)
@@ -62,11 +64,11 @@ module _ (l : Layout) (b : Coupling) (k : Krylov) (q : Csr) (vectors : List Floa
   unfolding substep
   settled = rw (field, et, eb) refl
 
-  pub after_rejections : (j : ℕ) (t : Float) → o ≡ Next j t → progress_at l k (Refused 28 k.tol c r) w ≡ substep (setting_at l b k q vectors) (state_at l k c r w₀)
+  pub after_rejections : (j : ℕ) (t : Float) → o ≡ Next j t → progress_at l k (Refused (refusal LengthsRejected k.tol) c r) w ≡ substep (setting_at l b k q vectors) (state_at l k c r w₀)
   unfolding outcome_at settle progress_at
   after_rejections j t e = sym (settled ∙ rw e refl)
 
-  pub after_no_plan : (arg : Float) → o ≡ NoPlan arg → progress_at l k (Refused 29 arg c r) w ≡ substep (setting_at l b k q vectors) (state_at l k c r w₀)
+  pub after_no_plan : (arg : Float) → o ≡ NoPlan arg → progress_at l k (Refused (refusal NoInnerPlan arg) c r) w ≡ substep (setting_at l b k q vectors) (state_at l k c r w₀)
   unfolding outcome_at settle progress_at
   after_no_plan arg e = sym (settled ∙ rw e refl)
 

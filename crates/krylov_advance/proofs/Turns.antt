@@ -71,4 +71,4 @@ module _ (l : Layout) (k : Krylov) where
       let d : More p.m (state_at l k c r w₀) (on (state_at l k c' r' w)) = rw (← e) at (substep_more p (state_at l k c r w₀)) in
       (omega (arith, m, h.0, d.0), omega (arith, h.1, d.1), omega (arith, h.2, d.2))
   moderate_turn p i c r w₀ w (Finished c' r') m h e = tt
-  moderate_turn p i c r w₀ w (Refused n x c' r') m h e = tt
+  moderate_turn p i c r w₀ w (Refused n c' r') m h e = tt

@@ -45,7 +45,7 @@ room_absolute beta r = record { laid = r.laid; small = r.small; columns = r.colu
 end_absolute : (l : Layout) (k : Krylov) (beta : Float) (o : RunAnswer) (w : List Float) → end_at l (absolute k beta) o w ≡ end_at l k o w
 unfolding end_at
 end_absolute l k beta (Finished c r) w = refl
-end_absolute l k beta (Refused number x c r) w = refl
+end_absolute l k beta (Refused e c r) w = refl
 
 -- the field by a factor
 module _ (l : Layout) (k : Krylov) (by : Float) (w₀ w : List Float) (room : k.y + (l.n + l.d) ≤ length w₀) (e : w ≡ splice k.y (scale by (window k.y (l.n + l.d) w₀)) w₀) where

@@ -34,14 +34,14 @@ stepped l k c r applied s f p w = advance p (state_at l k c r w) applied (tabula
 unfoldable pub progress_at : Layout → Krylov → Progress → List Float → Turn State End
 progress_at l k (progress.On c r) w = on (state_at l k c r w)
 progress_at l k (progress.Finished c r) w = out (finished (state_at l k c r w))
-progress_at l k (progress.Refused number x c r) w = out (refused number x (state_at l k c r w))
+progress_at l k (progress.Refused e c r) w = out (refused e.reason e.value (state_at l k c r w))
 
 -- the counts of at most i substeps
 abbrev pub Moderate : ℕ → Progress → Type 0
 Moderate i (progress.On c r) = (r.matvecs ≤ 129 * i) × (r.substeps ≤ i) × (r.rejected ≤ 10 * i)
 Moderate i (progress.Finished c r) = Unit {0}
-Moderate i (progress.Refused number x c r) = Unit {0}
+Moderate i (progress.Refused e c r) = Unit {0}
 
 unfoldable pub end_at : Layout → Krylov → RunAnswer → List Float → End
 end_at l k (answer.Finished c r) w = finished (state_at l k c r w)
-end_at l k (answer.Refused number x c r) w = refused number x (state_at l k c r w)
+end_at l k (answer.Refused e c r) w = refused e.reason e.value (state_at l k c r w)

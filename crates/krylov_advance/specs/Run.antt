@@ -1,6 +1,8 @@
 -- The run over unit time: state, substep, limit (phi_krylov_arnoldi.rs, `substeps`, `expv`; Sidje 1998). Definitions only.
 use Rattle.std.specs.Prelude.{Bool, true, false, not, ◌&&◌, List, ℕ, suc, ◌+◌, min, eqb, ltb, length, replicate, get_or, [], Float, if◌then◌else◌, Option, Some, None}
 use Rattle.std.specs.Float.Ieee.{eq}
+use Rattle.checks.specs.declared.Reason.{Reason}
+use Rattle.checks.specs.declared.Reason.TheVariants.{SubstepLimit, LengthsRejected, NoInnerPlan}
 use Rattle.lists.specs.Loop.{iter}
 use Rattle.lists.specs.Walk.{Turn, on, out, walk}
 use Rattle.doubles.specs.F64.{◌⊕◌, ◌⊖◌, ◌⊗◌, ◌⊘◌, ◌⋖◌, bits, nat, +0, 1f, at, min_num, max_num}
@@ -37,10 +39,10 @@ pub record State : Type 0 where
   pub report : KrylovPhiReport
   pub y : List Float
 
--- a run's end: with a result, or a refusal's number and double and the last accepted state
+-- a run's end: with a result, or why it is refused, the double that is reported with it, and the last accepted state
 pub data End : Type 0 where
   finished : State → End
-  refused : ℕ → Float → State → End
+  refused : Reason → Float → State → End
 
 abbrev pub applied_of : Basis → ℕ
 applied_of (breakdown b) = b.columns.applied
@@ -90,10 +92,10 @@ abbrev pub standing : State → Bool → Turn State End
 standing s true = on s
 standing s false = out (finished s)
 
--- 28: eleven rejections; 29: no inner plan. Either leaves the last accepted state
+-- refused after eleven rejections, or without an inner plan; either leaves the last accepted state
 unfoldable pub settle : Setting → State → Basis → Turn Trying Tried → Turn State End
-settle p s b (on t) = out (refused 28 p.tol s)
-settle p s b (out (stuck arg)) = out (refused 29 arg s)
+settle p s b (on t) = out (refused LengthsRejected p.tol s)
+settle p s b (out (stuck arg)) = out (refused NoInnerPlan arg s)
 settle p s b (out (accepted rejections t f err)) =
     let next = advance p s (applied_of b) (columns_of b) rejections t f err in
     standing next (unfinished next)
@@ -104,9 +106,9 @@ substep p s =
     let b = arnoldi p s.y s.control.beta in
     settle p s b (trials p s.control.beta s.control.next (1f ⊖ s.control.time) b)
 
--- 27 for a run that has not ended
+-- refused for its limit: a run that has not ended
 unfoldable pub spent : Turn State End → End
-spent (on s) = refused 27 s.report.est_error s
+spent (on s) = refused SubstepLimit s.report.est_error s
 spent (out e) = e
 
 -- `substeps`: at most `limit` substeps

@@ -16,6 +16,7 @@ ghost use Rattle.krylov_advance.specs.Run.{combined, shorter, counted, unfinishe
 ghost use Rattle.krylov_advance.specs.declared.KrylovPhiReport.{KrylovPhiReport};
 ghost use Rattle.krylov_advance.specs.Memory.{products, stepped, progress_at};
 
+use checks::Refusal;
 use gram_schmidt::Krylov;
 use phi_action_helpers::{Coupling, Layout};
 use trial_steps::{Step, Trial};
@@ -47,14 +48,14 @@ pub struct Control {
 pub enum Progress {
     On(Control, KrylovPhiReport),
     Finished(Control, KrylovPhiReport),
-    Refused(u32, f64, Control, KrylovPhiReport),
+    Refused(Refusal, Control, KrylovPhiReport),
 }
 
-// A result, or a refusal's number and double; the field is the last accepted one.
+// A result, or a refusal; the field is the last accepted one.
 #[derive(Clone, Copy)]
 pub enum RunAnswer {
     Finished(Control, KrylovPhiReport),
-    Refused(u32, f64, Control, KrylovPhiReport),
+    Refused(Refusal, Control, KrylovPhiReport),
 }
 
 // The field: beta times the columns by their coefficients, added up from zeros.

@@ -12,10 +12,9 @@ use Rattle.std.specs.Prelude.{None}
 use Rattle.lists.specs.Window.{window, splice}
 use Rattle.lists.proofs.Bounds.{column_within}
 use Rattle.lists.proofs.Window.{window_splice_same}
-use Rattle.checks.specs.First.{Check, refuse, first}
-use Rattle.checks.proofs.First.{sound_cons, sound_append, sound_on, refused_up}
-use Rattle.checks.specs.declared.Checked.{Checked}
-use Rattle.checks.specs.declared.Checked.TheVariants.{Sound, Refused}
+use Rattle.checks.specs.First.{Check, refuse, first, or_first}
+use Rattle.checks.proofs.First.{sound_cons, sound_append, sound_on, refused_up, err_first, ok_first, refused_or, sound_or}
+use Rattle.checks.specs.First.{Checked}
 use Rattle.general_operator.specs.Csr.{Csr, csr}
 use Rattle.general_operator.proofs.Sound.{or_false}
 use Rattle.generator_action.specs.Mass.{given, quotients}
@@ -36,12 +35,15 @@ use Rattle.combination.proofs.Ends.{refused_by, runs}
 use Rattle.gram_schmidt.specs.declared.Krylov.{Krylov}
 use Rattle.krylov_advance.specs.Run.{End, finished, refused}
 use Rattle.krylov_job.specs.KrylovCall.{dimension, option_checks, bound_checks, run_checks, krylov_need, krylov_checks_by, krylov_checks, after_run, combination_run_krylov, phi_combination_krylov}
-use Rattle.krylov_job.specs.Inner.{scaling_by, scaling_of, run_job_by, checks_after, Admitted, Allowed, run_of}
-use Rattle.krylov_job.specs.declared.KrylovAnswer.{KrylovAnswer}
-use Rattle.krylov_job.specs.declared.KrylovAnswer.TheVariants.{Refusal}
+use Rattle.krylov_job.specs.Inner.{scaling_by, scaling_of, run_job_by, run_by, checks_after, admitted, Allowed, run_of}
+use Rattle.krylov_job.specs.KrylovCall.{KrylovAnswer}
 use Rattle.krylov_job.specs.declared.KrylovPhiOptions.{KrylovPhiOptions}
 use Rattle.krylov_job.specs.declared.RunJob.{RunJob}
 use Rattle.krylov_job.proofs.Places.{clamp_twice, expv_clamped}
+use Rattle.checks.specs.Reasons.{Sound, Refused}
+use Rattle.std.specs.Prelude.{Result, Ok, Err}
+use Rattle.checks.specs.declared.Refusal.{Refusal}
+use Rattle.checks.specs.declared.Reason.{Reason}
 
 -- ---- what 18 to 22, 24 and 26 tell
 pub options_known : (o : KrylovPhiOptions) (M : ℕ) {r : Checked} → r ≡ Sound → r ≡ first (option_checks o M) → (M ≤ 128) × (o.max_substeps ≤ 1000000)
@@ -66,13 +68,13 @@ field_needed {j = j} al =
 -- ---- what all checks after those of the generator tell
 -- an answer is that of some checks
 abbrev pub alone : Checked → List Check
-alone Sound = []
-alone (Refused k x) = refuse k true x ∷ []
+alone (Ok _) = []
+alone (Err r) = refuse r.reason true r.value ∷ []
 
 pub alone_told : (r : Checked) → r ≡ first (alone r)
 unfolding first
-alone_told Sound = refl
-alone_told (Refused k x) = refl
+alone_told (Ok _) = refl
+alone_told (Err r) = refl
 
 -- what stands between 16 and 17 passed, and so did 12 to 17 without it
 pub vectors_alone : (n : ℕ) (ts os : List Check) (count : ℕ) (w : List Float) (output : ℕ) → Sound ≡ first (vector_checks_by ts (length_checks output n (length w) (count * n) ++ os) count w)
@@ -94,41 +96,37 @@ module _ (g : Shape) (tau : Float) (count : ℕ) (w : List Float) (o : KrylovPhi
       let v = sound_append _ (option_checks o (dimension g.n (count - 1) o.m)) (sym e ∙ told) in
       ((vectors_alone g.n (time_checks tau) os count w output v.0).0, (options_known o _ refl v.1).0)
 
-  pub refused_early : (eta : Scaling) (memory : ℕ) {j : RunJob} {k : ℕ} {x : Float} → early ≡ Refused k x → j.checked ≡ early
-      → Admitted g tau count w eta o (length_checks output g.n (length w) (count * g.n) ++ os) memory j
+  pub refused_early : (eta : Scaling) (memory : ℕ) {e : Refusal} → early ≡ Err e
+      → Err e ≡ admitted g tau count w eta o (length_checks output g.n (length w) (count * g.n) ++ os) memory
   unfolding checks_after
-  refused_early eta memory {j} e ej =
-      record {
-        told = ej ∙ refused_up _ _ e told ∙ ap first (append_assoc (vector_checks_by (time_checks tau) (length_checks output g.n (length w) (count * g.n) ++ os) count w) _ _);
-        is = λ s. let never : Sound ≡ Refused _ _ = sym s ∙ ej ∙ e in cc;
-      }
+  refused_early eta memory e =
+      refused_or _ _ _ e told
+      ∙ ap (λ (cs : List Check). or_first cs (run_job_by g tau (count - 1) (further g.n w) eta o (dimension g.n (count - 1) o.m))) (append_assoc (vector_checks_by (time_checks tau) (length_checks output g.n (length w) (count * g.n) ++ os) count w) _ _)
 
-  pub admitted : (eta : Scaling) (memory : ℕ) {j : RunJob} → early ≡ Sound
-      → j ≡ run_job_by g tau (count - 1) (further g.n w) eta o (dimension g.n (count - 1) o.m) memory
-      → Admitted g tau count w eta o (length_checks output g.n (length w) (count * g.n) ++ os) memory j
+  pub then_run : (eta : Scaling) (memory : ℕ) {r : Result RunJob Refusal} → early ≡ Sound
+      → r ≡ run_by g tau (count - 1) (further g.n w) eta o (dimension g.n (count - 1) o.m) memory
+      → r ≡ admitted g tau count w eta o (length_checks output g.n (length w) (count * g.n) ++ os) memory
   unfolding checks_after
-  admitted eta memory {j} e ej =
-      record {
-        told = sound_on _ _ e told (ap (λ (x : RunJob). x.checked) ej) ∙ ap first (append_assoc (vector_checks_by (time_checks tau) (length_checks output g.n (length w) (count * g.n) ++ os) count w) _ _);
-        is = λ _. ej;
-      }
+  then_run eta memory e er =
+      sound_or _ _ _ e told er
+      ∙ ap (λ (cs : List Check). or_first cs (run_job_by g tau (count - 1) (further g.n w) eta o (dimension g.n (count - 1) o.m))) (append_assoc (vector_checks_by (time_checks tau) (length_checks output g.n (length w) (count * g.n) ++ os) count w) _ _)
 
 pub record Known (g : Shape) (tau : Float) (count : ℕ) (w : List Float) (eta : Scaling) (o : KrylovPhiOptions) (output : ℕ) (os : List Check) (memory : ℕ) (j : RunJob) : Type 0 where
-  pub is : j ≡ run_job_by g tau (count - 1) (further g.n w) eta o (dimension g.n (count - 1) o.m) memory
+  pub is : j ≡ run_job_by g tau (count - 1) (further g.n w) eta o (dimension g.n (count - 1) o.m)
   pub vectors : Vectors g.n count (length w) output
   pub options : (dimension g.n (count - 1) o.m ≤ 128) × (o.max_substeps ≤ 1000000)
   pub others : Sound ≡ first os
   pub enough : j.need ≤ memory
 
 pub known : {g : Shape} {tau : Float} {count : ℕ} {w : List Float} {eta : Scaling} {o : KrylovPhiOptions} {output : ℕ} {os : List Check} {memory : ℕ} {j : RunJob}
-    → Admitted g tau count w eta o (length_checks output g.n (length w) (count * g.n) ++ os) memory j
-    → j.checked ≡ Sound
+    → admitted g tau count w eta o (length_checks output g.n (length w) (count * g.n) ++ os) memory ≡ Ok j
     → Known g tau count w eta o output os memory j
 unfolding checks_after
-known {g} {tau} {count} {w} {eta} {o} {output} {os} {memory} {j} ad e =
-    let is = ad.is e in
+known {g} {tau} {count} {w} {eta} {o} {output} {os} {memory} {j} ad =
+    let told = ok_first _ _ ad in
+    let is = sym told.1 in
     let M = dimension g.n (count - 1) o.m in
-    let v = sound_append (vector_checks_by (time_checks tau) (length_checks output g.n (length w) (count * g.n) ++ os) count w) _ (sym e ∙ ad.told) in
+    let v = sound_append (vector_checks_by (time_checks tau) (length_checks output g.n (length w) (count * g.n) ++ os) count w) _ (sym told.0) in
     let p = sound_append (option_checks o M) _ v.1 in
     let a = vectors_alone g.n (time_checks tau) os count w output v.0 in
     record {
@@ -188,10 +186,10 @@ run_from {j = j} q f y w₀ {w₁} al ly e =
     after_cleared j.g.n j.need w₀ w₁ _ (clear_over j.need j.k.y y w₀ e (omega (arith, fits, ly))) ∙ rw field refl
 
 -- ---- the answer
-pub refused_generator : (g : Generator) (tau : Float) (count : ℕ) (w : List Float) (o : KrylovPhiOptions) (out w₀ : List Float) {k : ℕ} {x : Float} → Refused k x ≡ first g.checks
-    → ends (Refusal k x) out w₀ ≡ phi_combination_krylov g tau count w o out w₀
+pub refused_generator : (g : Generator) (tau : Float) (count : ℕ) (w : List Float) (o : KrylovPhiOptions) (out w₀ : List Float) {k : Reason} {x : Float} → Refused k x ≡ first g.checks
+    → ends (Refused k x) out w₀ ≡ phi_combination_krylov g tau count w o out w₀
 unfolding phi_combination_krylov krylov_checks krylov_checks_by
-refused_generator g tau count w o out w₀ e = refused_by Refusal _ out w₀ _ refl (refused_up g.checks _ refl e)
+refused_generator g tau count w o out w₀ e = refused_by Refused _ out w₀ _ refl (refused_up g.checks _ refl e)
 
 -- over a generator that passed the checks gs
 module _
@@ -218,18 +216,18 @@ module _
   all_checks eta ls memory e = sound_on gs _ refl sound (rw (← ok.norm, rows) e)
 
   -- a job with nothing between 16 and 17, by its own eta
-  module _ (out w₀ : List Float) {j : RunJob} (ad : Admitted g tau count w (scaling_of g tau count w None) o (length_checks (length out) g.n (length w) (count * g.n) ++ []) (length w₀) j) where
-    pub job_told : j.checked ≡ first (krylov_checks generator tau count w o (length out) (length w₀))
+  module _ (out w₀ : List Float) {r : Result RunJob Refusal} (ad : r ≡ admitted g tau count w (scaling_of g tau count w None) o (length_checks (length out) g.n (length w) (count * g.n) ++ []) (length w₀)) where
+    pub job_told : first (checks_after g tau count w (scaling_of g tau count w None).eta o (length_checks (length out) g.n (length w) (count * g.n) ++ []) (length w₀)) ≡ first (krylov_checks generator tau count w o (length out) (length w₀))
     unfolding krylov_checks length_checks scaling_by eta_of quotients
-    job_told = rw rows (all_checks (scaling_of g tau count w None).eta (length_checks (length out) g.n (length w) (count * g.n)) (length w₀) ad.told)
+    job_told = rw rows (all_checks (scaling_of g tau count w None).eta (length_checks (length out) g.n (length w) (count * g.n)) (length w₀) refl)
 
-    pub refused_run : {k : ℕ} {x : Float} → j.checked ≡ Refused k x → ends (Refusal k x) out w₀ ≡ phi_combination_krylov generator tau count w o out w₀
+    pub refused_run : {k : Reason} {x : Float} → r ≡ Refused k x → ends (Refused k x) out w₀ ≡ phi_combination_krylov generator tau count w o out w₀
     unfolding phi_combination_krylov
-    refused_run e = refused_by Refusal _ out w₀ _ e job_told
+    refused_run e = refused_by Refused _ out w₀ _ (err_first _ _ (sym ad ∙ e)) job_told
 
-    module _ (e : j.checked ≡ Sound) where
+    module _ {j : RunJob} (e : r ≡ Ok j) where
       k : Known g tau count w (scaling_of g tau count w None) o (length out) [] (length w₀) j
-      k = known ad e
+      k = known (sym ad ∙ e)
 
       pub start_fits : (g.n ≤ length w) × (j.k.y + (g.n + j.d) ≤ length w₀)
       start_fits =
@@ -243,14 +241,14 @@ module _
           → c ≡ after_run j.g.n j.need w₁ (run_of j (matrix_of j.g starts cols vals mass) (further g.n w) (window j.k.y (j.g.n + j.d) w₁))
           → c ≡ phi_combination_krylov generator tau count w o out w₀
       unfolding phi_combination_krylov combination_run_krylov combination_operator dimension scaling_by eta_of
-      combined_is e₁ r =
+      combined_is e₁ ran =
           let d = count - 1 in
           let f = further g.n w in
           let M = dimension g.n d o.m in
-          let J = run_job_by g tau d f (scaling_of g tau count w None) o M (length w₀) in
+          let J = run_job_by g tau d f (scaling_of g tau count w None) o M in
           let q = generator.matrix in
           let y = combination_start g.n w d J.eta.inv in
           let ly = length_start g.n w d J.eta.inv (first_within k.vectors) in
           let B = augmented q d f J.b.places J.b.gains J.b.count in
           let clamped = rw ly at (expv_clamped B tau J.k.anorm o.tol o.m o.max_substeps y) in
-          runs Refusal _ out w₀ _ e job_told ((rw k.is at r) ∙ run_from q f y w₀ (rw k.is at (allowed mass ok k)) ly (rw k.is at e₁) ∙ ap (after_run g.n J.need w₀) clamped ∙ rw (← ok.norm, rows) refl)
+          runs Refused _ out w₀ _ (ok_first _ _ (sym ad ∙ e)).0 job_told ((rw k.is at ran) ∙ run_from q f y w₀ (rw k.is at (allowed mass ok k)) ly (rw k.is at e₁) ∙ ap (after_run g.n J.need w₀) clamped ∙ rw (← ok.norm, rows) refl)

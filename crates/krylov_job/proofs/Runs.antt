@@ -30,7 +30,7 @@ use Rattle.krylov_advance.specs.declared.RunAnswer.TheVariants.{Finished, Refuse
 use Rattle.krylov_job.specs.KrylovCall.{krylov_need, after_run}
 use Rattle.krylov_job.specs.Memory.{layout}
 use Rattle.krylov_job.specs.Inner.{answer_of, Allowed, run_of}
-use Rattle.krylov_job.specs.declared.KrylovAnswer.{KrylovAnswer}
+use Rattle.krylov_job.specs.KrylovCall.{KrylovAnswer}
 use Rattle.krylov_job.specs.declared.RunJob.{RunJob}
 
 lined : (n d m : ℕ) (b : Bool) → Lined (layout n d m b)
@@ -48,7 +48,7 @@ after_is : (n need : ℕ) (w₀ : List Float) (l : Layout) (k : Krylov) (r : Run
     → ends (answer_of r) (window 0 n (window k.y (l.n + l.d) w₂)) (cleared need w₀) ≡ after_run n need w₀ (end_at l k r w₂)
 unfolding after_run end_at answer_of
 after_is n need w₀ l k (Finished c r) w₂ = refl
-after_is n need w₀ l k (Refused number x c r) w₂ = refl
+after_is n need w₀ l k (Refused e c r) w₂ = refl
 
 module _
     {starts cols : List ℕ}

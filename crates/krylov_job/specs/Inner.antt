@@ -1,9 +1,8 @@
--- What the checks of a run hand back beside their answer, and what the run takes from them: cited by contracts of inner functions, and by no
+-- What the checks of a run guard, and what the run takes from them: cited by contracts of inner functions, and by no
 -- definition of a call. Definitions only.
 use Rattle.std.specs.Prelude.{List, ◌++◌, ◌≡◌, ℕ, ◌+◌, ◌-◌, ◌≤◌, Option, Some, None, Float}
 use Rattle.doubles.specs.F64.{1f}
-use Rattle.checks.specs.First.{Check, first}
-use Rattle.checks.specs.declared.Checked.TheVariants.{Sound}
+use Rattle.checks.specs.First.{Check, or_first}
 use Rattle.general_operator.specs.Csr.{Csr, csr}
 use Rattle.generator_action.specs.Mass.{given}
 use Rattle.generator_action.specs.Known.{Passed}
@@ -21,15 +20,15 @@ use Rattle.krylov_advance.specs.declared.RunAnswer.TheVariants.{Finished, Refuse
 use Rattle.krylov_job.specs.KrylovCall.{bound, dimension, option_checks, run_checks, krylov_need}
 use Rattle.krylov_job.specs.Memory.{krylov}
 use Rattle.krylov_job.specs.declared.KrylovPhiOptions.{KrylovPhiOptions}
-use Rattle.krylov_job.specs.declared.KrylovAnswer.{KrylovAnswer}
-use Rattle.krylov_job.specs.declared.KrylovAnswer.TheVariants.{Refusal, Result}
+use Rattle.krylov_job.specs.KrylovCall.{KrylovAnswer}
 use Rattle.krylov_job.specs.declared.RunJob.{RunJob}
+use Rattle.checks.specs.declared.Refusal.{Refusal}
+use Rattle.std.specs.Prelude.{Result, Ok, Err}
 
--- 21, 22 by eta, 24 and 26 of a combination of dimension M over a generator with the numbers g: the answer, and what was found
-abbrev pub run_job_by : Shape → Float → ℕ → List Float → Scaling → KrylovPhiOptions → ℕ → ℕ → RunJob
-run_job_by g tau d f eta o M memory =
+-- a run of a combination of dimension M over a generator with the numbers g, its gains scaled by eta
+abbrev pub run_job_by : Shape → Float → ℕ → List Float → Scaling → KrylovPhiOptions → ℕ → RunJob
+run_job_by g tau d f eta o M =
     record {
-      checked = first (run_checks g.n tau d f eta.eta (bound tau g.norm) memory (krylov_need g.n d M g.stored));
       g = g;
       d = d;
       need = krylov_need g.n d M g.stored;
@@ -38,6 +37,10 @@ run_job_by g tau d f eta o M memory =
       k = krylov g.n d M tau (bound tau g.norm) o.tol;
       limit = o.max_substeps;
     }
+
+-- unless 21, 22 by eta, 24 or 26 refuses it
+abbrev pub run_by : Shape → Float → ℕ → List Float → Scaling → KrylovPhiOptions → ℕ → ℕ → Result RunJob Refusal
+run_by g tau d f eta o M memory = or_first (run_checks g.n tau d f eta.eta (bound tau g.norm) memory (krylov_need g.n d M g.stored)) (run_job_by g tau d f eta o M)
 
 -- eta of the sum of a job's shares, or what a run began with
 unfoldable pub scaling_by : Option Float → Float → Scaling
@@ -55,10 +58,10 @@ checks_after g tau count w eta o of_lengths memory =
     vector_checks_by (time_checks tau) of_lengths count w
     ++ (option_checks o M ++ run_checks g.n tau d (further g.n w) eta (bound tau g.norm) memory (krylov_need g.n d M g.stored))
 
--- j is the answer of all of them, and the job where none holds
-pub record Admitted (g : Shape) (tau : Float) (count : ℕ) (w : List Float) (eta : Scaling) (o : KrylovPhiOptions) (of_lengths : List Check) (memory : ℕ) (j : RunJob) : Type 0 where
-  pub told : j.checked ≡ first (checks_after g tau count w eta.eta o of_lengths memory)
-  pub is : j.checked ≡ Sound → j ≡ run_job_by g tau (count - 1) (further g.n w) eta o (dimension g.n (count - 1) o.m) memory
+-- the job, unless one of them refuses it
+abbrev pub admitted : Shape → Float → ℕ → List Float → Scaling → KrylovPhiOptions → List Check → ℕ → Result RunJob Refusal
+admitted g tau count w eta o of_lengths memory =
+    or_first (checks_after g tau count w eta.eta o of_lengths memory) (run_job_by g tau (count - 1) (further g.n w) eta o (dimension g.n (count - 1) o.m))
 
 -- a job that passed: of the vectors and the memory the lengths
 pub record Allowed (starts cols : List ℕ) (vals mass : List Float) (j : RunJob) (vectors memory : ℕ) : Type 0 where
@@ -78,5 +81,5 @@ run_of j q vectors y =
 
 -- the answer that its end is told by
 unfoldable pub answer_of : RunAnswer → KrylovAnswer
-answer_of (Finished c r) = Result r
-answer_of (Refused k x c r) = Refusal k x
+answer_of (Finished c r) = Ok r
+answer_of (Refused e c r) = Err e

@@ -13,8 +13,16 @@ use Rattle.combination.specs.Call.{Call, ends, unless_refused, cleared, open_cal
 use Rattle.combination.specs.Checks.{time_checks, length_checks, vector_checks_by, magnitude_checks, memory_checks, open_checks}
 use Rattle.krylov_advance.specs.Run.{End, finished, refused, clamp_m, expv, open_run}
 use Rattle.krylov_job.specs.declared.KrylovPhiOptions.{KrylovPhiOptions}
-use Rattle.krylov_job.specs.declared.KrylovAnswer.{KrylovAnswer}
-use Rattle.krylov_job.specs.declared.KrylovAnswer.TheVariants.{Refusal, Result}
+use Rattle.checks.specs.Reasons.{Refused}
+use Rattle.std.specs.Prelude.{Ok}
+use Rattle.checks.specs.declared.Reason.TheVariants.{TolRange, NoSubsteps, OptionTooLarge, ArgumentNotFinite}
+use Rattle.std.specs.Prelude.{Result}
+use Rattle.checks.specs.declared.Refusal.{Refusal}
+use Rattle.krylov_advance.specs.declared.KrylovPhiReport.{KrylovPhiReport}
+
+-- a refusal, or a report
+abbrev pub KrylovAnswer : Type 0
+KrylovAnswer = Result KrylovPhiReport Refusal
 
 -- the bound of the augmented operator: tau * norm + 2
 unfoldable pub bound : Float → Float → Float
@@ -27,13 +35,13 @@ dimension n d m = clamp_m m (n + d)
 -- tol not strictly between 0 and 1; no substep allowed; M above 128 or more than 1,000,000 substeps
 unfoldable pub option_checks : KrylovPhiOptions → ℕ → List Check
 option_checks o M =
-    refuse 18 (not (+0 ⋖ o.tol && o.tol ⋖ 1f)) o.tol
-    ∷ refuse 19 (eqb o.max_substeps 0) +0
-    ∷ refuse 20 (ltb 128 M || ltb 1000000 o.max_substeps) nan
+    refuse TolRange (not (+0 ⋖ o.tol && o.tol ⋖ 1f)) o.tol
+    ∷ refuse NoSubsteps (eqb o.max_substeps 0) +0
+    ∷ refuse OptionTooLarge (ltb 128 M || ltb 1000000 o.max_substeps) nan
     ∷ []
 
 unfoldable pub bound_checks : Float → List Check
-bound_checks anorm = refuse 24 (not (is_finite anorm)) anorm ∷ []
+bound_checks anorm = refuse ArgumentNotFinite (not (is_finite anorm)) anorm ∷ []
 
 -- 21, 22 with eta, 24 and 26 of the further vectors f
 unfoldable pub run_checks : ℕ → Float → ℕ → List Float → Float → Float → ℕ → ℕ → List Check
@@ -62,8 +70,8 @@ krylov_checks g tau count w o output memory =
 
 -- a run leaves its field, the last accepted one where it was refused, and clears what it needed
 unfoldable pub after_run : ℕ → ℕ → List Float → End → Call KrylovAnswer
-after_run n need memory (finished s) = ends (Result s.report) (window 0 n s.y) (cleared need memory)
-after_run n need memory (refused k x s) = ends (Refusal k x) (window 0 n s.y) (cleared need memory)
+after_run n need memory (finished s) = ends (Ok s.report) (window 0 n s.y) (cleared need memory)
+after_run n need memory (refused k x s) = ends (Refused k x) (window 0 n s.y) (cleared need memory)
 
 -- a job that passed: w_0 is the first n values of v, w_1 to w_d are f
 unfoldable pub combination_run_krylov : Generator → Float → ℕ → List Float → List Float → KrylovPhiOptions → List Float → Call KrylovAnswer
@@ -75,7 +83,7 @@ combination_run_krylov g tau d v f o memory =
 
 unfoldable pub phi_combination_krylov : Generator → Float → ℕ → List Float → KrylovPhiOptions → List Float → List Float → Call KrylovAnswer
 phi_combination_krylov g tau count w o output memory =
-    unless_refused Refusal (first (krylov_checks g tau count w o (length output) (length memory))) output memory
+    unless_refused Refused (first (krylov_checks g tau count w o (length output) (length memory))) output memory
     (combination_run_krylov g tau (count - 1) w (further g.matrix.n w) o memory)
 
 -- to compute: a line `unfolding open_krylov_call` opens every definition of this file and of those below it

@@ -3,23 +3,21 @@
 
 ghost use Rattle.std.specs.Prelude.{◌≡◌, ◌&&◌, ◌||◌, List, ◌++◌, ◌+◌, ◌-◌, ◌*◌, ◌≤◌, ltb, length, Float};
 ghost use Rattle.doubles.specs.F64.{◌⋖◌, +0, 1f};
-ghost use Rattle.checks.specs.First.{Check, first};
-ghost use Rattle.checks.specs.declared.Checked.TheVariants.{Sound};
+ghost use Rattle.checks.specs.First.{Check, first, or_first};
 ghost use Rattle.combination.specs.Combination.{magnitude};
 ghost use Rattle.combination.specs.Checks.{time_checks, length_checks, vector_checks_by, memory_checks};
-ghost use Rattle.weighted_columns.specs.Inner.{weights_by};
+ghost use Rattle.weighted_columns.specs.Inner.{coupling_by};
 ghost use Rattle.krylov_advance.specs.Run.{clamp_m};
 ghost use Rattle.krylov_job.specs.KrylovCall.{bound, dimension, option_checks, bound_checks, krylov_need};
 ghost use Rattle.krylov_job.specs.Memory.{layout, krylov};
-ghost use Rattle.krylov_job.specs.Inner.{scaling_by, scaling_of, run_job_by, Admitted};
+ghost use Rattle.krylov_job.specs.Inner.{scaling_by, scaling_of, run_job_by, run_by, admitted};
 
-use checks::Checked;
+use checks::{Checked, Reason, Refusal};
 use generator_action::Shape;
 use gram_schmidt::Krylov;
 use krylov_advance::KrylovPhiReport;
 use phi_action_helpers::{Coupling, Layout};
 use pow2::Scaling;
-use weighted_columns::Weights;
 
 // The accuracy wanted relative to the start's norm, the Krylov dimension, and the limit of substeps.
 #[derive(Clone, Copy)]
@@ -27,13 +25,6 @@ pub struct KrylovPhiOptions {
     pub tol: f64,
     pub m: usize,
     pub max_substeps: usize,
-}
-
-// A refusal's number and double, or a report.
-#[derive(Clone, Copy)]
-pub enum KrylovAnswer {
-    Refusal(u32, f64),
-    Result(KrylovPhiReport),
 }
 
 // M: m clamped to 2 .. max(2, len).
@@ -60,15 +51,24 @@ pub fn check_options(o: KrylovPhiOptions, m: usize) -> Checked
     ensures { result ≡ first (option_checks o m) }
 {
     if !in_unit(o.tol) {
-        return Checked::Refused(18, o.tol);
+        return Err(Refusal {
+            reason: Reason::TolRange,
+            value: o.tol,
+        });
     }
     if o.max_substeps == 0 {
-        return Checked::Refused(19, 0.0);
+        return Err(Refusal {
+            reason: Reason::NoSubsteps,
+            value: 0.0,
+        });
     }
     if too_many(m, o.max_substeps) {
-        return Checked::Refused(20, float::not_a_number());
+        return Err(Refusal {
+            reason: Reason::OptionTooLarge,
+            value: float::not_a_number(),
+        });
     }
-    Checked::Sound
+    Ok(())
 }
 
 // 12 to 20; `others` is the answer of what stands between 16 and 17.
@@ -85,10 +85,7 @@ fn check_job(
     ensures { (os : List Check) → others ≡ first os → result ≡ first (vector_checks_by (time_checks tau) (length_checks output n (length w.now) (count * n) ++ os) count w.now ++ option_checks o (dimension n (count - 1) o.m)) }
 {
     let time = combination::check_time(tau);
-    let vectors = vector_checks::validate_combination(n, time, count, w, output, others);
-    let Checked::Sound = vectors else {
-        return vectors;
-    };
+    vector_checks::validate_combination(n, time, count, w, output, others)?;
     let m = clamp_m(o.m, n + (count - 1));
     check_options(o, m)
 }
@@ -105,17 +102,12 @@ fn check_bound(anorm: f64) -> Checked
     ensures { result ≡ first (bound_checks anorm) }
 {
     if !float::is_finite(anorm) {
-        return Checked::Refused(24, anorm);
+        return Err(Refusal {
+            reason: Reason::ArgumentNotFinite,
+            value: anorm,
+        });
     }
-    Checked::Sound
-}
-
-// 21, 22, 24 and 26, with the answer of 21 and 22.
-fn check_run(weighed: Checked, anorm: f64, memory: usize, need: usize) -> Checked
-    ensures { (xs : List Check) → weighed ≡ first xs → result ≡ first (xs ++ (bound_checks anorm ++ memory_checks memory need)) }
-{
-    let host = combination::and_then(check_bound(anorm), combination::check_memory(memory, need));
-    combination::and_then(weighed, host)
+    Ok(())
 }
 
 // What a run needs of the lent memory.
@@ -159,7 +151,6 @@ pub fn krylov(n: usize, d: usize, m: usize, tau: f64, anorm: f64, tol: f64) -> K
 // A run as its checks leave it: what they found, with the numbers of its generator.
 #[derive(Clone, Copy)]
 pub struct RunJob {
-    pub checked: Checked,
     pub g: Shape,
     pub d: usize,
     pub need: usize,
@@ -179,26 +170,25 @@ fn scaling_by(began: Option<f64>, sum: f64) -> Scaling
     }
 }
 
-// 24 and 26, after 21 and 22.
+// 24 and 26.
 fn admit_weighed(
     g: Shape,
     tau: f64,
     d: usize,
     eta: Scaling,
-    weights: Weights,
+    b: Coupling,
     o: KrylovPhiOptions,
     m: usize,
     memory: usize,
-) -> RunJob
+) -> Result<RunJob, Refusal>
     requires { (g.n ≤ 1000000) × (d ≤ 3) × (m ≤ 128) × (g.stored ≤ 16777216) }
-    ensures { (f : List Float) → weights ≡ weights_by g.n f tau d eta → result ≡ run_job_by g tau d f eta o m memory }
+    ensures { (f : List Float) → b ≡ coupling_by g.n f tau d eta.eta → result ≡ or_first (bound_checks (bound tau g.norm) ++ memory_checks memory (krylov_need g.n d m g.stored)) (run_job_by g tau d f eta o m) }
 {
-    let weighed = weights.checked;
-    let b = weights.b;
     let anorm = bound(tau, g.norm);
     let need = krylov_need(g.n, d, m, g.stored);
-    RunJob {
-        checked: check_run(weighed, anorm, memory, need),
+    check_bound(anorm)?;
+    combination::check_memory(memory, need)?;
+    Ok(RunJob {
         g,
         d,
         need,
@@ -206,7 +196,7 @@ fn admit_weighed(
         b,
         k: krylov(g.n, d, m, tau, anorm, o.tol),
         limit: o.max_substeps,
-    }
+    })
 }
 
 // 21, 22, 24 and 26.
@@ -219,35 +209,14 @@ pub fn admit_run(
     o: KrylovPhiOptions,
     m: usize,
     memory: usize,
-) -> RunJob
+) -> Result<RunJob, Refusal>
     requires { (d * g.n ≤ length further.now) × (g.n ≤ 1000000) × (d ≤ 3) × (m ≤ 128) × (g.stored ≤ 16777216) }
-    ensures { result ≡ run_job_by g tau d further.now (scaling_by began (magnitude g.n further.now tau d)) o m memory }
+    ensures { result ≡ run_by g tau d further.now (scaling_by began (magnitude g.n further.now tau d)) o m memory }
 {
     let p = weighted_columns::powers_of(g.n, further, tau, d);
-    let scaling = scaling_by(began, p.sum);
-    let weights = weighted_columns::weigh_by(g.n, d, p, scaling);
-    admit_weighed(g, tau, d, scaling, weights, o, m, memory)
-}
-
-// A job that 12 to 20 refuse.
-fn refused_job(checked: Checked, g: Shape) -> RunJob
-    ensures { result.checked ≡ checked }
-{
-    let b = Coupling {
-        places: [0, 0, 0],
-        gains: [1.0, 1.0, 1.0],
-        count: 0,
-    };
-    RunJob {
-        checked,
-        g,
-        d: 0,
-        need: 0,
-        eta: Scaling { eta: 1.0, inv: 1.0 },
-        b,
-        k: krylov(0, 0, 2, 0.0, 0.0, 0.0),
-        limit: 0,
-    }
+    let eta = scaling_by(began, p.sum);
+    let weights = weighted_columns::weigh_by(g.n, d, p, eta)?;
+    admit_weighed(g, tau, d, eta, weights.b, o, m, memory)
 }
 
 // 12 to 22, 24 and 26; `others` is the answer of what stands between 16 and 17.
@@ -261,15 +230,12 @@ pub fn admit_job(
     output: usize,
     others: Checked,
     memory: usize,
-) -> RunJob
+) -> Result<RunJob, Refusal>
     requires { (g.n ≤ 1000000) × (g.stored ≤ 16777216) }
-    ensures { (os : List Check) → others ≡ first os → Admitted g tau count w.now (scaling_of g tau count w.now began) o (length_checks output g.n (length w.now) (count * g.n) ++ os) memory result }
+    ensures { (os : List Check) → others ≡ first os → result ≡ admitted g tau count w.now (scaling_of g tau count w.now began) o (length_checks output g.n (length w.now) (count * g.n) ++ os) memory }
 {
     let n = g.n;
-    let early = check_job(n, tau, count, w, o, output, others);
-    let Checked::Sound = early else {
-        return refused_job(early, g);
-    };
+    check_job(n, tau, count, w, o, output, others)?;
     let d = count - 1;
     let m = clamp_m(o.m, n + d);
     admit_run(g, tau, d, &w[n..], began, o, m, memory)

@@ -12,8 +12,11 @@ ghost use Rattle.krylov_job.specs.KrylovCall.{after_run};
 ghost use Rattle.krylov_job.specs.Memory.{layout};
 ghost use Rattle.krylov_job.specs.Inner.{answer_of, Allowed, run_of};
 
-use krylov_advance::RunAnswer;
-use krylov_job::{KrylovAnswer, RunJob};
+use checks::Refusal;
+use general_operator::CsrMatrix;
+use krylov_advance::{KrylovPhiReport, RunAnswer};
+use krylov_job::RunJob;
+use phi_action_helpers::AugmentedOperator;
 
 // The first field from place `at` of the lent memory on; w_0 is the first n values of w.
 pub fn start_in(n: usize, w: &[f64], d: usize, inv: f64, work: &mut [f64], at: usize)
@@ -24,12 +27,12 @@ pub fn start_in(n: usize, w: &[f64], d: usize, inv: f64, work: &mut [f64], at: u
     start_vectors::combination_start(n, w, d, inv, &mut work[at..to]);
 }
 
-fn answer_of(end: RunAnswer) -> KrylovAnswer
+fn answer_of(end: RunAnswer) -> Result<KrylovPhiReport, Refusal>
     ensures { result ≡ answer_of end }
 {
     match end {
-        RunAnswer::Finished(_, report) => KrylovAnswer::Result(report),
-        RunAnswer::Refused(number, x, _, _) => KrylovAnswer::Refusal(number, x),
+        RunAnswer::Finished(_, report) => Ok(report),
+        RunAnswer::Refused(e, _, _) => Err(e),
     }
 }
 
@@ -58,8 +61,22 @@ fn run_expv(
     ensures work_unchanged { cleared j.need work.new ≡ cleared j.need work.old }
 {
     let l = krylov_job::layout(j.g.n, j.d, j.k.m, j.g.with_mass);
-    stored_quotients::store_quotients(j.g.n, starts, cols, vals, j.g.with_mass, mass, work, l.q);
-    expv::expv(starts, cols, vals, vectors, work, l, j.b, j.k, j.limit)
+    let q = CsrMatrix {
+        n: j.g.n,
+        starts,
+        cols,
+        vals,
+    };
+    stored_quotients::store_quotients(q, j.g.with_mass, mass, work, l.q);
+    let o = AugmentedOperator {
+        starts,
+        cols,
+        vals,
+        vectors,
+        l,
+        b: j.b,
+    };
+    expv::expv(o, work, j.k, j.limit)
 }
 
 // A run whose first field stands at k.y, and what it hands out.
@@ -72,7 +89,7 @@ pub fn run_job(
     out: &mut [f64],
     work: &mut [f64],
     j: RunJob,
-) -> KrylovAnswer
+) -> Result<KrylovPhiReport, Refusal>
     requires allowed { Allowed starts.now cols.now vals.now mass.now j (length vectors.now) (length work.old) }
     requires out_len { length out.old ≡ j.g.n }
     ensures { ends result out.new work.new ≡ after_run j.g.n j.need work.old (run_of j (matrix_of j.g starts.now cols.now vals.now mass.now) vectors.now (window j.k.y (j.g.n + j.d) work.old)) }

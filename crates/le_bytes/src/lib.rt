@@ -1,10 +1,13 @@
 // Numbers and doubles as bytes, lowest first.
 #![tactic(auto)]
 
-ghost use Rattle.std.specs.Prelude.{◌≡◌, ◌+◌, ◌*◌, ◌/◌, ◌≤◌, ◌<◌, length, get_or};
+ghost use Rattle.std.specs.Prelude.{◌≡◌, List, ℕ, ◌+◌, ◌*◌, ◌/◌, ◌≤◌, ◌<◌, length};
 ghost use Rattle.std.specs.Float.{binary64};
 ghost use Rattle.std.specs.Float.Ieee.{of_bits};
+ghost use Rattle.std.proofs.Common.{rules};
+ghost use Rattle.lists.specs.Loop.{tabulate};
 ghost use Rattle.le_bytes.specs.Bytes.{half, word, double_at, numbers_of, doubles_of, words_of};
+ghost use Rattle.le_bytes.specs.Elements.{numbers_each, words_each, doubles_each};
 
 #[tactic(auto, unfolding(crate::specs::Bytes::half))]
 pub fn half_at(b: &[u8], k: usize) -> u64
@@ -39,29 +42,85 @@ pub fn double_at(b: &[u8], k: usize) -> f64
     double(word_at(b, k))
 }
 
-pub fn unpack_numbers(src: &[u8], dst: &mut [u32])
-    requires { length dst.old ≡ length src.now / 4 }
-    ensures { dst.new ≡ numbers_of src.now }
-{
-    for (k, x) in dst.iter_mut().enumerate() {
-        *x = half_at(src, 4 * k) as u32;
+// What is stored in SIZE bytes, one behind another: numbers of four bytes and of eight, and doubles.
+pub trait LittleEndian: Copy + Default {
+    const SIZE: usize;
+
+    ghost SIZE: { ℕ };
+
+    ghost read: { List ℕ → ℕ → Self };
+
+    ghost list_of: { List ℕ → List Self };
+
+    fn read(b: &[u8], k: usize) -> Self
+        requires { k + SIZE ≤ length b.now }
+        ensures { result ≡ read b.now k };
+
+    ghost has_bytes: { 0 < SIZE };
+
+    ghost read_each: { (b : List ℕ) → list_of b ≡ tabulate (length b / SIZE) (λ k. read b (SIZE * k)) };
+}
+
+impl LittleEndian for u32 {
+    const SIZE: usize = 4;
+
+    ghost SIZE = { 4 };
+
+    ghost read = { half };
+
+    ghost list_of = { numbers_of };
+
+    ghost has_bytes = { Prim.search rules };
+
+    ghost read_each = { numbers_each };
+
+    fn read(b: &[u8], k: usize) -> u32 {
+        half_at(b, k) as u32
     }
 }
 
-pub fn unpack_doubles(src: &[u8], dst: &mut [f64])
-    requires { length dst.old ≡ length src.now / 8 }
-    ensures { dst.new ≡ doubles_of src.now }
-{
-    for (k, x) in dst.iter_mut().enumerate() {
-        *x = double_at(src, 8 * k);
+impl LittleEndian for usize {
+    const SIZE: usize = 8;
+
+    ghost SIZE = { 8 };
+
+    ghost read = { word };
+
+    ghost list_of = { words_of };
+
+    ghost has_bytes = { Prim.search rules };
+
+    ghost read_each = { words_each };
+
+    fn read(b: &[u8], k: usize) -> usize {
+        word_at(b, k) as usize
     }
 }
 
-pub fn unpack_words(src: &[u8], dst: &mut [usize])
-    requires { length dst.old ≡ length src.now / 8 }
-    ensures { dst.new ≡ words_of src.now }
+impl LittleEndian for f64 {
+    const SIZE: usize = 8;
+
+    ghost SIZE = { 8 };
+
+    ghost read = { double_at };
+
+    ghost list_of = { doubles_of };
+
+    ghost has_bytes = { Prim.search rules };
+
+    ghost read_each = { doubles_each };
+
+    fn read(b: &[u8], k: usize) -> f64 {
+        double_at(b, k)
+    }
+}
+
+// The whole elements.
+pub fn unpack<T: LittleEndian>(src: &[u8], dst: &mut [T])
+    requires { length dst.old ≡ length src.now / T.SIZE }
+    ensures { dst.new ≡ T.list_of src.now }
 {
     for (k, x) in dst.iter_mut().enumerate() {
-        *x = word_at(src, 8 * k) as usize;
+        *x = T::read(src, T::SIZE * k);
     }
 }

@@ -7,11 +7,12 @@ use lib.Ieee.{Float, nan}
 use borrow.Author.Tests.{lt-ltb, le-ltb}
 use Rattle.doubles.specs.F64.{bits, nat, 1f, +0, +∞}
 use Rattle.checks.specs.First.{first}
-use Rattle.checks.specs.declared.Checked.{Checked}
-use Rattle.checks.specs.declared.Checked.TheVariants.{Sound, Refused}
+use Rattle.checks.specs.First.{Checked}
 use Rattle.combination.specs.Checks.{count_checks, index_checks, time_checks, degree_checks, memory_checks, taylor_need, open_checks}
 use Rattle.krylov_advance.specs.Run.{clamp_m}
 use Rattle.krylov_job.specs.KrylovCall.{option_checks, krylov_need, open_krylov_call}
+use Rattle.checks.specs.Reasons.{Sound, Refused}
+use Rattle.checks.specs.declared.Reason.TheVariants.{VectorCount, IndexRange, TauRange, TolRange, NoSubsteps, OptionTooLarge, WorkLength, DegreeRange}
 
 -- the smallest double, its negative, and the doubles below 1 and of the largest size
 abbrev tiny : Float
@@ -27,22 +28,22 @@ abbrev largest : Float
 largest = bits 0x7fef_ffff_ffff_ffff
 
 -- 12: 1 to 4 vectors
-vectors : map (λ (k : ℕ). first (count_checks k)) (0 ∷ 1 ∷ 4 ∷ 5 ∷ []) ≡ Refused 12 +0 ∷ Sound ∷ Sound ∷ Refused 12 (nat 5) ∷ []
+vectors : map (λ (k : ℕ). first (count_checks k)) (0 ∷ 1 ∷ 4 ∷ 5 ∷ []) ≡ Refused VectorCount +0 ∷ Sound ∷ Sound ∷ Refused VectorCount (nat 5) ∷ []
 unfolding open_checks first
 vectors = refl
 
 -- 13: k and p up to 3
-indices : map (λ (k : ℕ). first (index_checks k)) (0 ∷ 3 ∷ 4 ∷ []) ≡ Sound ∷ Sound ∷ Refused 13 (nat 4) ∷ []
+indices : map (λ (k : ℕ). first (index_checks k)) (0 ∷ 3 ∷ 4 ∷ []) ≡ Sound ∷ Sound ∷ Refused IndexRange (nat 4) ∷ []
 unfolding open_checks first
 indices = refl
 
 -- 14: finite, and not negative; -0 passes
-times : map (λ (x : Float). first (time_checks x)) (bits 0x8000_0000_0000_0000 ∷ tiny ∷ largest ∷ -tiny ∷ +∞ ∷ nan ∷ []) ≡ Sound ∷ Sound ∷ Sound ∷ Refused 14 -tiny ∷ Refused 14 +∞ ∷ Refused 14 nan ∷ []
+times : map (λ (x : Float). first (time_checks x)) (bits 0x8000_0000_0000_0000 ∷ tiny ∷ largest ∷ -tiny ∷ +∞ ∷ nan ∷ []) ≡ Sound ∷ Sound ∷ Sound ∷ Refused TauRange -tiny ∷ Refused TauRange +∞ ∷ Refused TauRange nan ∷ []
 unfolding open_checks first
 times = refl
 
 -- 33: a cap of 1 to 30
-caps : map (λ (k : ℕ). first (degree_checks k)) (0 ∷ 1 ∷ 30 ∷ 31 ∷ []) ≡ Refused 33 nan ∷ Sound ∷ Sound ∷ Refused 33 nan ∷ []
+caps : map (λ (k : ℕ). first (degree_checks k)) (0 ∷ 1 ∷ 30 ∷ 31 ∷ []) ≡ Refused DegreeRange nan ∷ Sound ∷ Sound ∷ Refused DegreeRange nan ∷ []
 unfolding open_checks first
 caps = refl
 
@@ -50,7 +51,7 @@ caps = refl
 abbrev by_tol : Float → Checked
 by_tol tol = first (option_checks (record { tol = tol; m = 2; max_substeps = 1 }) 2)
 
-tolerances : map by_tol (tiny ∷ below_1 ∷ +0 ∷ 1f ∷ nan ∷ []) ≡ Sound ∷ Sound ∷ Refused 18 +0 ∷ Refused 18 1f ∷ Refused 18 nan ∷ []
+tolerances : map by_tol (tiny ∷ below_1 ∷ +0 ∷ 1f ∷ nan ∷ []) ≡ Sound ∷ Sound ∷ Refused TolRange +0 ∷ Refused TolRange 1f ∷ Refused TolRange nan ∷ []
 unfolding open_krylov_call first
 tolerances = refl
 
@@ -58,7 +59,7 @@ tolerances = refl
 abbrev by_limit : ℕ → Checked
 by_limit limit = first (option_checks (record { tol = below_1; m = 2; max_substeps = limit }) 2)
 
-limits : map by_limit (0 ∷ 1 ∷ 1000000 ∷ 1000001 ∷ []) ≡ Refused 19 +0 ∷ Sound ∷ Sound ∷ Refused 20 nan ∷ []
+limits : map by_limit (0 ∷ 1 ∷ 1000000 ∷ 1000001 ∷ []) ≡ Refused NoSubsteps +0 ∷ Sound ∷ Sound ∷ Refused OptionTooLarge nan ∷ []
 unfolding open_krylov_call first
 limits = refl
 
@@ -66,7 +67,7 @@ limits = refl
 abbrev by_dimension : ℕ → ℕ → Checked
 by_dimension m n = first (option_checks (record { tol = below_1; m = m; max_substeps = 1 }) (clamp_m m n))
 
-dimensions : by_dimension 128 200 ∷ by_dimension 129 200 ∷ by_dimension 1000 5 ∷ by_dimension 0 1 ∷ [] ≡ Sound ∷ Refused 20 nan ∷ Sound ∷ Sound ∷ []
+dimensions : by_dimension 128 200 ∷ by_dimension 129 200 ∷ by_dimension 1000 5 ∷ by_dimension 0 1 ∷ [] ≡ Sound ∷ Refused OptionTooLarge nan ∷ Sound ∷ Sound ∷ []
 unfolding open_krylov_call first
 dimensions = refl
 
@@ -79,7 +80,7 @@ pub enough : (memory need : ℕ) → need ≤ memory → first (memory_checks me
 unfolding memory_checks first
 enough memory need h = rw (le-ltb memory need h)
 
-pub too_short : (memory need : ℕ) → memory < need → first (memory_checks memory need) ≡ Refused 26 nan
+pub too_short : (memory need : ℕ) → memory < need → first (memory_checks memory need) ≡ Refused WorkLength nan
 unfolding memory_checks first
 too_short memory need h = rw (lt-ltb memory need h)
 

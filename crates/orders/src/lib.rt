@@ -1,3 +1,3 @@
 #![tactic(auto)]
 
-// Matrices that two checks would refuse, and which of the two does, in proofs/. No code.
+// The numbers of the reasons, and matrices that two checks would refuse with the one that does, in proofs/. No code.

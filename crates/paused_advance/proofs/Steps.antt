@@ -1,5 +1,5 @@
 -- A step over a job that passed its checks, and by all of them. Assumes nothing.
-use mathlib.Core.Path.{◌≡◌, refl, sym, ap, ◌∙◌}
+use mathlib.Core.Path.{◌≡◌, refl, sym, ap, subst, ◌∙◌}
 use mathlib.Core.Bool.{true, false}
 use mathlib.Core.List.{List, [], ◌++◌}
 use Prim.Native.Nat.{ℕ, ◌+◌, ◌-◌, ◌*◌, ◌≤◌}
@@ -16,8 +16,7 @@ use Rattle.lists.proofs.Window.{length_window, length_splice, splice_whole, wind
 use Rattle.doubles.specs.F64.{+0}
 use Rattle.vectors.specs.Vectors.{scale}
 use Rattle.checks.specs.First.{Check, first}
-use Rattle.checks.proofs.First.{refused_up, sound_on, stops, passes, ends_sound, not_eq, not_ne}
-use Rattle.checks.specs.declared.Checked.TheVariants.{Sound, Refused}
+use Rattle.checks.proofs.First.{err_is, ok_is, refused_up, sound_on, err_first, ok_first, stops, passes, ends_sound, not_eq, not_ne}
 use Rattle.general_operator.specs.Csr.{csr}
 use Rattle.general_operator.proofs.Sound.{or_false}
 use Rattle.generator_action.specs.Mass.{given, quotients, stored}
@@ -43,7 +42,7 @@ use Rattle.krylov_advance.specs.declared.Progress.TheVariants as progress
 use Rattle.krylov_advance.proofs.Whole.{absolute, room_absolute}
 use Rattle.krylov_job.specs.KrylovCall.{krylov_checks_by}
 use Rattle.krylov_job.specs.Memory.{layout}
-use Rattle.krylov_job.specs.Inner.{scaling_by, scaling_of, Admitted, Allowed}
+use Rattle.krylov_job.specs.Inner.{scaling_by, scaling_of, checks_after, admitted, Allowed}
 use Rattle.krylov_job.proofs.Calls.{Known, known, allowed, all_checks, field_needed}
 use Rattle.krylov_job.proofs.Runs.{store_fits, room, operator_is, field_is, spared}
 use Rattle.krylov_job.specs.declared.KrylovPhiOptions.{KrylovPhiOptions}
@@ -51,15 +50,22 @@ use Rattle.krylov_job.specs.declared.RunJob.{RunJob}
 use Rattle.paused_run.specs.Paused.{Job, Input, PausedCall, leaves, rows, field_checks, setting_of, tol_in, options_in, over, other_checks, step_checks, resumed, verdict, field_after, substep_of, after_substep, step_unless, step}
 use Rattle.paused_run.specs.Inner.{job_over, other_checks_by, setting_for, turned, after_of}
 use Rattle.paused_run.specs.declared.PausedRun.{PausedRun}
-use Rattle.paused_run.specs.declared.StepAnswer.{StepAnswer}
-use Rattle.paused_run.specs.declared.StepAnswer.TheVariants.{Refusal}
+use Rattle.paused_run.specs.declared.StepRefusal.{StepRefusal}
+use Rattle.std.specs.Prelude.{Result, Ok, Err}
+use Rattle.std.specs.Result.{MatchResult, IsOkAnd, IsErrAnd}
+use Rattle.std.proofs.lemmas.Result.{err_from_is_err_and}
+use Rattle.paused_run.specs.Paused.{StepAnswer, StepRefused}
+use Rattle.checks.specs.Reasons.{Sound, Refused}
+use Rattle.checks.specs.declared.Reason.TheVariants.{WorkLength, RunEnded}
+use Rattle.checks.specs.declared.Reason.{Reason}
+use Rattle.checks.specs.declared.Refusal.{Refusal}
 
 -- ---- one substep on the lent field
 seen : (l : Layout) (k : Krylov) (o : Progress) (w : List Float) → progress_at l k o w ≡ turned o (window k.y (l.n + l.d) w)
 unfolding progress_at turned
 seen l k (progress.On c r) w = refl
 seen l k (progress.Finished c r) w = refl
-seen l k (progress.Refused number x c r) w = refl
+seen l k (progress.Refused e c r) w = refl
 
 module _
     {starts cols : List ℕ}
@@ -127,7 +133,7 @@ field_seen : (o : Progress) (y : List Float) → field_after (turned o y) ≡ y
 unfolding turned
 field_seen (progress.On c r) y = refl
 field_seen (progress.Finished c r) y = refl
-field_seen (progress.Refused k x c r) y = refl
+field_seen (progress.Refused e c r) y = refl
 
 pub advanced : (s : PausedRun) (tol : Float) (j : RunJob) (output w₀ : List Float) (o : Progress) {t : Turn State End} {r : StepAnswer} {y out₁ : List Float} (w₁ : List Float) {w₂ : List Float} → turned o y ≡ t
     → r ≡ verdict s tol (turned o y)
@@ -145,11 +151,11 @@ advanced s tol j output w₀ o {t} {r} {y} {out₁} w₁ {w₂} et er eo lo ew e
     λ i. leaves (er' i) (eo' i) (ew' i) (ey i)
 
 -- the options of a step are the run's, with the tol in force
-pub own_options : {g : Shape} {tau : Float} {count : ℕ} {w : List Float} {eta : Scaling} {ls : List Check} {memory : ℕ} {j : RunJob} (s : PausedRun) (tolerance : Option Float) {tol : Float} {o : KrylovPhiOptions} → tol ≡ tol_in tolerance s
+pub own_options : (g : Shape) (tau : Float) (count : ℕ) (w : List Float) (eta : Scaling) (ls : List Check) (memory : ℕ) {r : Result RunJob Refusal} (s : PausedRun) (tolerance : Option Float) {tol : Float} {o : KrylovPhiOptions} → tol ≡ tol_in tolerance s
     → o ≡ options_in s tol
-    → Admitted g tau count w eta o ls memory j
-    → Admitted g tau count w eta (options_in s (tol_in tolerance s)) ls memory j
-own_options s tolerance e f ad = rw (← e, ← f) ad
+    → r ≡ admitted g tau count w eta o ls memory
+    → r ≡ admitted g tau count w eta (options_in s (tol_in tolerance s)) ls memory
+own_options g tau count w eta ls memory s tolerance e f ad = ad ∙ ap (λ (o : KrylovPhiOptions). admitted g tau count w eta o ls memory) (f ∙ ap (options_in s) e)
 
 -- ---- the counts of a run that 31 does not refuse
 pub counts : (s : PausedRun) → over s ≡ false → s.limit ≤ 1000000 → (s.report.substeps ≤ 1000000) × (s.report.matvecs ≤ 1000000000) × (s.report.rejected ≤ 1000000000)
@@ -160,9 +166,27 @@ counts s e few =
     let c = or_false (ltb 129000000 s.report.matvecs) _ b.1 in
     (omega (arith, leb-false s.limit s.report.substeps b.0), omega (arith, ltb-false 129000000 s.report.matvecs c.0), omega (arith, ltb-false 10000000 s.report.rejected c.1))
 
+-- ---- a refusal that is given the run it leaves
+ok_not_err : {A E : Type 0} {x : A} {d : E} → ◌≡◌ {A = Result A E} (Ok x) (Err d) → ⊥
+ok_not_err e = subst (λ r. IsOkAnd r (λ _. Unit {0})) e tt
+
+pub refusal_given : {A E D : Type 0} (c : Result A E) (r : Result A D) (P : E → D → Type 0) {d : D} → r ≡ Err d → MatchResult c (λ x. r ≡ Ok x) (λ e. IsErrAnd r (P e)) → (e : E) × ((c ≡ Err e) × P e d)
+refusal_given (Ok x) r P e m = absurd (ok_not_err (sym m ∙ e))
+refusal_given (Err y) (Ok x) P e m = absurd m
+refusal_given (Err y) (Err d) P e m = (y, (refl, subst (P y) (err_is e) m))
+
+pub value_given : {A E D : Type 0} (c : Result A E) (r : Result A D) (P : E → D → Type 0) {x : A} → r ≡ Ok x → MatchResult c (λ y. r ≡ Ok y) (λ e. IsErrAnd r (P e)) → c ≡ Ok x
+value_given (Ok y) r P e m = ap Ok (ok_is (sym m ∙ e))
+value_given (Err y) (Ok x) P e m = absurd m
+value_given (Err y) (Err d) P e m = absurd (ok_not_err (sym e))
+
+-- what `?` then returns
+pub handed_on : {A : Type 0} {r : Result A StepRefusal} {d : StepRefusal} → IsErrAnd r (λ x. x ≡ d) → r ≡ Err d
+handed_on {r = r} h = let p = err_from_is_err_and r h in p.1 ∙ ap Err p.2
+
 -- ---- by the checks
 module _ (s : PausedRun) (y : List Float) (i : Input) where
-  step_refused : {k : ℕ} {x : Float} → Refused k x ≡ first (step_checks s (length y) i) → leaves (Refusal k x s) i.output i.memory y ≡ step s y i
+  step_refused : {k : Reason} {x : Float} → Refused k x ≡ first (step_checks s (length y) i) → leaves (StepRefused k x s) i.output i.memory y ≡ step s y i
   unfolding step step_unless
   step_refused e = rw (← e) refl
 
@@ -170,13 +194,13 @@ module _ (s : PausedRun) (y : List Float) (i : Input) where
   unfolding step step_unless
   step_runs e h = h ∙ rw (← e) refl
 
-  pub refused_over : {x : Float} → over s ≡ true → x ≡ nan → leaves (Refusal 31 x s) i.output i.memory y ≡ step s y i
+  pub refused_over : {x : Float} → over s ≡ true → x ≡ nan → leaves (StepRefused RunEnded x s) i.output i.memory y ≡ step s y i
   unfolding step_checks
   refused_over e ex = step_refused (stops _ e ex)
 
-  pub refused_generator : {k : ℕ} {x : Float} → over s ≡ false → Refused k x ≡ first i.job.g.checks → leaves (Refusal k x s) i.output i.memory y ≡ step s y i
+  pub refused_generator : {k : Reason} {x : Float} → over s ≡ false → Refused k x ≡ first i.job.g.checks → leaves (StepRefused k x s) i.output i.memory y ≡ step s y i
   unfolding step_checks krylov_checks_by
-  refused_generator eo e = step_refused (passes 31 nan _ eo (refused_up _ _ refl (refused_up _ _ refl e)))
+  refused_generator eo e = step_refused (passes RunEnded nan _ eo (refused_up _ _ refl (refused_up _ _ refl e)))
 
 module _
     {starts cols : List ℕ}
@@ -192,8 +216,8 @@ module _
     (tau : Float)
     (count : ℕ)
     (w out w₀ field : List Float)
-    {j : RunJob}
-    (ad : Admitted g tau count w (scaling_of g tau count w (Some s.eta)) (options_in s (tol_in tolerance s)) (length_checks (length out) g.n (length w) (count * g.n) ++ other_checks_by s g.n count (length w)) (length w₀) j) where
+    {r : Result RunJob Refusal}
+    (ad : r ≡ admitted g tau count w (scaling_of g tau count w (Some s.eta)) (options_in s (tol_in tolerance s)) (length_checks (length out) g.n (length w) (count * g.n) ++ other_checks_by s g.n count (length w)) (length w₀)) where
   abbrev job : Job
   job = job_over gs g starts cols vals mass tau count w
 
@@ -203,17 +227,21 @@ module _
   rows_are : rows job ≡ g.n
   rows_are = quotients_rows (csr g.n starts cols vals) (given g.with_mass mass)
 
-  told : j.checked ≡ first (krylov_checks_by job.g tau count w s.eta (length_checks (length out) (rows job) (length w) (count * rows job) ++ other_checks s job) (options_in s (tol_in tolerance s)) (length w₀))
+  told : first (checks_after g tau count w s.eta (options_in s (tol_in tolerance s)) (length_checks (length out) g.n (length w) (count * g.n) ++ other_checks_by s g.n count (length w)) (length w₀)) ≡ first (krylov_checks_by job.g tau count w s.eta (length_checks (length out) (rows job) (length w) (count * rows job) ++ other_checks s job) (options_in s (tol_in tolerance s)) (length w₀))
   unfolding other_checks scaling_by quotients
-  told = rw rows_are (all_checks mass ok gs sound tau count w (options_in s (tol_in tolerance s)) s.eta _ (length w₀) ad.told)
+  told = rw rows_are (all_checks mass ok gs sound tau count w (options_in s (tol_in tolerance s)) s.eta _ (length w₀) refl)
 
-  pub refused_job : {k : ℕ} {x : Float} → j.checked ≡ Refused k x → leaves (Refusal k x s) out w₀ field ≡ step s field input
-  unfolding step_checks
-  refused_job e = step_refused s field input (sym e ∙ passes 31 nan _ going (refused_up _ _ e told))
+  pub refused_job : {k : Reason} {x : Float} → r ≡ Refused k x → leaves (StepRefused k x s) out w₀ field ≡ step s field input
+  unfolding step_checks scaling_by
+  refused_job e = let f = err_first _ _ (sym ad ∙ e) in step_refused s field input (sym f ∙ passes RunEnded nan _ going (refused_up _ _ f told))
 
-  module _ (e : j.checked ≡ Sound) where
+  module _ {j : RunJob} (e : r ≡ Ok j) where
+    passed : first (checks_after g tau count w s.eta (options_in s (tol_in tolerance s)) (length_checks (length out) g.n (length w) (count * g.n) ++ other_checks_by s g.n count (length w)) (length w₀)) ≡ Sound
+    unfolding scaling_by
+    passed = (ok_first _ _ (sym ad ∙ e)).0
+
     k : Known g tau count w (scaling_of g tau count w (Some s.eta)) (options_in s (tol_in tolerance s)) (length out) (other_checks_by s g.n count (length w)) (length w₀) j
-    k = known ad e
+    k = known (sym ad ∙ e)
 
     pub n_is : j.g.n ≡ g.n
     n_is = ap (λ (x : RunJob). x.g.n) k.is
@@ -224,10 +252,10 @@ module _
     pub within : (j.d ≤ 3) × (g.n ≤ length w)
     within = (omega (arith, d_is, k.vectors.most), first_within k.vectors)
 
-    pub refused_field : {x : Float} → (length field ≡ g.n + j.d → ⊥) → x ≡ nan → leaves (Refusal 26 x s) out w₀ field ≡ step s field input
+    pub refused_field : {x : Float} → (length field ≡ g.n + j.d → ⊥) → x ≡ nan → leaves (StepRefused WorkLength x s) out w₀ field ≡ step s field input
     unfolding step_checks field_checks
     refused_field ne ex =
-        step_refused s field input (passes 31 nan _ going (sound_on _ _ e told (stops [] (not_ne (λ h. ne (h ∙ rw (rows_are, d_is) refl))) ex)))
+        step_refused s field input (passes RunEnded nan _ going (sound_on _ _ passed told (stops [] (not_ne (λ h. ne (h ∙ rw (rows_are, d_is) refl))) ex)))
 
     pub advances : length field ≡ g.n + j.d
         → Allowed starts cols vals mass j (length (further g.n w)) (length w₀)
@@ -247,5 +275,5 @@ module _
     unfolding step_checks field_checks after_substep after_of
     stepped_is l et h =
         step_runs s field input
-        (passes 31 nan _ going (sound_on _ _ refl (sym e ∙ told) (passes 26 nan [] (not_eq (l ∙ rw (rows_are, d_is) refl)) ends_sound)))
+        (passes RunEnded nan _ going (sound_on _ _ refl (sym passed ∙ told) (passes WorkLength nan [] (not_eq (l ∙ rw (rows_are, d_is) refl)) ends_sound)))
         (h ∙ rw (et, setting_is, k.is, rows_are) refl)

@@ -9,10 +9,12 @@ ghost use Rattle.krylov_job.specs.Inner.{Allowed};
 ghost use Rattle.paused_run.specs.Paused.{leaves, resumed, verdict};
 ghost use Rattle.paused_run.specs.Inner.{setting_for, turned, after_of};
 
+use general_operator::CsrMatrix;
 use gram_schmidt::Krylov;
 use krylov_advance::{Control, Progress};
 use krylov_job::RunJob;
-use paused_run::{PausedRun, StepAnswer};
+use paused_run::{PausedRun, StepRefusal};
+use phi_action_helpers::AugmentedOperator;
 
 // One substep from the lent field, which it replaces.
 fn substep_on(
@@ -34,7 +36,13 @@ fn substep_on(
     let len = j.g.n + j.d;
     let l = krylov_job::layout(j.g.n, j.d, j.k.m, j.g.with_mass);
     vectors::copy_from(work, j.k.y, field, 0, len);
-    stored_quotients::store_quotients(j.g.n, starts, cols, vals, j.g.with_mass, mass, work, l.q);
+    let q = CsrMatrix {
+        n: j.g.n,
+        starts,
+        cols,
+        vals,
+    };
+    stored_quotients::store_quotients(q, j.g.with_mass, mass, work, l.q);
     let k = Krylov {
         tol: j.k.tol * run.norm,
         ..j.k
@@ -44,10 +52,17 @@ fn substep_on(
         next: run.next,
         beta: gram_schmidt::norm2(field),
     };
-    let r = run.report;
-    let o = phi_krylov_arnoldi::substep(starts, cols, vals, vectors, work, l, j.b, k, c, r);
+    let o = AugmentedOperator {
+        starts,
+        cols,
+        vals,
+        vectors,
+        l,
+        b: j.b,
+    };
+    let progress = phi_krylov_arnoldi::substep(o, work, k, c, run.report);
     vectors::copy_from(field, 0, work, j.k.y, len);
-    o
+    progress
 }
 
 // A job that passed: one substep, and what it hands out.
@@ -63,7 +78,7 @@ pub fn advance(
     work: &mut [f64],
     field: &mut [f64],
     j: RunJob,
-) -> StepAnswer
+) -> Result<PausedRun, StepRefusal>
     requires allowed { Allowed starts.now cols.now vals.now mass.now j (length vectors.now) (length work.old) }
     requires field_len { (length field.old ≡ j.g.n + j.d) × (run.report.substeps ≤ 1000000) × (run.report.matvecs ≤ 1000000000) × (run.report.rejected ≤ 1000000000) }
     requires out_len { length out.old ≡ j.g.n }

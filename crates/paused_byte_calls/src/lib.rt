@@ -104,11 +104,11 @@ fn run(
         numbers_array,
         counts_array,
     );
-    pack_bytes::pack_doubles(out_array, out);
-    pack_bytes::pack_doubles(work_array, work);
-    pack_bytes::pack_doubles(field_array, field);
-    pack_bytes::pack_doubles(numbers_array, numbers);
-    pack_bytes::pack_words(counts_array, counts);
+    pack_bytes::pack(out_array, out);
+    pack_bytes::pack(work_array, work);
+    pack_bytes::pack(field_array, field);
+    pack_bytes::pack(numbers_array, numbers);
+    pack_bytes::pack(counts_array, counts);
     r
 }
 
@@ -133,11 +133,11 @@ fn in_lent_arrays(
     requires { (length out.old / 8 ≤ 512) × (length work.old / 8 ≤ 4096) × (length field.old / 8 ≤ 512) × (length numbers.old / 8 ≤ 512) × (length counts.old / 8 ≤ 512) }
     ensures { replies result.number result.value (slices out.new work.new field.new numbers.new counts.new) ≡ packs (called_run call (job (csr n starts.now cols.now vals.now) (given with_mass mass.now) tau count w.now) (doubles_of out.old) (doubles_of work.old) (doubles_of field.old) (doubles_of numbers.old) (words_of counts.old)) (slices out.old work.old field.old numbers.old counts.old) }
 {
-    let mut out_array = byte_arrays::doubles_in(out);
-    let mut work_array = byte_arrays::memory_in(work);
-    let mut field_array = byte_arrays::doubles_in(field);
-    let mut numbers_array = byte_arrays::doubles_in(numbers);
-    let mut counts_array = byte_arrays::words_in(counts);
+    let mut out_array: [f64; 512] = byte_arrays::array(out);
+    let mut work_array: [f64; 4096] = byte_arrays::array(work);
+    let mut field_array: [f64; 512] = byte_arrays::array(field);
+    let mut numbers_array: [f64; 512] = byte_arrays::array(numbers);
+    let mut counts_array: [usize; 512] = byte_arrays::array(counts);
     let out_count = out.len() / 8;
     let work_count = work.len() / 8;
     let field_count = field.len() / 8;
@@ -189,11 +189,11 @@ pub fn in_arrays(
     requires out_len_bound { (length out.old / 8 ≤ 512) × (length work.old / 8 ≤ 4096) × (length field.old / 8 ≤ 512) × (length numbers.old / 8 ≤ 512) × (length counts.old / 8 ≤ 512) }
     ensures { replies result.number result.value (slices out.new work.new field.new numbers.new counts.new) ≡ packs (called_run call (job (csr n (numbers_of starts.now) (numbers_of cols.now) (doubles_of vals.now)) (given with_mass (doubles_of mass.now)) tau count (doubles_of w.now)) (doubles_of out.old) (doubles_of work.old) (doubles_of field.old) (doubles_of numbers.old) (words_of counts.old)) (slices out.old work.old field.old numbers.old counts.old) }
 {
-    let starts_array = byte_arrays::numbers_in(starts);
-    let cols_array = byte_arrays::numbers_in(cols);
-    let vals_array = byte_arrays::doubles_in(vals);
-    let mass_array = byte_arrays::doubles_in(mass);
-    let w_array = byte_arrays::doubles_in(w);
+    let starts_array: [u32; 513] = byte_arrays::array(starts);
+    let cols_array: [u32; 513] = byte_arrays::array(cols);
+    let vals_array: [f64; 512] = byte_arrays::array(vals);
+    let mass_array: [f64; 512] = byte_arrays::array(mass);
+    let w_array: [f64; 512] = byte_arrays::array(w);
     let starts_count = starts.len() / 4;
     let cols_count = cols.len() / 4;
     let vals_count = vals.len() / 8;

@@ -7,16 +7,15 @@ use lib.Dec.{ltb}
 use lib.ListN.{length}
 use lib.Ieee.{Float}
 use Rattle.lists.specs.Walk.{Turn, on, out}
-use Rattle.checks.specs.First.{first}
-use Rattle.checks.specs.declared.Checked.{Checked}
-use Rattle.checks.specs.declared.Checked.TheVariants.{Sound, Refused}
+use Rattle.checks.specs.First.{first, Checked}
 use Rattle.krylov_advance.specs.Run.{State, End, finished, refused}
-use Rattle.paused_run.specs.Paused.{Input, moved, over, other_checks, step_checks, resumed, verdict, substep_of, after_substep, step_unless, step}
+use Rattle.paused_run.specs.Paused.{StepAnswer, StepRefused, Input, moved, over, other_checks, step_checks, resumed, verdict, substep_of, after_substep, step_unless, step}
 use Rattle.paused_run.specs.declared.PausedRun.{PausedRun}
-use Rattle.paused_run.specs.declared.StepAnswer.{StepAnswer}
-use Rattle.paused_run.specs.declared.StepAnswer.TheVariants.{Refusal, Stepped}
 use Rattle.paused_claims.specs.History.{run_in}
 use Rattle.paused_claims.specs.Alike.{SameStep, Blind, number_in, double_in, run_with_tol, bringing, SameButTol, NewTol}
+use Rattle.checks.specs.Reasons.{Sound}
+use Rattle.std.specs.Prelude.{Ok, Err}
+use Rattle.checks.specs.declared.Reason.TheVariants.{SubstepLimit}
 
 -- ---- what was lent does not matter
 pub blind : (s : PausedRun) (y : List Float) → Blind s y
@@ -41,7 +40,7 @@ module _ (s : PausedRun) (y : List Float) (i : Input) (tol : Float) where
   verdict_same (on t) = go (ltb t.report.substeps s.limit)
     where
       pick : PausedRun → Bool → StepAnswer
-      pick r b = if b then Stepped (moved r tol t t.report false) else Refusal 27 t.report.est_error (moved r tol t t.report true)
+      pick r b = if b then Ok (moved r tol t t.report false) else StepRefused SubstepLimit t.report.est_error (moved r tol t t.report true)
 
       go : (b : Bool) → (number_in (pick s b) ≡ number_in (pick s₁ b)) × (double_in (pick s b) ≡ double_in (pick s₁ b)) × (run_with_tol tol (run_in (pick s b)) ≡ run_in (pick s₁ b))
       go true = (refl, refl, refl)
@@ -51,8 +50,8 @@ module _ (s : PausedRun) (y : List Float) (i : Input) (tol : Float) where
 
   same_by : (c : Checked) → SameButTol tol (step_unless c s y (bringing (Some tol) i)) (step_unless c s₁ y (bringing None i))
   unfolding step_unless after_substep resumed
-  same_by (Refused k x) = record { number = refl; double = refl; run = refl; output = refl; memory = refl; field = refl }
-  same_by Sound =
+  same_by (Err r) = record { number = refl; double = refl; run = refl; output = refl; memory = refl; field = refl }
+  same_by (Ok _) =
       let v = verdict_same (substep_of s y (bringing (Some tol) i)) in
       record { number = v.0; double = v.1; run = v.2; output = refl; memory = refl; field = refl }
 

@@ -21,9 +21,7 @@ use Rattle.pow2.specs.Pow2.{sup, eta_scaling, pow2_scale}
 use Rattle.pow2.specs.Pow2 as pow2
 use Rattle.pow2.specs.declared.Scale.{Scale}
 use Rattle.vectors.proofs.Laws.{length_scale}
-use Rattle.checks.specs.First.{Check, refuse, first, before, unless_named}
-use Rattle.checks.specs.declared.Checked.{Checked}
-use Rattle.checks.specs.declared.Checked.TheVariants.{Sound, Refused}
+use Rattle.checks.specs.First.{Check, refuse, first, Checked, unless_named, same as same_number, before}
 use Rattle.checks.proofs.First.{and_then, unless, first_cons, first_append, never_holds, stops}
 use Rattle.checks.proofs.Numbers.{before_append, not_by, only_by, if_by}
 use Rattle.general_operator.specs.Csr.{row_sum_norm}
@@ -33,9 +31,8 @@ use Rattle.gram_schmidt.specs.Basis.{Setting}
 use Rattle.krylov_advance.specs.Run.{State, End}
 use Rattle.krylov_job.specs.KrylovCall.{bound, dimension, option_checks, bound_checks, run_checks, krylov_need, krylov_checks_by, krylov_checks}
 use Rattle.krylov_job.specs.declared.KrylovPhiOptions.{KrylovPhiOptions}
-use Rattle.paused_run.specs.Paused.{Job, rows, degree, leaves, field_checks, Input, tol_in, options_in, over, other_checks, step_checks, step_unless, step}
+use Rattle.paused_run.specs.Paused.{Job, rows, degree, leaves, field_checks, StepRefused, Input, tol_in, options_in, over, other_checks, step_checks, step_unless, step}
 use Rattle.paused_run.specs.declared.PausedRun.{PausedRun}
-use Rattle.paused_run.specs.declared.StepAnswer.TheVariants.{Refusal}
 use Rattle.demand_3.specs.Trace.{scaled, run_by, run_of, status_of}
 use Rattle.demand_3.proofs.Counts.{reached}
 use Rattle.demand_3.proofs.Moments.{run_counted, run_long}
@@ -46,6 +43,10 @@ use Rattle.paused_claims.proofs.Zero.{zero_times}
 use Rattle.paused_claims.proofs.Known.{few, small, long}
 use Rattle.paused_claims.proofs.Start.{field_passes}
 use Rattle.paused_claims.proofs.Standing.{ended_by, tol_is, standing_as, run_with, Stood, left_sound, left_stands}
+use Rattle.checks.specs.Reasons.{Sound, Refused}
+use Rattle.std.specs.Prelude.{Ok, Err}
+use Rattle.checks.specs.declared.Reason.TheVariants.{VectorLength, VectorNotFinite, MagnitudeNotFinite, GainNotFinite, SubstepLimit, LengthsRejected, NoInnerPlan, RunEnded}
+use Rattle.checks.specs.declared.Reason.{Reason}
 
 -- ---- of a run as it was left 31 asks whether it has ended, and its field is n + d long
 module _ (o : KrylovPhiOptions) (j : Job) (output memory : ℕ) (sound : Sound ≡ first (krylov_checks j.g j.tau j.count j.w o output memory)) where
@@ -118,15 +119,15 @@ unfolding exists eta_of
 bad_exists j i d = ap (λ (n : ℕ). ltb n d) (find_ext _ _ d (λ k l. bad_is i (own_eta j) (eta_keeps_zero _) k))
 
 -- checks of other numbers do not ask
-asked_alone : (b : Bool) (cs : List Check) → before 22 cs ≡ cs → map (asking_22 b) cs ≡ cs
+asked_alone : (b : Bool) (cs : List Check) → before GainNotFinite cs ≡ cs → map (asking_22 b) cs ≡ cs
 unfolding before
 asked_alone b [] h = refl
-asked_alone b (c ∷ cs) h = go (eqb c.number 22) h (asked_alone b cs)
+asked_alone b (c ∷ cs) h = go (same_number c.reason GainNotFinite) h (asked_alone b cs)
   where
     tail_of : {c d : Check} {cs ds : List Check} → c ∷ cs ≡ d ∷ ds → cs ≡ ds
     tail_of e = cc
 
-    go : (t : Bool) → unless_named t c (before 22 cs) ≡ c ∷ cs → (before 22 cs ≡ cs → map (asking_22 b) cs ≡ cs) → (if t then refuse 22 b c.reported else c) ∷ map (asking_22 b) cs ≡ c ∷ cs
+    go : (t : Bool) → unless_named t c (before GainNotFinite cs) ≡ c ∷ cs → (before GainNotFinite cs ≡ cs → map (asking_22 b) cs ≡ cs) → (if t then refuse GainNotFinite b c.reported else c) ∷ map (asking_22 b) cs ≡ c ∷ cs
     go true h f = let z : zero ≡ 1 = cc in absurd (omega (arith, z))
     go false h f = ap (λ (l : List Check). c ∷ l) (f (tail_of h))
 
@@ -135,7 +136,7 @@ map_append f [] ys = refl
 map_append f (x ∷ xs) ys = ap (λ (l : List Check). f x ∷ l) (map_append f xs ys)
 
 -- a check that holds hides those behind it
-hides : (xs : List Check) (k : ℕ) (x : Float) (cs : List Check) → first (xs ++ (refuse k true x ∷ cs)) ≡ first (xs ++ (refuse k true x ∷ []))
+hides : (xs : List Check) (k : Reason) (x : Float) (cs : List Check) → first (xs ++ (refuse k true x ∷ cs)) ≡ first (xs ++ (refuse k true x ∷ []))
 hides xs k x cs = first_append xs _ ∙ ap (and_then (first xs)) (first_cons k true x cs ∙ sym (first_cons k true x [])) ∙ sym (first_append xs _)
 
 module _ (s : PausedRun) (long : ℕ) (i : Input) where
@@ -159,12 +160,12 @@ module _ (s : PausedRun) (long : ℕ) (i : Input) where
   -- not over: those of the job, with the second 16 between
   not_over : over s ≡ false → first (step_checks s long i) ≡ first ((g.g.checks ++ (front ++ (other_checks s g ++ rest s.eta))) ++ field_checks long (rows g + degree g))
   unfolding step_checks krylov_checks_by vector_checks_by count_checks time_checks length_checks other_checks finite_checks
-  not_over e = first_cons 31 (over s) nan _ ∙ ap (λ (b : Bool). unless b 31 nan (first ((g.g.checks ++ (front ++ (other_checks s g ++ rest s.eta))) ++ field_checks long (rows g + degree g)))) e
+  not_over e = first_cons RunEnded (over s) nan _ ∙ ap (λ (b : Bool). unless b RunEnded nan (first ((g.g.checks ++ (front ++ (other_checks s g ++ rest s.eta))) ++ field_checks long (rows g + degree g)))) e
 
   and_sound : (r : Checked) → and_then r Sound ≡ r
   unfolding and_then
-  and_sound Sound = refl
-  and_sound (Refused k x) = refl
+  and_sound (Ok _) = refl
+  and_sound (Err r) = refl
 
   -- same n and count
   same_list : over s ≡ false → rows g ≡ s.n → g.count ≡ s.count → long ≡ rows g + degree g → first (step_checks s long i) ≡ first (g.g.checks ++ (front ++ rest s.eta))
@@ -174,7 +175,7 @@ module _ (s : PausedRun) (long : ℕ) (i : Input) where
       ∙ first_append _ (field_checks long (rows g + degree g))
       ∙ ap (and_then (first (g.g.checks ++ (front ++ (other_checks s g ++ rest s.eta))))) (sym (field_passes long (rows g + degree g) l))
       ∙ and_sound _
-      ∙ never_holds (refuse 16 (not (eqb (rows g) s.n) || not (eqb g.count s.count)) (nat (length g.w))) g.g.checks front (rest s.eta) (λ _. rw (eq-eqb (rows g) s.n a, eq-eqb g.count s.count b) refl)
+      ∙ never_holds (refuse VectorLength (not (eqb (rows g) s.n) || not (eqb g.count s.count)) (nat (length g.w))) g.g.checks front (rest s.eta) (λ _. rw (eq-eqb (rows g) s.n a, eq-eqb g.count s.count b) refl)
 
   -- another n or count
   differs : ((rows g ≡ s.n) × (g.count ≡ s.count) → ⊥) → (not (eqb (rows g) s.n) || not (eqb g.count s.count)) ≡ true
@@ -185,13 +186,13 @@ module _ (s : PausedRun) (long : ℕ) (i : Input) where
       go true false ea eb = refl
       go true true ea eb = absurd (n (eqb-true _ _ ea, eqb-true _ _ eb))
 
-  other_list : over s ≡ false → ((rows g ≡ s.n) × (g.count ≡ s.count) → ⊥) → first (step_checks s long i) ≡ first ((g.g.checks ++ front) ++ (refuse 16 true (nat (length g.w)) ∷ []))
+  other_list : over s ≡ false → ((rows g ≡ s.n) × (g.count ≡ s.count) → ⊥) → first (step_checks s long i) ≡ first ((g.g.checks ++ front) ++ (refuse VectorLength true (nat (length g.w)) ∷ []))
   unfolding other_checks
   other_list e n =
       not_over e
       ∙ ap first (append_assoc g.g.checks _ (field_checks long (rows g + degree g)) ∙ ap (λ (l : List Check). g.g.checks ++ l) (append_assoc front _ _) ∙ sym (append_assoc g.g.checks front _))
-      ∙ ap (λ (b : Bool). first ((g.g.checks ++ front) ++ (refuse 16 b (nat (length g.w)) ∷ (rest s.eta ++ field_checks long (rows g + degree g))))) (differs n)
-      ∙ hides (g.g.checks ++ front) 16 (nat (length g.w)) _
+      ∙ ap (λ (b : Bool). first ((g.g.checks ++ front) ++ (refuse VectorLength b (nat (length g.w)) ∷ (rest s.eta ++ field_checks long (rows g + degree g))))) (differs n)
+      ∙ hides (g.g.checks ++ front) VectorLength (nat (length g.w)) _
 
   -- as the landed list names them
   list_is : (eta : Float) → g.g.checks ++ (front ++ rest eta) ≡ krylov_checks_by g.g g.tau g.count g.w eta of_lengths o₁ (length i.memory)
@@ -202,32 +203,32 @@ module _ (s : PausedRun) (long : ℕ) (i : Input) where
   abbrev behind : List Check
   behind = front ++ (other_checks s g ++ rest s.eta)
 
-  none_numbered : (k : ℕ) → before k g.g.checks ≡ g.g.checks → before k behind ≡ behind → before k (field_checks long (rows g + degree g)) ≡ field_checks long (rows g + degree g)
+  none_numbered : (k : Reason) → before k g.g.checks ≡ g.g.checks → before k behind ≡ behind → before k (field_checks long (rows g + degree g)) ≡ field_checks long (rows g + degree g)
       → before k ((g.g.checks ++ behind) ++ field_checks long (rows g + degree g)) ≡ (g.g.checks ++ behind) ++ field_checks long (rows g + degree g)
   none_numbered k a b c =
       before_append k (g.g.checks ++ behind) (field_checks long (rows g + degree g)) (before_append k g.g.checks behind a ∙ ap (λ (l : List Check). g.g.checks ++ l) b)
       ∙ ap (λ (l : List Check). (g.g.checks ++ behind) ++ l) c
 
   -- no check of a step is numbered 27 to 29
-  pub early_number : Plain g.g → (k : ℕ) (x : Float) → Refused k x ≡ first (step_checks s long i) → (k ≡ 27) ⊎ ((k ≡ 28) ⊎ (k ≡ 29)) → ⊥
+  pub early_number : Plain g.g → (k : Reason) (x : Float) → Refused k x ≡ first (step_checks s long i) → (k ≡ SubstepLimit) ⊎ ((k ≡ LengthsRejected) ⊎ (k ≡ NoInnerPlan)) → ⊥
   unfolding before count_checks time_checks length_checks other_checks finite_checks option_checks run_checks magnitude_checks bound_checks memory_checks field_checks step_checks krylov_checks_by vector_checks_by
-  early_number h k x e (inl n) = not_by 27 (step_checks s long i) (ap (λ (l : List Check). refuse 31 (over s) nan ∷ l) (none_numbered 27 h.no_27 refl refl)) (ap (λ (m : ℕ). Refused m x) (sym n) ∙ e)
-  early_number h k x e (inr (inl n)) = not_by 28 (step_checks s long i) (ap (λ (l : List Check). refuse 31 (over s) nan ∷ l) (none_numbered 28 h.no_28 refl refl)) (ap (λ (m : ℕ). Refused m x) (sym n) ∙ e)
-  early_number h k x e (inr (inr n)) = not_by 29 (step_checks s long i) (ap (λ (l : List Check). refuse 31 (over s) nan ∷ l) (none_numbered 29 h.no_29 refl refl)) (ap (λ (m : ℕ). Refused m x) (sym n) ∙ e)
+  early_number h k x e (inl n) = not_by SubstepLimit (step_checks s long i) (ap (λ (l : List Check). refuse RunEnded (over s) nan ∷ l) (none_numbered SubstepLimit h.no_27 refl refl)) (ap (λ (m : Reason). Refused m x) (sym n) ∙ e)
+  early_number h k x e (inr (inl n)) = not_by LengthsRejected (step_checks s long i) (ap (λ (l : List Check). refuse RunEnded (over s) nan ∷ l) (none_numbered LengthsRejected h.no_28 refl refl)) (ap (λ (m : Reason). Refused m x) (sym n) ∙ e)
+  early_number h k x e (inr (inr n)) = not_by NoInnerPlan (step_checks s long i) (ap (λ (l : List Check). refuse RunEnded (over s) nan ∷ l) (none_numbered NoInnerPlan h.no_29 refl refl)) (ap (λ (m : Reason). Refused m x) (sym n) ∙ e)
 
   -- none is numbered 31 but the first
-  no_31_behind : Plain g.g → (x : Float) → over s ≡ false → Refused 31 x ≡ first (step_checks s long i) → ⊥
+  no_31_behind : Plain g.g → (x : Float) → over s ≡ false → Refused RunEnded x ≡ first (step_checks s long i) → ⊥
   unfolding before count_checks time_checks length_checks other_checks finite_checks option_checks run_checks magnitude_checks bound_checks memory_checks field_checks
-  no_31_behind h x e r = not_by 31 ((g.g.checks ++ behind) ++ field_checks long (rows g + degree g)) (none_numbered 31 h.no_31 refl refl) (r ∙ not_over e)
+  no_31_behind h x e r = not_by RunEnded ((g.g.checks ++ behind) ++ field_checks long (rows g + degree g)) (none_numbered RunEnded h.no_31 refl refl) (r ∙ not_over e)
 
 -- ---- the landed list of a job
 module _ (o : KrylovPhiOptions) (g : Job) (output memory : List Float) where
   abbrev in_front : List Check
   in_front = count_checks g.count ++ (time_checks g.tau ++ length_checks (length output) (rows g) (length g.w) (g.count * rows g))
 
-  up_to_16 : Plain g.g → before 17 (job_checks o g output memory) ≡ g.g.checks ++ in_front
+  up_to_16 : Plain g.g → before VectorNotFinite (job_checks o g output memory) ≡ g.g.checks ++ in_front
   unfolding before krylov_checks krylov_checks_by vector_checks_by count_checks time_checks length_checks finite_checks
-  up_to_16 h = before_append 17 g.g.checks _ h.no_17
+  up_to_16 h = before_append VectorNotFinite g.g.checks _ h.no_17
 
   -- with b asked by 22
   abbrev asking : Bool → List Check
@@ -238,7 +239,7 @@ module _ (o : KrylovPhiOptions) (g : Job) (output memory : List Float) where
       in_front
       ++ (finite_checks g.w
       ++ (option_checks o M
-      ++ ((refuse 21 (not (is_finite (magnitude n (further n g.w) g.tau d))) (magnitude n (further n g.w) g.tau d) ∷ refuse 22 b nan ∷ [])
+      ++ ((refuse MagnitudeNotFinite (not (is_finite (magnitude n (further n g.w) g.tau d))) (magnitude n (further n g.w) g.tau d) ∷ refuse GainNotFinite b nan ∷ [])
       ++ (bound_checks (bound g.tau (row_sum_norm g.g.matrix)) ++ memory_checks (length memory) (krylov_need n d M g.g.stored)))))
 
   asked_by : (eta : Float) → krylov_checks_by g.g g.tau g.count g.w eta (length_checks (length output) (rows g) (length g.w) (g.count * rows g)) o (length memory) ≡ g.g.checks ++ asking (exists (bad_gain (rows g) (further (rows g) g.w) g.tau eta) (degree g))
@@ -255,25 +256,25 @@ module _ (o : KrylovPhiOptions) (g : Job) (output memory : List Float) where
       in_front
       ++ (finite_checks g.w
       ++ (option_checks o (dimension (rows g) (degree g) o.m)
-      ++ (refuse 21 (not (is_finite (magnitude (rows g) (further (rows g) g.w) g.tau (degree g)))) (magnitude (rows g) (further (rows g) g.w) g.tau (degree g)) ∷ [])))
+      ++ (refuse MagnitudeNotFinite (not (is_finite (magnitude (rows g) (further (rows g) g.w) g.tau (degree g)))) (magnitude (rows g) (further (rows g) g.w) g.tau (degree g)) ∷ [])))
 
   abbrev from_24 : List Check
   from_24 = bound_checks (bound g.tau (row_sum_norm g.g.matrix)) ++ memory_checks (length memory) (krylov_need (rows g) (degree g) (dimension (rows g) (degree g) o.m) g.g.stored)
 
-  one_22 : (b : Bool) → asking b ≡ up_to_21 ++ (refuse 22 b nan ∷ from_24)
+  one_22 : (b : Bool) → asking b ≡ up_to_21 ++ (refuse GainNotFinite b nan ∷ from_24)
   unfolding count_checks time_checks length_checks finite_checks option_checks
   one_22 b = refl
 
-  others_22 : (before 22 up_to_21 ≡ up_to_21) × (before 22 from_24 ≡ from_24)
+  others_22 : (before GainNotFinite up_to_21 ≡ up_to_21) × (before GainNotFinite from_24 ≡ from_24)
   unfolding before count_checks time_checks length_checks finite_checks option_checks bound_checks memory_checks
   others_22 = (refl, refl)
 
-  front_22 : Plain g.g → (b : Bool) → before 22 (g.g.checks ++ (up_to_21 ++ (refuse 22 b nan ∷ from_24))) ≡ before 22 (job_checks o g output memory)
+  front_22 : Plain g.g → (b : Bool) → before GainNotFinite (g.g.checks ++ (up_to_21 ++ (refuse GainNotFinite b nan ∷ from_24))) ≡ before GainNotFinite (job_checks o g output memory)
   unfolding krylov_checks before
   front_22 h b =
-      before_append 22 g.g.checks _ h.no_22
-      ∙ ap (λ (l : List Check). g.g.checks ++ l) (before_append 22 up_to_21 _ others_22.0 ∙ sym (before_append 22 up_to_21 _ others_22.0))
-      ∙ sym (ap (before 22) (asked_by (own_eta g) ∙ ap (λ (l : List Check). g.g.checks ++ l) (one_22 _)) ∙ before_append 22 g.g.checks _ h.no_22)
+      before_append GainNotFinite g.g.checks _ h.no_22
+      ∙ ap (λ (l : List Check). g.g.checks ++ l) (before_append GainNotFinite up_to_21 _ others_22.0 ∙ sym (before_append GainNotFinite up_to_21 _ others_22.0))
+      ∙ sym (ap (before GainNotFinite) (asked_by (own_eta g) ∙ ap (λ (l : List Check). g.g.checks ++ l) (one_22 _)) ∙ before_append GainNotFinite g.g.checks _ h.no_22)
 
 -- ---- what the run has of the start
 pub record Same (o : KrylovPhiOptions) (j : Job) (p : Past) : Type 0 where
@@ -297,7 +298,7 @@ module _ {o : KrylovPhiOptions} {j : Job} {p : Past} (l : Left o j p) (i : Input
   options_is : options_in p.run (tol_in i.tolerance p.run) ≡ with_tol o (in_force i.tolerance p.tol)
   options_is = let h = as_left in λ k. record { tol = (tol_is i.tolerance p.run ∙ ap (in_force i.tolerance) h.tol) k; m = h.m k; max_substeps = h.limit k }
 
-  pub if_31 : p.run.ended ≡ true → checked p i ≡ Refused 31 nan
+  pub if_31 : p.run.ended ≡ true → checked p i ≡ Refused RunEnded nan
   unfolding step_checks
   if_31 e = sym (stops _ (over_left l ∙ e) refl)
 
@@ -318,23 +319,23 @@ module _ {o : KrylovPhiOptions} {j : Job} {p : Past} (l : Left o j p) (i : Input
       by_start e fit
       ∙ ap (λ (eta : Float). first (krylov_checks_by q.g q.tau q.count q.w eta (length_checks (length i.output) (rows q) (length q.w) (q.count * rows q)) (with_tol o (in_force i.tolerance p.tol)) (length i.memory))) (sym h)
 
-  pub unchanged : (k : ℕ) (x : Float) → checked p i ≡ Refused k x → call_on p i ≡ leaves (Refusal k x p.run) i.output i.memory p.field
+  pub unchanged : (k : Reason) (x : Float) → checked p i ≡ Refused k x → call_on p i ≡ leaves (StepRefused k x p.run) i.output i.memory p.field
   unfolding step step_unless
   unchanged k x e = ap (λ (c : Checked). step_unless c p.run p.field i) e
 
   module _ (plain : Plain i.job.g) where
-    pub only_31 : (x : Float) → checked p i ≡ Refused 31 x → p.run.ended ≡ true
+    pub only_31 : (x : Float) → checked p i ≡ Refused RunEnded x → p.run.ended ≡ true
     only_31 x r = go p.run.ended refl
       where
         go : (b : Bool) → p.run.ended ≡ b → b ≡ true
         go true e = refl
         go false e = absurd (no_31_behind p.run (length p.field) i plain x (over_left l ∙ e) (sym r))
 
-    other : p.run.ended ≡ false → (Fits j i.job → ⊥) → checked p i ≡ first (before 17 (step_job_checks o p i) ++ (refuse 16 true (nat (length i.job.w)) ∷ []))
+    other : p.run.ended ≡ false → (Fits j i.job → ⊥) → checked p i ≡ first (before VectorNotFinite (step_job_checks o p i) ++ (refuse VectorLength true (nat (length i.job.w)) ∷ []))
     other e n =
         let h = as_left in
         other_list p.run (length p.field) i (over_left l ∙ e) (λ q. n (q.0 ∙ h.n, q.1 ∙ h.count))
-        ∙ ap (λ (cs : List Check). first (cs ++ (refuse 16 true (nat (length i.job.w)) ∷ []))) (sym (up_to_16 (with_tol o (in_force i.tolerance p.tol)) i.job i.output i.memory plain))
+        ∙ ap (λ (cs : List Check). first (cs ++ (refuse VectorLength true (nat (length i.job.w)) ∷ []))) (sym (up_to_16 (with_tol o (in_force i.tolerance p.tol)) i.job i.output i.memory plain))
 
     same : p.run.ended ≡ false → Fits j i.job → checked p i ≡ first (map (asking_22 (exists (overflows i.job (own_eta j)) (i.job.count - 1))) (step_job_checks o p i))
     same e fit =
@@ -348,24 +349,24 @@ module _ {o : KrylovPhiOptions} {j : Job} {p : Past} (l : Left o j p) (i : Input
     abbrev o₃ : KrylovPhiOptions
     o₃ = with_tol o (in_force i.tolerance p.tol)
 
-    as_22 : p.run.ended ≡ false → Fits j i.job → checked p i ≡ first (i.job.g.checks ++ (up_to_21 o₃ i.job i.output i.memory ++ (refuse 22 bad nan ∷ from_24 o₃ i.job i.output i.memory)))
+    as_22 : p.run.ended ≡ false → Fits j i.job → checked p i ≡ first (i.job.g.checks ++ (up_to_21 o₃ i.job i.output i.memory ++ (refuse GainNotFinite bad nan ∷ from_24 o₃ i.job i.output i.memory)))
     as_22 e fit = same e fit ∙ ap first (asked_all o₃ i.job i.output i.memory plain bad ∙ ap (λ (l : List Check). i.job.g.checks ++ l) (one_22 o₃ i.job i.output i.memory bad))
 
-    only_22 : p.run.ended ≡ false → Fits j i.job → {x : Float} → checked p i ≡ Refused 22 x → Refused22 o j p i × (x ≡ nan)
+    only_22 : p.run.ended ≡ false → Fits j i.job → {x : Float} → checked p i ≡ Refused GainNotFinite x → Refused22 o j p i × (x ≡ nan)
     unfolding exists
     only_22 e fit {x} r =
         let k = others_22 o₃ i.job i.output i.memory in
-        let h = only_by 22 bad nan i.job.g.checks (up_to_21 o₃ i.job i.output i.memory) (from_24 o₃ i.job i.output i.memory) plain.no_22 k.0 k.1 (sym r ∙ as_22 e fit) in
+        let h = only_by GainNotFinite bad nan i.job.g.checks (up_to_21 o₃ i.job i.output i.memory) (from_24 o₃ i.job i.output i.memory) plain.no_22 k.0 k.1 (sym r ∙ as_22 e fit) in
         let d = i.job.count - 1 in
         let t = overflows i.job (own_eta j) in
         let l : find t d < d = ltb-true (find t d) d h.1.0 in
         (record { earlier = h.0 ∙ ap first (front_22 o₃ i.job i.output i.memory plain bad); place = find t d; below = l; overflow = find_holds t d l }, h.1.1)
 
-    if_22 : p.run.ended ≡ false → Fits j i.job → Refused22 o j p i → checked p i ≡ Refused 22 nan
+    if_22 : p.run.ended ≡ false → Fits j i.job → Refused22 o j p i → checked p i ≡ Refused GainNotFinite nan
     if_22 e fit h =
         let k = others_22 o₃ i.job i.output i.memory in
         as_22 e fit
-        ∙ sym (if_by 22 bad nan i.job.g.checks (up_to_21 o₃ i.job i.output i.memory) (from_24 o₃ i.job i.output i.memory) plain.no_22 k.0 k.1 (h.earlier ∙ sym (ap first (front_22 o₃ i.job i.output i.memory plain bad))) (there h) refl)
+        ∙ sym (if_by GainNotFinite bad nan i.job.g.checks (up_to_21 o₃ i.job i.output i.memory) (from_24 o₃ i.job i.output i.memory) plain.no_22 k.0 k.1 (h.earlier ∙ sym (ap first (front_22 o₃ i.job i.output i.memory plain bad))) (there h) refl)
       where
         there : Refused22 o j p i → bad ≡ true
         there h = go bad refl

@@ -14,19 +14,15 @@ use Rattle.lists.specs.Walk.{Turn, on, out}
 use Rattle.doubles.specs.F64.{◌⋖◌, +0, 1f}
 use Rattle.pow2.specs.declared.Scale.{Scale}
 use Rattle.pow2.specs.Pow2.{pow2_scale}
-use Rattle.checks.specs.First.{first}
-use Rattle.checks.specs.declared.Checked.{Checked}
-use Rattle.checks.specs.declared.Checked.TheVariants.{Sound, Refused}
+use Rattle.checks.specs.First.{first, Checked}
 use Rattle.krylov_advance.specs.Run.{State, End}
 use Rattle.combination.specs.Combination.{further}
 use Rattle.taylor_schedule.proofs.Admitted.{first_within}
 use Rattle.gram_schmidt.specs.Basis.{norm2}
 use Rattle.krylov_job.specs.KrylovCall.{krylov_checks}
 use Rattle.krylov_job.specs.declared.KrylovPhiOptions.{KrylovPhiOptions}
-use Rattle.paused_run.specs.Paused.{Job, rows, degree, PausedCall, leaves, start, Input, step_unless, step}
+use Rattle.paused_run.specs.Paused.{Job, rows, degree, PausedCall, leaves, start, StepAnswer, StepRefused, Input, step_unless, step}
 use Rattle.paused_run.specs.declared.PausedRun.{PausedRun}
-use Rattle.paused_run.specs.declared.StepAnswer.{StepAnswer}
-use Rattle.paused_run.specs.declared.StepAnswer.TheVariants.{Refusal, Stepped}
 use Rattle.demand_3.specs.Trace.{Accepted, field_after, Run, status_of, accepted_by, time_of, field_of}
 use Rattle.demand_3.specs.Krylov.{euclidean, Each}
 use Rattle.demand_3.proofs.Counts.{run_recorded}
@@ -45,6 +41,10 @@ use Rattle.paused_claims.proofs.Start.{the_start}
 use Rattle.paused_claims.proofs.Standing.{ended_by, whole_is, Moving, left_sound, left_stands}
 use Rattle.paused_claims.proofs.Early.{early_number, if_31}
 use Rattle.paused_claims.proofs.Steps.{step_done}
+use Rattle.checks.specs.Reasons.{Sound, Refused}
+use Rattle.std.specs.Prelude.{Ok, Err}
+use Rattle.checks.specs.declared.Reason.{Reason}
+use Rattle.checks.specs.declared.Reason.TheVariants.{RunEnded}
 
 -- ---- lists
 some_front : {A : Type 0} (P : A → Type 0) (l l' : List A) → Some P l → Some P (l ++ l')
@@ -67,7 +67,7 @@ each_split P [] a h = (tt, h.0)
 each_split P (b ∷ l) a h = let k = each_split P l a h.1 in ((h.0, k.0), k.1)
 
 -- ---- one step
-early_same : (p : Past) (i : Input) (k : ℕ) (x : Float) → checked p i ≡ Refused k x → call_on p i ≡ leaves (Refusal k x p.run) i.output i.memory p.field
+early_same : (p : Past) (i : Input) (k : Reason) (x : Float) → checked p i ≡ Refused k x → call_on p i ≡ leaves (StepRefused k x p.run) i.output i.memory p.field
 unfolding step step_unless
 early_same p i k x e = ap (λ (c : Checked). step_unless c p.run p.field i) e
 
@@ -80,19 +80,19 @@ module _ {o : KrylovPhiOptions} {j : Job} {p : Past} (l : Left o j p) (i : Input
       d = step_done l i e
 
       go : (a : StepAnswer) → (call_on p i).answer ≡ a → Outcome o.max_substeps (made_with o j (in_force i.tolerance p.tol) i.job) (run_so_far o j p) (run_so_far o j (next o j p i)) p.run a → Causes j (next o j p i)
-      go (Stepped s) q (inl g) = absurd (true≢false (sym h ∙ ap (λ (x : StepAnswer). (run_in x).ended) q ∙ g.ended))
-      go (Stepped s) q (inr g) = elim g.finished.reached [
+      go (Ok s) q (inl g) = absurd (true≢false (sym h ∙ ap (λ (x : StepAnswer). (run_in x).ended) q ∙ g.ended))
+      go (Ok s) q (inr g) = elim g.finished.reached [
         | inl z ↦ inr (inl (ap (λ (y : List Float). eq (euclidean y) +0) d.field ∙ z))
         | inr z ↦ inl (d.time ∙ z)
       ]
-      go (Refusal k x s) q (inl g) = inr (inr (inr (some_last Met p.answers (call_on p i).answer (subst Met (sym q) (inl g.number)))))
-      go (Refusal k x s) q (inr g) = inr (inr (inr (some_last Met p.answers (call_on p i).answer (subst Met (sym q) (inr g.failed.number)))))
+      go (Err r) q (inl g) = inr (inr (inr (some_last Met p.answers (call_on p i).answer (subst Met (sym q) (inl g.number)))))
+      go (Err r) q (inr g) = inr (inr (inr (some_last Met p.answers (call_on p i).answer (subst Met (sym q) (inr g.failed.number)))))
 
   -- an early refusal leaves the causes
-  kept : (k : ℕ) (x : Float) → checked p i ≡ Refused k x → Causes j p → Causes j (next o j p i)
+  kept : (k : Reason) (x : Float) → checked p i ≡ Refused k x → Causes j p → Causes j (next o j p i)
   kept k x e = let c = early_same p i k x e in go c
     where
-      go : call_on p i ≡ leaves (Refusal k x p.run) i.output i.memory p.field → Causes j p → Causes j (next o j p i)
+      go : call_on p i ≡ leaves (StepRefused k x p.run) i.output i.memory p.field → Causes j p → Causes j (next o j p i)
       go c (inl h) = inl (ap (λ (z : PausedCall StepAnswer). (run_in z.answer).time) c ∙ h)
       go c (inr (inl h)) = inr (inl (ap (λ (z : PausedCall StepAnswer). eq (euclidean z.field) +0) c ∙ h))
       go c (inr (inr (inl h))) = inr (inr (inl h))
@@ -103,17 +103,17 @@ module _ {o : KrylovPhiOptions} {j : Job} {p : Past} (l : Left o j p) (i : Input
   met_ends plain h = go (checked p i) refl
     where
       answered : (a : StepAnswer) → (call_on p i).answer ≡ a → Met a → Outcome o.max_substeps (made_with o j (in_force i.tolerance p.tol) i.job) (run_so_far o j p) (run_so_far o j (next o j p i)) p.run a → (run_in (call_on p i).answer).ended ≡ true
-      answered (Stepped s) q h g = absurd h
-      answered (Refusal k x s) q h (inl g) = ap (λ (z : StepAnswer). (run_in z).ended) q ∙ g.ended
-      answered (Refusal k x s) q h (inr g) = ap (λ (z : StepAnswer). (run_in z).ended) q ∙ g.marked.ended
+      answered (Ok s) q h g = absurd h
+      answered (Err r) q h (inl g) = ap (λ (z : StepAnswer). (run_in z).ended) q ∙ g.ended
+      answered (Err r) q h (inr g) = ap (λ (z : StepAnswer). (run_in z).ended) q ∙ g.marked.ended
 
       go : (c : Checked) → checked p i ≡ c → (run_in (call_on p i).answer).ended ≡ true
-      go Sound e = answered (call_on p i).answer refl h (step_done l i (sym e)).outcome
-      go (Refused k x) e = absurd (early_number p.run (length p.field) i plain k x (sym e) (subst Met (ap (λ (z : PausedCall StepAnswer). z.answer) (early_same p i k x e)) h))
+      go (Ok _) e = answered (call_on p i).answer refl h (step_done l i (sym e)).outcome
+      go (Err r) e = absurd (early_number p.run (length p.field) i plain r.reason r.value (sym e) (subst Met (ap (λ (z : PausedCall StepAnswer). z.answer) (early_same p i r.reason r.value e)) h))
 
   -- an ended run stays so
   pub stays_ended : p.run.ended ≡ true → (run_in (call_on p i).answer).ended ≡ true
-  stays_ended h = ap (λ (z : PausedCall StepAnswer). (run_in z.answer).ended) (early_same p i 31 nan (if_31 l i h)) ∙ h
+  stays_ended h = ap (λ (z : PausedCall StepAnswer). (run_in z.answer).ended) (early_same p i RunEnded nan (if_31 l i h)) ∙ h
 
 -- ---- ended, so by one of the causes
 pub only_causes : {o : KrylovPhiOptions} {j : Job} {p : Past} → Left o j p → p.run.ended ≡ true → Causes j p
@@ -128,8 +128,8 @@ only_causes {o} {j} (history.started output memory field {s} e) h = go (pow2_sca
 only_causes {o} {j} (history.stepped {p} l i) h = go (λ k. only_causes l k) (checked p i) refl
   where
     go : (p.run.ended ≡ true → Causes j p) → (c : Checked) → checked p i ≡ c → Causes j (next o j p i)
-    go earlier Sound e = ended_by_step l i (sym e) h
-    go earlier (Refused k x) e = kept l i k x e (earlier (sym (ap (λ (z : PausedCall StepAnswer). (run_in z.answer).ended) (early_same p i k x e)) ∙ h))
+    go earlier (Ok _) e = ended_by_step l i (sym e) h
+    go earlier (Err r) e = kept l i r.reason r.value e (earlier (sym (ap (λ (z : PausedCall StepAnswer). (run_in z.answer).ended) (early_same p i r.reason r.value e)) ∙ h))
 
 -- ---- each of the causes ends it
 met_ended : {o : KrylovPhiOptions} {j : Job} {p : Past} → Left o j p → Each (λ i. Plain i.job.g) p.inputs → Some Met p.answers → p.run.ended ≡ true

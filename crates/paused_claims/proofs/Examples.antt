@@ -12,20 +12,18 @@ use Rattle.general_operator.specs.Csr.{Csr, csr}
 use Rattle.generator_action.specs.Generator.{forward}
 use Rattle.krylov_job.specs.declared.KrylovPhiOptions.{KrylovPhiOptions}
 use Rattle.checks.specs.First.{first}
-use Rattle.checks.specs.declared.Checked.TheVariants.{Sound}
 use Rattle.krylov_advance.specs.declared.KrylovPhiReport.{KrylovPhiReport}
-use Rattle.paused_run.specs.Paused.{Job, PausedCall, leaves, start_checks, start, Input, step, open_paused}
+use Rattle.paused_run.specs.Paused.{Job, PausedCall, leaves, StartAnswer, start_checks, start, StepAnswer, StepRefused, Input, step, open_paused}
 use Rattle.paused_run.specs.declared.PausedRun.{PausedRun}
-use Rattle.paused_run.specs.declared.StartAnswer.{StartAnswer}
-use Rattle.paused_run.specs.declared.StartAnswer.TheVariants as start_answer
-use Rattle.paused_run.specs.declared.StepAnswer.{StepAnswer}
-use Rattle.paused_run.specs.declared.StepAnswer.TheVariants.{Refusal, Stepped}
 use Rattle.paused_claims.specs.History.{run_in}
 use Rattle.paused_claims.specs.Alike.{number_in, double_in}
+use Rattle.checks.specs.Reasons.{Sound}
+use Rattle.std.specs.Prelude.{Ok, Err}
+use Rattle.checks.specs.declared.Reason.TheVariants.{NoInnerPlan, RunEnded}
 
 -- the first step on what a start handed back; a refused start answers for it
 abbrev first_step : PausedCall StartAnswer → Input → PausedCall StepAnswer
-first_step c i = elim c.answer [ start_answer.Refusal k x ↦ leaves (Refusal k x nothing) c.output c.memory c.field | start_answer.Started s ↦ step s c.field i ]
+first_step c i = elim c.answer [ Err e ↦ leaves (StepRefused e.reason e.value nothing) c.output c.memory c.field | Ok s ↦ step s c.field i ]
   where
     nothing : PausedRun
     nothing =
@@ -67,7 +65,7 @@ empty = csr 1 (0 ∷ 0 ∷ []) [] []
 -- ---- the start's eta stays in the gains: with its own the step would hand out 1
 own_gain : first_step (start (options tenth 30 100000) (job empty 1f 2 (+0 ∷ 1f ∷ [])) (nat 7 ∷ []) (replicate 27 (nat 9)) (replicate 2 (nat 9))) (input None (job empty 1f 2 (+0 ∷ nat 4 ∷ [])) (nat 7 ∷ []) (replicate 28 (nat 9)))
     ≡ leaves
-    (Stepped (record {
+    (Ok (record {
       time = 1f;
       next = +0;
       report = record { matvecs = 2; substeps = 1; rejected = 0; est_error = bits 0x3cc0_0000_0000_0000; shortest = 1f; last = 1f };
@@ -145,11 +143,11 @@ idle =
     }
 
 signs_kept : start (options tenth 30 9) zeros (nat 7 ∷ nat 7 ∷ []) (replicate 29 (nat 9)) (nat 9 ∷ nat 9 ∷ [])
-    ≡ leaves (start_answer.Started idle) (-0 ∷ +0 ∷ []) (replicate 28 +0 ++ (nat 9 ∷ [])) (-0 ∷ +0 ∷ [])
+    ≡ leaves (Ok idle) (-0 ∷ +0 ∷ []) (replicate 28 +0 ++ (nat 9 ∷ [])) (-0 ∷ +0 ∷ [])
 unfolding open_paused
 signs_kept = refl
 
-idle_31 : step idle (-0 ∷ +0 ∷ []) (input None zeros (nat 7 ∷ []) []) ≡ leaves (Refusal 31 nan idle) (nat 7 ∷ []) [] (-0 ∷ +0 ∷ [])
+idle_31 : step idle (-0 ∷ +0 ∷ []) (input None zeros (nat 7 ∷ []) []) ≡ leaves (StepRefused RunEnded nan idle) (nat 7 ∷ []) [] (-0 ∷ +0 ∷ [])
 unfolding open_paused
 idle_31 = refl
 
@@ -189,7 +187,7 @@ ring_run time next report tol ended =
 tightened : then_step (first_step ring_begun (on_ring None)) (on_ring (Some thousandth))
     ≡ (let y = bits 0x3fee_f740_b4a3_7480 ∷ bits 0x3fdd_9212_b86d_25ba ∷ bits 0x3fd4_3767_1ac2_648d ∷ [] in
     leaves
-    (Stepped
+    (Ok
     (ring_run (bits 0x3fb1_26e9_78d4_fdf4) (bits 0x3faa_1cac_0831_26ea)
     (record {
       matvecs = 6;
@@ -217,7 +215,7 @@ abbrev short_first : PausedCall StepAnswer
 short_first = first_step (start (options hundredth 2 9) short (replicate 3 (nat 7)) (replicate 34 (nat 9)) (replicate 3 (nat 9))) short_step
 
 above_one : short_first.answer
-    ≡ Stepped
+    ≡ Ok
     (ring_run (bits 0x3f9f_be76_c8b4_3958) (bits 0x3ff4_cccc_cccc_cccd)
     (record { matvecs = 3; substeps = 1; rejected = 0; est_error = bits 0x3e86_7ae1_cf5f_8dfe; shortest = bits 0x3f9f_be76_c8b4_3958; last = bits 0x3f9f_be76_c8b4_3958 })
     hundredth false)
@@ -225,7 +223,7 @@ unfolding open_paused
 above_one = refl
 
 finished : (then_step short_first short_step).answer
-    ≡ Stepped
+    ≡ Ok
     (ring_run 1f (bits 0x3ff4_cccc_cccc_cccd)
     (record { matvecs = 6; substeps = 2; rejected = 0; est_error = bits 0x3f72_6e97_9028_9a8c; shortest = bits 0x3f9f_be76_c8b4_3958; last = bits 0x3fef_020c_49ba_5e35 })
     hundredth true)
@@ -236,7 +234,7 @@ finished = refl
 met_29 : first_step ring_begun (on_ring (Some (bits 0x1)))
     ≡ (let y = 1f ∷ bits 0x3fe0_0000_0000_0000 ∷ bits 0x3fd0_0000_0000_0000 ∷ [] in
     leaves
-    (Refusal 29 nan
+    (StepRefused NoInnerPlan nan
     (ring_run +0 (bits 0x3f90_624d_d2f1_a9fc) (record { matvecs = 0; substeps = 0; rejected = 0; est_error = +0; shortest = +0; last = +0 }) hundredth true))
     y
     (replicate 34 +0)

@@ -5,7 +5,6 @@ use native.Mathlib.Omega.{arith}
 use borrow.Author.Tests.{eqb-false}
 use lib.ListN.{length}
 use Rattle.checks.specs.First.{first}
-use Rattle.checks.specs.declared.Checked.TheVariants.{Sound}
 use Rattle.checks.proofs.First.{sound_cons, sound_append}
 use Rattle.combination.specs.Combination.{further}
 use Rattle.combination.specs.Checks.{time_checks, vector_checks}
@@ -19,6 +18,7 @@ use Rattle.demand_3.proofs.Krylov.{Finite}
 use Rattle.demand_3.proofs.Start.{vectors_finite, start_finite}
 use Rattle.paused_claims.specs.History.{values_in, dimension_in}
 use Rattle.paused_claims.specs.Start.{values_of}
+use Rattle.checks.specs.Reasons.{Sound}
 
 -- M by its two names
 pub dimension_is : (o : KrylovPhiOptions) (j : Job) → dimension (rows j) (degree j) o.m ≡ dimension_in o j

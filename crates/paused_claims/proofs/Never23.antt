@@ -16,6 +16,7 @@ use Rattle.krylov_job.specs.declared.KrylovPhiOptions.{KrylovPhiOptions}
 use Rattle.paused_run.specs.Paused.{Job, rows, degree, need_of, scaling_of, field_checks, start_checks, Input, tol_in, options_in, over, other_checks, step_checks}
 use Rattle.paused_run.specs.declared.PausedRun.{PausedRun}
 use Rattle.demand_3.proofs.Never23.{InRange, check_23, never_23}
+use Rattle.checks.specs.declared.Reason.TheVariants.{NormRange, RunEnded}
 
 -- 21 and 22 with eta
 abbrev magnitude_of : Job → Float → List Check
@@ -38,11 +39,11 @@ module _ (o : KrylovPhiOptions) (j : Job) (h : InRange j.g) (output memory field
   unfolding vector_checks vector_checks_by count_checks time_checks length_checks finite_checks option_checks magnitude_checks bound_checks memory_checks
   start_never_23 = never_23 j.g h up_to_22 (behind_22 j o.m memory field) ∙ sym (ap first (start_parts ∙ append_assoc j.g.checks _ (field_checks field (rows j + degree j))))
 
-  pub start_no_number : before 23 (start_checks o j output memory field) ≡ start_checks o j output memory field
+  pub start_no_number : before NormRange (start_checks o j output memory field) ≡ start_checks o j output memory field
   unfolding before vector_checks vector_checks_by count_checks time_checks length_checks finite_checks option_checks magnitude_checks bound_checks memory_checks field_checks
   start_no_number =
-      ap (before 23) (start_parts ∙ append_assoc j.g.checks _ (field_checks field (rows j + degree j)))
-      ∙ before_append 23 j.g.checks _ h.unnumbered
+      ap (before NormRange) (start_parts ∙ append_assoc j.g.checks _ (field_checks field (rows j + degree j)))
+      ∙ before_append NormRange j.g.checks _ h.unnumbered
       ∙ sym (start_parts ∙ append_assoc j.g.checks _ (field_checks field (rows j + degree j)))
 
 -- ---- a step on any state
@@ -58,22 +59,22 @@ module _ (s : PausedRun) (field : ℕ) (i : Input) (h : InRange i.job.g) where
       vector_checks_by (time_checks j.tau) of_lengths j.count j.w ++ (option_checks (options_in s (tol_in i.tolerance s)) (dimension (rows j) (degree j) s.m) ++ magnitude_of j s.eta)
 
   step_parts : step_checks s field i
-      ≡ refuse 31 (over s) nan ∷ ((j.g.checks ++ (step_up_to_22 ++ (bound_checks (bound j.tau (row_sum_norm j.g.matrix)) ++ memory_checks (length i.memory) (need_of j s.m)))) ++ field_checks field (rows j + degree j))
+      ≡ refuse RunEnded (over s) nan ∷ ((j.g.checks ++ (step_up_to_22 ++ (bound_checks (bound j.tau (row_sum_norm j.g.matrix)) ++ memory_checks (length i.memory) (need_of j s.m)))) ++ field_checks field (rows j + degree j))
   unfolding step_checks krylov_checks_by run_checks vector_checks_by count_checks time_checks length_checks other_checks finite_checks option_checks magnitude_checks
   step_parts = refl
 
-  in_a_row : step_checks s field i ≡ (refuse 31 (over s) nan ∷ j.g.checks) ++ (step_up_to_22 ++ behind_22 j s.m (length i.memory) field)
+  in_a_row : step_checks s field i ≡ (refuse RunEnded (over s) nan ∷ j.g.checks) ++ (step_up_to_22 ++ behind_22 j s.m (length i.memory) field)
   unfolding vector_checks_by count_checks time_checks length_checks other_checks finite_checks option_checks magnitude_checks bound_checks memory_checks
-  in_a_row = step_parts ∙ ap (λ (l : List Check). refuse 31 (over s) nan ∷ l) (append_assoc j.g.checks _ (field_checks field (rows j + degree j)))
+  in_a_row = step_parts ∙ ap (λ (l : List Check). refuse RunEnded (over s) nan ∷ l) (append_assoc j.g.checks _ (field_checks field (rows j + degree j)))
 
-  pub step_never_23 : first (refuse 31 (over s) nan ∷ (j.g.checks ++ (step_up_to_22 ++ (check_23 j.g ∷ behind_22 j s.m (length i.memory) field)))) ≡ first (step_checks s field i)
+  pub step_never_23 : first (refuse RunEnded (over s) nan ∷ (j.g.checks ++ (step_up_to_22 ++ (check_23 j.g ∷ behind_22 j s.m (length i.memory) field)))) ≡ first (step_checks s field i)
   step_never_23 =
-      never_holds (check_23 j.g) (refuse 31 (over s) nan ∷ j.g.checks) step_up_to_22 (behind_22 j s.m (length i.memory) field) (λ e. h.ranged (sound_cons _ _ _ _ e).1)
+      never_holds (check_23 j.g) (refuse RunEnded (over s) nan ∷ j.g.checks) step_up_to_22 (behind_22 j s.m (length i.memory) field) (λ e. h.ranged (sound_cons _ _ _ _ e).1)
       ∙ ap first (sym in_a_row)
 
-  pub step_no_number : before 23 (step_checks s field i) ≡ step_checks s field i
+  pub step_no_number : before NormRange (step_checks s field i) ≡ step_checks s field i
   unfolding before vector_checks_by count_checks time_checks length_checks other_checks finite_checks option_checks magnitude_checks bound_checks memory_checks field_checks
   step_no_number =
-      ap (before 23) in_a_row
-      ∙ ap (λ (l : List Check). refuse 31 (over s) nan ∷ l) (before_append 23 j.g.checks (step_up_to_22 ++ behind_22 j s.m (length i.memory) field) h.unnumbered)
+      ap (before NormRange) in_a_row
+      ∙ ap (λ (l : List Check). refuse RunEnded (over s) nan ∷ l) (before_append NormRange j.g.checks (step_up_to_22 ++ behind_22 j s.m (length i.memory) field) h.unnumbered)
       ∙ sym in_a_row

@@ -6,7 +6,6 @@ use native.Mathlib.Omega.{arith}
 use borrow.Author.Tests.{ne_eqb, le-ltb}
 use lib.ListN.{length}
 use Rattle.checks.specs.First.{Check, first}
-use Rattle.checks.specs.declared.Checked.TheVariants.{Sound}
 use Rattle.checks.proofs.First.{sound_cons, sound_append, sound_on, passes, ends_sound, not_eq}
 use Rattle.general_operator.specs.Csr.{row_sum_norm}
 use Rattle.combination.specs.Combination.{further}
@@ -16,6 +15,8 @@ use Rattle.krylov_job.specs.declared.KrylovPhiOptions.{KrylovPhiOptions}
 use Rattle.krylov_job.proofs.Calls.{options_known}
 use Rattle.paused_run.specs.Paused.{Job, rows, degree}
 use Rattle.paused_claims.specs.History.{own_eta}
+use Rattle.checks.specs.Reasons.{Sound}
+use Rattle.checks.specs.declared.Reason.TheVariants.{OutputLength, TolRange, NoSubsteps, OptionTooLarge, WorkLength}
 
 abbrev M_of : KrylovPhiOptions → Job → ℕ
 M_of o j = dimension (rows j) (degree j) o.m
@@ -64,9 +65,9 @@ limit_passes : (o : KrylovPhiOptions) (j : Job) (k : ℕ) → 0 < k → k ≤ 10
 unfolding option_checks
 limit_passes o j k l most e =
     let M = (options_known o (M_of o j) refl e).0 in
-    passes 18 _ _ (sound_cons _ _ _ _ e).0
-    (passes 19 _ _ (ne_eqb k 0 (λ z. omega (arith, l, z)))
-    (passes 20 _ _ (rw (le-ltb 128 (M_of o j) M, le-ltb 1000000 k most) refl) ends_sound))
+    passes TolRange _ _ (sound_cons _ _ _ _ e).0
+    (passes NoSubsteps _ _ (ne_eqb k 0 (λ z. omega (arith, l, z)))
+    (passes OptionTooLarge _ _ (rw (le-ltb 128 (M_of o j) M, le-ltb 1000000 k most) refl) ends_sound))
 
 pub with_limit : (o : KrylovPhiOptions) (j : Job) (k output memory : ℕ) → 0 < k → k ≤ 1000000 → Pieces o j output memory → Pieces (limited o k) j output memory
 with_limit o j k output memory l most p =
@@ -80,10 +81,10 @@ with_slices o j output memory output₁ memory₁ e l p =
       of_generator = p.of_generator;
       of_count = p.of_count;
       of_time = p.of_time;
-      of_lengths = passes 15 _ _ (not_eq e) (sound_cons _ _ _ _ p.of_lengths).1;
+      of_lengths = passes OutputLength _ _ (not_eq e) (sound_cons _ _ _ _ p.of_lengths).1;
       of_values = p.of_values;
       of_options = p.of_options;
       of_magnitude = p.of_magnitude;
       of_bound = p.of_bound;
-      of_memory = passes 26 _ _ (le-ltb memory₁ (krylov_need (rows j) (degree j) (M_of o j) j.g.stored) l) ends_sound;
+      of_memory = passes WorkLength _ _ (le-ltb memory₁ (krylov_need (rows j) (degree j) (M_of o j) j.g.stored) l) ends_sound;
     }

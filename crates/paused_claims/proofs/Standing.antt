@@ -6,7 +6,7 @@ use mathlib.Core.Bool.{Bool, true, false, not, true≢false}
 use mathlib.Core.List.{List, [], ◌∷◌, ◌++◌, append-nil}
 use Prim.Native.Nat.{ℕ, ◌+◌, ◌-◌, ◌*◌, ◌≤◌, ◌<◌, zero-le}
 use native.Mathlib.Omega.{arith}
-use borrow.Author.Tests.{eqb-true, ltb-true, lt-ltb, ne_eqb, not-false}
+use borrow.Author.Tests.{eqb-true, ltb-true, lt-ltb, not-false}
 use lib.Dec.{ltb, eqb}
 use lib.ListN.{length, replicate, length-append}
 use lib.Ieee.{Float}
@@ -16,10 +16,8 @@ use Rattle.doubles.specs.F64.{◌⊗◌, +0}
 use Rattle.vectors.specs.Vectors.{scale}
 use Rattle.pow2.specs.Pow2.{pow2_scale}
 use Rattle.pow2.specs.declared.Scale.{Scale}
-use Rattle.checks.specs.First.{first}
-use Rattle.checks.specs.declared.Checked.{Checked}
-use Rattle.checks.specs.declared.Checked.TheVariants.{Sound, Refused}
-use Rattle.checks.proofs.First.{sound_cons, sound_append}
+use Rattle.checks.specs.First.{first, Checked, same}
+use Rattle.checks.proofs.First.{ok_is, sound_cons, sound_append}
 use Rattle.general_operator.proofs.Sound.{or_false}
 use Rattle.general_operator.specs.Csr.{row_sum_norm}
 use Rattle.combination.specs.Call.{cleared}
@@ -31,12 +29,8 @@ use Rattle.krylov_advance.specs.Run.{State, End, finished, refused, applied_of, 
 use Rattle.krylov_advance.specs.declared.KrylovPhiReport.{KrylovPhiReport}
 use Rattle.krylov_job.specs.KrylovCall.{bound, dimension, krylov_checks_by, krylov_checks}
 use Rattle.krylov_job.specs.declared.KrylovPhiOptions.{KrylovPhiOptions}
-use Rattle.paused_run.specs.Paused.{Job, rows, degree, PausedCall, setting_of, need_of, idle_run, first_run, begun, start, Input, tol_in, over, other_checks, step_checks, resumed, moved, verdict, field_after, substep_of, after_substep, step_unless, step}
+use Rattle.paused_run.specs.Paused.{Job, rows, degree, PausedCall, setting_of, need_of, idle_run, first_run, StartAnswer, begun, start, StepAnswer, StepRefused, Input, tol_in, over, other_checks, step_checks, resumed, moved, verdict, field_after, substep_of, after_substep, step_unless, step}
 use Rattle.paused_run.specs.declared.PausedRun.{PausedRun}
-use Rattle.paused_run.specs.declared.StartAnswer.{StartAnswer}
-use Rattle.paused_run.specs.declared.StartAnswer.TheVariants.{Started}
-use Rattle.paused_run.specs.declared.StepAnswer.{StepAnswer}
-use Rattle.paused_run.specs.declared.StepAnswer.TheVariants.{Refusal, Stepped}
 use Rattle.demand_3.specs.Trace.{Run, runs, scaled, allowed, run_by, run_of, status_of}
 use Rattle.demand_3.specs.Krylov.{Each, euclidean}
 use Rattle.demand_3.specs.Demand3.{operator_of}
@@ -48,6 +42,10 @@ use Rattle.paused_claims.specs.History as history
 use Rattle.paused_claims.specs.Start.{values_of, job_checks}
 use Rattle.paused_claims.proofs.Known.{some_limit, long}
 use Rattle.paused_claims.proofs.Start.{started_is, the_start}
+use Rattle.checks.specs.Reasons.{Sound}
+use Rattle.std.specs.Prelude.{Ok, Err}
+use Rattle.checks.specs.declared.Reason.TheVariants.{SubstepLimit, LengthsRejected, NoInnerPlan}
+use Rattle.checks.specs.declared.Reason.{Reason}
 
 -- ---- by where a run stands
 abbrev pub report_by : Float → Turn State End → KrylovPhiReport
@@ -63,7 +61,7 @@ ended_by limit (out e) = true
 abbrev pub Refuses : State → Turn State End → Type 0
 Refuses s (on t) = Unit {0}
 Refuses s (out (finished t)) = Unit {0}
-Refuses s (out (refused k x t)) = (t ≡ s) × ((k ≡ 28) ⊎ (k ≡ 29))
+Refuses s (out (refused k x t)) = (t ≡ s) × ((k ≡ LengthsRejected) ⊎ (k ≡ NoInnerPlan))
 
 standing_refuses : (s t : State) (b : Bool) → Refuses s (standing t b)
 standing_refuses s t true = tt
@@ -189,15 +187,15 @@ module _ (o : KrylovPhiOptions) (j : Job) (f : Scale) where
   verdict_is tol now t (on u) h = go (ltb u.report.substeps o.max_substeps)
     where
       pick : Bool → StepAnswer
-      pick b = if b then Stepped (moved (standing_as tol (on t)) now u u.report false) else Refusal 27 u.report.est_error (moved (standing_as tol (on t)) now u u.report true)
+      pick b = if b then Ok (moved (standing_as tol (on t)) now u u.report false) else StepRefused SubstepLimit u.report.est_error (moved (standing_as tol (on t)) now u u.report true)
 
       go : (b : Bool) → run_in (pick b) ≡ standing_with (tol_kept Sound (pick b) tol now) (on u) (not b)
       go true = refl
       go false = refl
   verdict_is tol now t (out (finished u)) h = refl
   verdict_is tol now t (out (refused k x u)) (e, n) =
-      let z : eqb k 27 ≡ false = ne_eqb k 27 (elim n [ inl a ↦ (λ b. omega (arith, a, b)) | inr a ↦ (λ b. omega (arith, a, b)) ]) in
-      ap (λ (b : Bool). standing_as (if b then now else tol) (out (refused k x t))) (sym z) ∙ ap (λ (w : State). standing_as (if eqb k 27 then now else tol) (out (refused k x w))) (sym e)
+      let z : same k SubstepLimit ≡ false = elim n [ inl a ↦ ap (λ (r : Reason). same r SubstepLimit) a | inr a ↦ ap (λ (r : Reason). same r SubstepLimit) a ] in
+      ap (λ (b : Bool). standing_as (if b then now else tol) (out (refused k x t))) (sym z) ∙ ap (λ (w : State). standing_as (if same k SubstepLimit then now else tol) (out (refused k x w))) (sym e)
 
   -- what a step leaves stands again
   made_long : (i : Job) (tol : Float) → rows i ≡ rows j → i.count ≡ j.count → len (made_with o j tol i) ≡ values_in j
@@ -243,8 +241,8 @@ module _ (o : KrylovPhiOptions) (j : Job) (f : Scale) where
 
   pub stands_next : {s : PausedRun} {y : List Float} {tol : Float} {ps : List Setting} (i : Input) → Stood s y tol ps → (c : Checked) → c ≡ first (step_checks s (length y) i)
       → Stood (run_in (step_unless c s y i).answer) (step_unless c s y i).field (tol_kept c (step_unless c s y i).answer tol (in_force i.tolerance tol)) (ps ++ one_more c (made_with o j (in_force i.tolerance tol) i.job))
-  stands_next {s} {y} {tol} {ps} i h (Refused k x) e = unfold step_unless in subst (λ (l : List Setting). Stood s y tol l) (sym (append-nil ps)) h
-  stands_next {s} {y} {tol} {ps} i h Sound e =
+  stands_next {s} {y} {tol} {ps} i h (Err r) e = unfold step_unless in subst (λ (l : List Setting). Stood s y tol l) (sym (append-nil ps)) h
+  stands_next {s} {y} {tol} {ps} i h (Ok _) e =
       let m = made i h e in
       let t = m.0 in
       let now = in_force i.tolerance tol in
@@ -323,10 +321,10 @@ pub left_sound : {o : KrylovPhiOptions} {j : Job} {p : Past} → Left o j p → 
 left_sound {o} {j} (history.started output memory field e) = (output, memory, ((the_start o j output memory field).only_accepted e).0)
 left_sound (history.stepped l i) = left_sound l
 
-pub same_run : {s t : PausedRun} → Started s ≡ Started t → s ≡ t
-same_run e = cc
+pub same_run : {s t : PausedRun} → ◌≡◌ {A = StartAnswer} (Ok s) (Ok t) → s ≡ t
+same_run e = ok_is e
 
-at_start_stands : (o : KrylovPhiOptions) (j : Job) (output memory field : List Float) {s : PausedRun} → (start o j output memory field).answer ≡ Started s → (f : Option Scale) → pow2_scale (values_of j) ≡ f
+at_start_stands : (o : KrylovPhiOptions) (j : Job) (output memory field : List Float) {s : PausedRun} → (start o j output memory field).answer ≡ Ok s → (f : Option Scale) → pow2_scale (values_of j) ≡ f
     → Resting o j (at_start o s (start o j output memory field).field) ⊎ Moving o j (at_start o s (start o j output memory field).field)
 unfolding begun
 at_start_stands o j output memory field {s} e None h =
@@ -344,8 +342,8 @@ unfolding step step_unless over
 resting_next o j p i h = go (checked p i) refl
   where
     go : (c : Checked) → c ≡ checked p i → Resting o j (record { began = p.began; run = run_in (step_unless c p.run p.field i).answer; field = (step_unless c p.run p.field i).field; inputs = p.inputs ++ (i ∷ []); answers = p.answers ++ ((call_on p i).answer ∷ []); tol = tol_kept c (step_unless c p.run p.field i).answer p.tol (in_force i.tolerance p.tol); settings = p.settings ++ one_more c (made_with o j (in_force i.tolerance p.tol) i.job) })
-    go (Refused k x) e = record { none = h.none; run = h.run; field = h.field; tol = h.tol; settings = append-nil p.settings ∙ h.settings }
-    go Sound e =
+    go (Err r) e = record { none = h.none; run = h.run; field = h.field; tol = h.tol; settings = append-nil p.settings ∙ h.settings }
+    go (Ok _) e =
         let r : over p.run ≡ true = ap over h.run in
         absurd (true≢false (sym r ∙ (passed p.run (length p.field) i e).not_over))
 

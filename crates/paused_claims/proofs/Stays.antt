@@ -4,25 +4,23 @@ use mathlib.Core.Path.{◌≡◌, refl, sym, ap, ◌∙◌}
 use mathlib.Core.Logic.{◌⊎◌, inl, inr}
 use mathlib.Core.Bool.{Bool, true, false}
 use mathlib.Core.List.{List}
-use native.Mathlib.Omega.{arith}
-use borrow.Author.Tests.{ne_eqb}
-use lib.Dec.{ltb, eqb}
+use lib.Dec.{ltb}
 use lib.ListN.{length}
 use lib.Ieee.{Float}
 use Rattle.lists.specs.Walk.{Turn, on, out}
-use Rattle.checks.specs.First.{first}
-use Rattle.checks.specs.declared.Checked.{Checked}
-use Rattle.checks.specs.declared.Checked.TheVariants.{Sound, Refused}
+use Rattle.checks.specs.First.{first, Checked, same}
 use Rattle.krylov_advance.specs.Run.{State, End, finished, refused}
 use Rattle.krylov_job.specs.declared.KrylovPhiOptions.{KrylovPhiOptions}
-use Rattle.paused_run.specs.Paused.{Job, Input, tol_in, setting_of, resumed, moved, step_checks, verdict, substep_of, after_substep, step_unless, step}
+use Rattle.paused_run.specs.Paused.{Job, StepAnswer, StepRefused, Input, tol_in, setting_of, resumed, moved, step_checks, verdict, substep_of, after_substep, step_unless, step}
 use Rattle.paused_run.specs.declared.PausedRun.{PausedRun}
-use Rattle.paused_run.specs.declared.StepAnswer.{StepAnswer}
-use Rattle.paused_run.specs.declared.StepAnswer.TheVariants.{Refusal, Stepped}
 use Rattle.paused_claims.specs.History.{Past, run_in, in_force, tol_kept, Left}
 use Rattle.paused_claims.specs.History as history
 use Rattle.paused_claims.specs.Stays.{Stays, StepStays, LeftStays}
 use Rattle.paused_claims.proofs.Standing.{Refuses, substep_refuses, tol_is, Resting, Moving, left_stands}
+use Rattle.checks.specs.Reasons.{Sound}
+use Rattle.std.specs.Prelude.{Ok, Err}
+use Rattle.checks.specs.declared.Reason.TheVariants.{SubstepLimit}
+use Rattle.checks.specs.declared.Reason.{Reason}
 
 module _ (s : PausedRun) where
   pub stays_here : Stays s s
@@ -32,7 +30,7 @@ module _ (s : PausedRun) where
   unfolding verdict
   verdict_stays tol (on t) = go (ltb t.report.substeps s.limit)
     where
-      go : (b : Bool) → Stays s (run_in (if b then Stepped (moved s tol t t.report false) else Refusal 27 t.report.est_error (moved s tol t t.report true)))
+      go : (b : Bool) → Stays s (run_in (if b then Ok (moved s tol t t.report false) else StepRefused SubstepLimit t.report.est_error (moved s tol t t.report true)))
       go true = record { eta = refl; factors = refl; norm = refl; m = refl; limit = refl; n = refl; count = refl }
       go false = record { eta = refl; factors = refl; norm = refl; m = refl; limit = refl; n = refl; count = refl }
   verdict_stays tol (out (finished t)) = record { eta = refl; factors = refl; norm = refl; m = refl; limit = refl; n = refl; count = refl }
@@ -43,26 +41,26 @@ module _ (s : PausedRun) where
   verdict_tol tol u (on t) h = go (ltb t.report.substeps s.limit)
     where
       pick : Bool → StepAnswer
-      pick b = if b then Stepped (moved s tol t t.report false) else Refusal 27 t.report.est_error (moved s tol t t.report true)
+      pick b = if b then Ok (moved s tol t t.report false) else StepRefused SubstepLimit t.report.est_error (moved s tol t t.report true)
 
       go : (b : Bool) → (run_in (pick b)).tol ≡ tol_kept Sound (pick b) s.tol tol
       go true = refl
       go false = refl
   verdict_tol tol u (out (finished t)) h = refl
   verdict_tol tol u (out (refused k x t)) (e, n) =
-      let z : eqb k 27 ≡ false = ne_eqb k 27 (elim n [ inl a ↦ (λ b. omega (arith, a, b)) | inr a ↦ (λ b. omega (arith, a, b)) ]) in
+      let z : same k SubstepLimit ≡ false = elim n [ inl a ↦ ap (λ (r : Reason). same r SubstepLimit) a | inr a ↦ ap (λ (r : Reason). same r SubstepLimit) a ] in
       ap (λ (b : Bool). if b then tol else s.tol) (sym z)
 
   module _ (y : List Float) (i : Input) where
     stays_by : (c : Checked) → Stays s (run_in (step_unless c s y i).answer)
     unfolding step_unless after_substep
-    stays_by (Refused k x) = stays_here
-    stays_by Sound = verdict_stays (tol_in i.tolerance s) (substep_of s y i)
+    stays_by (Err r) = stays_here
+    stays_by (Ok _) = verdict_stays (tol_in i.tolerance s) (substep_of s y i)
 
     tol_by : (c : Checked) → (run_in (step_unless c s y i).answer).tol ≡ tol_kept c (step_unless c s y i).answer s.tol (in_force i.tolerance s.tol)
     unfolding step_unless after_substep
-    tol_by (Refused k x) = refl
-    tol_by Sound =
+    tol_by (Err r) = refl
+    tol_by (Ok _) =
         verdict_tol (tol_in i.tolerance s) (resumed s y) (substep_of s y i) (substep_refuses (setting_of i.job s.eta s.norm (tol_in i.tolerance s) s.m) (resumed s y))
         ∙ ap (tol_kept Sound (verdict s (tol_in i.tolerance s) (substep_of s y i)) s.tol) (tol_is i.tolerance s)
 

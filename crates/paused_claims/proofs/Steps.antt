@@ -15,8 +15,7 @@ use Rattle.lists.specs.Window.{window}
 use Rattle.doubles.specs.F64.{◌⊖◌, ◌⊘◌, 1f}
 use Rattle.vectors.specs.Vectors.{scale}
 use Rattle.pow2.specs.declared.Scale.{Scale}
-use Rattle.checks.specs.declared.Checked.{Checked}
-use Rattle.checks.specs.declared.Checked.TheVariants.{Sound}
+use Rattle.checks.specs.First.{Checked}
 use Rattle.combination.specs.Call.{cleared}
 use Rattle.gram_schmidt.specs.Basis.{Setting, Basis, arnoldi, norm2}
 use Rattle.trial_steps.specs.Trials.{Trying, Tried, accepted, stuck, trials}
@@ -24,10 +23,8 @@ use Rattle.krylov_advance.specs.Run.{State, End, finished, refused, applied_of, 
 use Rattle.krylov_advance.specs.declared.KrylovPhiReport.{KrylovPhiReport}
 use Rattle.krylov_job.specs.KrylovCall.{dimension, krylov_need}
 use Rattle.krylov_job.specs.declared.KrylovPhiOptions.{KrylovPhiOptions}
-use Rattle.paused_run.specs.Paused.{Job, rows, degree, PausedCall, Input, moved, stopped, over, verdict, after_substep, step_unless, step}
+use Rattle.paused_run.specs.Paused.{Job, rows, degree, PausedCall, StepAnswer, StepRefused, Input, moved, stopped, over, verdict, after_substep, step_unless, step}
 use Rattle.paused_run.specs.declared.PausedRun.{PausedRun}
-use Rattle.paused_run.specs.declared.StepAnswer.{StepAnswer}
-use Rattle.paused_run.specs.declared.StepAnswer.TheVariants.{Refusal, Stepped}
 use Rattle.demand_3.specs.Trace.{Accepted, accepted_in, made, runs, trace, total, Run, status_of, accepted_by, tried_by, time_of, field_of, estimate_of}
 use Rattle.demand_3.specs.Krylov.{euclidean, Counted, Failed}
 use Rattle.demand_3.proofs.Runs.{trace_append}
@@ -41,21 +38,28 @@ use Rattle.paused_claims.proofs.Proposed.{run_proposed}
 use Rattle.paused_claims.proofs.Standing.{report_by, passed, standing_as, first_norm, reached_field, each_one, answer_is, verdict_is, run_with, Stood, Made, substep_refuses, left_stands}
 use Rattle.paused_claims.proofs.Standing as standing
 use Rattle.paused_claims.proofs.Stays.{left_stays}
+use Rattle.checks.specs.Reasons.{Sound}
+use Rattle.checks.specs.declared.Reason.TheVariants.{SubstepLimit, LengthsRejected, NoInnerPlan}
+use Rattle.checks.specs.declared.Reason.{Reason}
+use Rattle.std.specs.Prelude.{Ok}
 
 -- ---- one substep: accepted where it does not refuse; 28 tells its tol, 29 the argument of its last trial
 abbrev Told : Setting → Turn Trying Tried → Turn State End → List Accepted → Type 0
 Told q tr (on t) l = (a : Accepted) × (l ≡ a ∷ [])
 Told q tr (out (finished t)) l = (a : Accepted) × (l ≡ a ∷ [])
-Told q tr (out (refused k x t)) l = (l ≡ []) × (k ≡ 28 → x ≡ q.tol) × (k ≡ 29 → tr ≡ out (stuck x))
+Told q tr (out (refused k x t)) l = (l ≡ []) × (k ≡ LengthsRejected → x ≡ q.tol) × (k ≡ NoInnerPlan → tr ≡ out (stuck x))
 
 standing_told : (q : Setting) (tr : Turn Trying Tried) (t : State) (b : Bool) (a : Accepted) → Told q tr (standing t b) (a ∷ [])
 standing_told q tr t true a = (a, refl)
 standing_told q tr t false a = (a, refl)
 
+not_both : {A : Type 0} {k : Reason} → k ≡ LengthsRejected → k ≡ NoInnerPlan → A
+not_both e g = let z : zero ≡ 1 = cc in absurd (omega (arith, z))
+
 settle_told : (q : Setting) (s : State) (b : Basis) (tr : Turn Trying Tried) → Told q tr (settle q s b tr) (accepted_in q s b tr)
 unfolding settle accepted_in
-settle_told q s b (on t) = (refl, (λ _. refl), (λ e. absurd (omega (arith, e))))
-settle_told q s b (out (stuck arg)) = (refl, (λ e. absurd (omega (arith, e))), (λ _. refl))
+settle_told q s b (on t) = (refl, (λ _. refl), (λ e. not_both refl e))
+settle_told q s b (out (stuck arg)) = (refl, (λ e. not_both e refl), (λ _. refl))
 settle_told q s b (out (accepted r t f err)) = let n = advance q s (applied_of b) (columns_of b) r t f err in standing_told q (out (accepted r t f err)) n (unfinished n) _
 
 substep_told : (q : Setting) (s : State) → Told q (trials_of q s) (substep q s) (made q s)
@@ -124,7 +128,7 @@ module _
   one_more_of a k = record { substep = a; more = more ∙ ap (λ (l : List Accepted). accepted_by before ++ l) k }
 
   -- 28 and 29
-  eleven : {k : ℕ} → Failed u k → accepted_by u ≡ accepted_by before → k ≡ 28 → length (tried_by u) ≡ length (tried_by before) + 11
+  eleven : {k : Reason} → Failed u k → accepted_by u ≡ accepted_by before → k ≡ LengthsRejected → length (tried_by u) ≡ length (tried_by before) + 11
   eleven g none k =
       let a = g.eleven k in
       let b = ap (λ (l : List Accepted). total (λ x. length x.tried) l) none in
@@ -146,7 +150,7 @@ module _
       let c = ap (λ (z : State). z.control.time) (sym recorded) ∙ (run_recorded before).time in
       sym (λ l. trials q (b l) (n l) (1f ⊖ c l) (arnoldi q (y l) (b l))) ∙ k
 
-  fails : (k : ℕ) (x : Float) (w : State) → Told q (trials_of q t) (out (refused k x w)) (made q t) → Failed u k → Fails q before u s k x (stopped s₁)
+  fails : (k : Reason) (x : Float) (w : State) → Told q (trials_of q t) (out (refused k x w)) (made q t) → Failed u k → Fails q before u s k x (stopped s₁)
   fails k x w told g =
       let none = more ∙ ap (λ (l : List Accepted). accepted_by before ++ l) told.0 ∙ append-nil (accepted_by before) in
       record {
@@ -168,7 +172,7 @@ module _
   outcome (on z) e (a, k) g = go (ltb z.report.substeps limit) refl
     where
       go : (b : Bool) → ltb z.report.substeps limit ≡ b
-          → Outcome limit q before u s (if b then Stepped (moved s₁ now z z.report false) else Refusal 27 z.report.est_error (moved s₁ now z z.report true))
+          → Outcome limit q before u s (if b then Ok (moved s₁ now z z.report false) else StepRefused SubstepLimit z.report.est_error (moved s₁ now z z.report true))
       go true r =
           let l = ltb-true z.report.substeps limit r in
           inl (record { one = one_more_of a k; goes_on = g; below = let c = substeps_at (on z) e in omega (arith, l, c); estimate = estimate_at (on z) e; ended = refl })

@@ -9,7 +9,7 @@ use native.Mathlib.Nat.{le_trans, le_of_eq, zero-add}
 use native.Mathlib.Numerals.{add-one}
 use native.Mathlib.Omega.{arith}
 use borrow.Author.Tests.{ltb-false, le-ltb}
-use lib.Dec.{ltb, eqb}
+use lib.Dec.{ltb}
 use lib.ListN.{length, replicate, length-append, length-replicate}
 use lib.Ieee.{Float}
 use Rattle.lists.specs.Walk.{Turn, on, out}
@@ -18,21 +18,15 @@ use Rattle.doubles.specs.F64.{◌⊗◌}
 use Rattle.vectors.specs.Vectors.{scale}
 use Rattle.pow2.specs.Pow2.{pow2_scale}
 use Rattle.pow2.specs.declared.Scale.{Scale}
-use Rattle.checks.specs.First.{first}
-use Rattle.checks.specs.declared.Checked.{Checked}
-use Rattle.checks.specs.declared.Checked.TheVariants.{Sound, Refused}
+use Rattle.checks.specs.First.{first, Checked, same as same_number}
 use Rattle.general_operator.specs.Csr.{row_sum_norm}
 use Rattle.combination.specs.Call.{Call, ends, unless_refused, cleared}
 use Rattle.gram_schmidt.specs.Basis.{Setting, norm2}
 use Rattle.krylov_advance.specs.Run.{State, End, finished, refused, substep, spent, started, scaled_back, back, relative_report, clamp_m, idle, setting, expv_by, expv}
-use Rattle.krylov_job.specs.KrylovCall.{bound, dimension, krylov_checks, after_run, combination_run_krylov, phi_combination_krylov}
+use Rattle.krylov_job.specs.KrylovCall.{bound, dimension, krylov_checks, KrylovAnswer, after_run, combination_run_krylov, phi_combination_krylov}
 use Rattle.krylov_job.specs.declared.KrylovPhiOptions.{KrylovPhiOptions}
-use Rattle.krylov_job.specs.declared.KrylovAnswer.{KrylovAnswer}
-use Rattle.krylov_job.specs.declared.KrylovAnswer.TheVariants as krylov_answer
-use Rattle.paused_run.specs.Paused.{Job, rows, PausedCall, need_of, Input, moved, over, verdict, field_after, after_substep}
+use Rattle.paused_run.specs.Paused.{Job, rows, PausedCall, need_of, StepAnswer, StepRefused, Input, moved, over, verdict, field_after, after_substep}
 use Rattle.paused_run.specs.declared.PausedRun.{PausedRun}
-use Rattle.paused_run.specs.declared.StepAnswer.{StepAnswer}
-use Rattle.paused_run.specs.declared.StepAnswer.TheVariants.{Refusal, Stepped}
 use Rattle.demand_3.specs.Trace.{Run, runs, status_of}
 use Rattle.demand_3.specs.Krylov.{Each, euclidean}
 use Rattle.demand_3.specs.Demand3.{operator_of}
@@ -54,6 +48,10 @@ use Rattle.paused_claims.proofs.Standing.{passed, standing_as, ended_by, run_wit
 use Rattle.paused_claims.proofs.Early.{over_left, own}
 use Rattle.paused_claims.proofs.Steps.{sound_call}
 use Rattle.paused_claims.proofs.Ended.{stays_ended}
+use Rattle.checks.specs.Reasons.{Sound, Refused}
+use Rattle.std.specs.Prelude.{Ok, Err}
+use Rattle.checks.specs.declared.Reason.TheVariants.{SubstepLimit}
+use Rattle.checks.specs.declared.Reason.{Reason}
 
 pub left_same : {o : KrylovPhiOptions} {j : Job} {p : Past} → LeftSame o j p → Left o j p
 left_same (same.started output memory field e) = history.started output memory field e
@@ -71,9 +69,9 @@ replicate_one : {A : Type 0} (a : ℕ) (x : A) → replicate a x ++ (x ∷ []) �
 replicate_one a x = sym (replicate_more a 1 x) ∙ ap (λ (n : ℕ). replicate n x) (add-one a)
 
 tol_same : (c : Checked) (a : StepAnswer) (x : Float) → tol_kept c a x x ≡ x
-tol_same (Refused k y) a x = refl
-tol_same Sound (Stepped s) x = refl
-tol_same Sound (Refusal k y s) x = go (eqb k 27)
+tol_same (Err r) a x = refl
+tol_same (Ok _) (Ok s) x = refl
+tol_same (Ok _) (Err r) x = go (same_number r.refusal.reason SubstepLimit)
   where
     go : (b : Bool) → (if b then x else x) ≡ x
     go true = refl
@@ -102,8 +100,8 @@ one_next o j p i h unchanged = go (checked p i) refl
         ∙ ap (λ (n : ℕ). replicate n (made_with o j o.tol j)) (sym (length-append p.settings (q ∷ []) ∙ add-one (length p.settings)))
 
     go : (c : Checked) → checked p i ≡ c → One o j (tol_kept c (call_on p i).answer p.tol (in_force i.tolerance p.tol)) (p.settings ++ one_more c q)
-    go (Refused k x) e = (h.0, subst (λ (l : List Setting). l ≡ replicate (length l) (made_with o j o.tol j)) (sym (append-nil p.settings)) h.1)
-    go Sound e = let u = unchanged (sym e) in (kept_tol u Sound (call_on p i).answer, grown (made_same o j p.tol i h.0 u))
+    go (Err r) e = (h.0, subst (λ (l : List Setting). l ≡ replicate (length l) (made_with o j o.tol j)) (sym (append-nil p.settings)) h.1)
+    go (Ok _) e = let u = unchanged (sym e) in (kept_tol u Sound (call_on p i).answer, grown (made_same o j p.tol i h.0 u))
 
 pub one_setting : {o : KrylovPhiOptions} {j : Job} {p : Past} → LeftSame o j p → One o j p.tol p.settings
 one_setting (same.started output memory field e) = (refl, refl)
@@ -177,29 +175,29 @@ module _ (o : KrylovPhiOptions) (j : Job) (f : Scale) (by : pow2_scale (values_o
 
     -- where it goes on after the n-th
     goes_whole : (n : ℕ) (z : State) → 0 < n → n ≤ limit → runs (replicate n q₀) (on (started q₀ y₀)) ≡ on z
-        → undivided o j n i.output i.memory ≡ ends (krylov_answer.Refusal 27 z.report.est_error) (left_in (on z)).output (left_in (on z)).memory
+        → undivided o j n i.output i.memory ≡ ends (Refused SubstepLimit z.report.est_error) (left_in (on z)).output (left_in (on z)).memory
     unfolding spent back scaled_back after_run
-    goes_whole n z l m e = at_limit n (on z) l m e ∙ (λ a. ends (krylov_answer.Refusal 27 z.report.est_error) (sym (output_is (on z)) a) (sym (memory_is (on z)) a))
+    goes_whole n z l m e = at_limit n (on z) l m e ∙ (λ a. ends (Refused SubstepLimit z.report.est_error) (sym (output_is (on z)) a) (sym (memory_is (on z)) a))
 
     finishes_whole : (z : State) → runs (replicate k q₀) (on (started q₀ y₀)) ≡ out (finished z)
-        → undivided o j limit i.output i.memory ≡ ends (krylov_answer.Result (relative_report z.report (euclidean y₀))) (left_in (out (finished z))).output (left_in (out (finished z))).memory
+        → undivided o j limit i.output i.memory ≡ ends (Ok (relative_report z.report (euclidean y₀))) (left_in (out (finished z))).output (left_in (out (finished z))).memory
     unfolding spent back scaled_back after_run
     finishes_whole z e =
         at_limit limit (out (finished z)) (le_trans some most) (omega arith) (after_end k limit (finished z) most e)
-        ∙ (λ a. ends (krylov_answer.Result (relative_report z.report (euclidean y₀))) (sym (output_is (out (finished z))) a) (sym (memory_is (out (finished z))) a))
+        ∙ (λ a. ends (Ok (relative_report z.report (euclidean y₀))) (sym (output_is (out (finished z))) a) (sym (memory_is (out (finished z))) a))
 
-    fails_whole : (r : ℕ) (x : Float) (z : State) → runs (replicate k q₀) (on (started q₀ y₀)) ≡ out (refused r x z)
-        → undivided o j limit i.output i.memory ≡ ends (krylov_answer.Refusal r x) (left_in (out (refused r x z))).output (left_in (out (refused r x z))).memory
+    fails_whole : (r : Reason) (x : Float) (z : State) → runs (replicate k q₀) (on (started q₀ y₀)) ≡ out (refused r x z)
+        → undivided o j limit i.output i.memory ≡ ends (Refused r x) (left_in (out (refused r x z))).output (left_in (out (refused r x z))).memory
     unfolding spent back scaled_back after_run
     fails_whole r x z e =
         at_limit limit (out (refused r x z)) (le_trans some most) (omega arith) (after_end k limit (refused r x z) most e)
-        ∙ (λ a. ends (krylov_answer.Refusal r x) (sym (output_is (out (refused r x z))) a) (sym (memory_is (out (refused r x z))) a))
+        ∙ (λ a. ends (Refused r x) (sym (output_is (out (refused r x z))) a) (sym (memory_is (out (refused r x z))) a))
 
     as_by : (now : Float) (st : Turn State End) → runs (replicate k q₀) (on (started q₀ y₀)) ≡ st → ((reached st).report.substeps ≤ k) → AsWhole o j k i.output i.memory (left_in st) (verdict s₁ now st)
     unfolding verdict
     as_by now (on z) e c = go (ltb z.report.substeps limit) refl
       where
-        go : (b : Bool) → ltb z.report.substeps limit ≡ b → AsWhole o j k i.output i.memory (left_in (on z)) (if b then Stepped (moved s₁ now z z.report false) else Refusal 27 z.report.est_error (moved s₁ now z z.report true))
+        go : (b : Bool) → ltb z.report.substeps limit ≡ b → AsWhole o j k i.output i.memory (left_in (on z)) (if b then Ok (moved s₁ now z z.report false) else StepRefused SubstepLimit z.report.est_error (moved s₁ now z z.report true))
         go true q = ((λ _. goes_whole k z some most e), (λ h. absurd (true≢false (sym h))))
         go false q =
             let n : k ≡ limit = let l = ltb-false z.report.substeps limit q in omega (arith, l, c, most) in
@@ -307,4 +305,4 @@ zero_whole o j output memory field s e z =
     let a = the_start o j output memory field in
     let sound : Sound ≡ first (job_checks o j output memory) = (a.only_accepted e).0 in
     let h = a.idle e z in
-    rw (← sound, zeros_none (values_of j) z) (λ k. ends (krylov_answer.Result (sym h.unstepped.report k)) (sym h.output k) (sym h.cleared_memory k))
+    rw (← sound, zeros_none (values_of j) z) (λ k. ends (Ok (sym h.unstepped.report k)) (sym h.output k) (sym h.cleared_memory k))

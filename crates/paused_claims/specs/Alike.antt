@@ -2,12 +2,11 @@
 use Rattle.std.specs.Prelude.{◌≡◌, List, ℕ, length, Option, Some, None, Float}
 use Rattle.doubles.specs.F64.{+0}
 use Rattle.checks.specs.First.{first}
-use Rattle.checks.specs.declared.Checked.TheVariants.{Sound}
-use Rattle.paused_run.specs.Paused.{PausedCall, Input, step_checks, step}
+use Rattle.paused_run.specs.Paused.{PausedCall, Input, StepAnswer, step_checks, step}
 use Rattle.paused_run.specs.declared.PausedRun.{PausedRun}
-use Rattle.paused_run.specs.declared.StepAnswer.{StepAnswer}
-use Rattle.paused_run.specs.declared.StepAnswer.TheVariants.{Refusal, Stepped}
 use Rattle.paused_claims.specs.History.{run_in}
+use Rattle.checks.specs.Reasons.{number as numbered, Sound}
+use Rattle.std.specs.Prelude.{Ok, Err}
 
 -- ---- what the lent output and working memory hold does not matter, nor how long they are beyond what is asked
 pub record SameStep (c d : PausedCall StepAnswer) : Type 0 where
@@ -21,12 +20,12 @@ Blind s y = (i k : Input) → i.tolerance ≡ k.tolerance → i.job ≡ k.job �
 -- ---- 'a new tol for itself and the later ones'
 -- a refusal's number and double; 0 and +0 of none
 abbrev pub number_in : StepAnswer → ℕ
-number_in (Refusal k x s) = k
-number_in (Stepped s) = 0
+number_in (Err r) = numbered r.refusal.reason
+number_in (Ok s) = 0
 
 abbrev pub double_in : StepAnswer → Float
-double_in (Refusal k x s) = x
-double_in (Stepped s) = +0
+double_in (Err r) = r.refusal.value
+double_in (Ok s) = +0
 
 abbrev pub run_with_tol : Float → PausedRun → PausedRun
 run_with_tol tol s =

@@ -3,18 +3,18 @@ use Rattle.std.specs.Prelude.{◌≡◌, ◌⊎◌, true, List, [], ◌∷◌, �
 use Rattle.std.specs.Float.{binary64}
 use Rattle.std.specs.Float.Ieee.{fits, eq}
 use Rattle.doubles.specs.F64.{+0, 1f, at}
-use Rattle.paused_run.specs.Paused.{Job}
-use Rattle.paused_run.specs.declared.StepAnswer.{StepAnswer}
-use Rattle.paused_run.specs.declared.StepAnswer.TheVariants.{Refusal, Stepped}
+use Rattle.paused_run.specs.Paused.{Job, StepAnswer}
 use Rattle.demand_3.specs.Krylov.{euclidean, Each, Zeros}
 use Rattle.paused_claims.specs.History.{Past}
 use Rattle.paused_claims.specs.Start.{values_of}
 use Rattle.paused_claims.specs.Early.{Plain}
+use Rattle.checks.specs.declared.Reason.TheVariants.{SubstepLimit, LengthsRejected, NoInnerPlan}
+use Rattle.std.specs.Prelude.{Ok, Err}
 
 -- 27 to 29
 abbrev pub Met : StepAnswer → Type 0
-Met (Stepped s) = ⊥
-Met (Refusal k x s) = (k ≡ 27) ⊎ ((k ≡ 28) ⊎ (k ≡ 29))
+Met (Ok s) = ⊥
+Met (Err r) = (r.refusal.reason ≡ SubstepLimit) ⊎ ((r.refusal.reason ≡ LengthsRejected) ⊎ (r.refusal.reason ≡ NoInnerPlan))
 
 abbrev pub Some : {A : Type 0} → (A → Type 0) → List A → Type 0
 Some P [] = ⊥

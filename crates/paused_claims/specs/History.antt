@@ -1,24 +1,22 @@
 -- Paused runs as the last call left them, and what each substep so far was made with (document 02, N5: 'State and field come back at each step as the last one
 -- left them: what is claimed here and in N6 is claimed of such runs'). Definitions only.
-use Rattle.std.specs.Prelude.{◌≡◌, List, [], ◌∷◌, ◌++◌, ℕ, ◌+◌, ◌-◌, eqb, length, Float, if◌then◌else◌, Option, Some, None}
+use Rattle.std.specs.Prelude.{◌≡◌, List, [], ◌∷◌, ◌++◌, ℕ, ◌+◌, ◌-◌, length, Float, if◌then◌else◌, Option, Some, None}
 use Rattle.doubles.specs.F64.{◌⊗◌}
-use Rattle.checks.specs.First.{first}
-use Rattle.checks.specs.declared.Checked.{Checked}
-use Rattle.checks.specs.declared.Checked.TheVariants.{Sound, Refused}
+use Rattle.checks.specs.First.{first, Checked, same}
 use Rattle.general_operator.specs.Csr.{row_sum_norm}
 use Rattle.combination.specs.Combination.{further, eta_of, combination_operator}
 use Rattle.gram_schmidt.specs.Basis.{Setting}
 use Rattle.krylov_advance.specs.Run.{setting}
 use Rattle.krylov_job.specs.KrylovCall.{bound}
 use Rattle.krylov_job.specs.declared.KrylovPhiOptions.{KrylovPhiOptions}
-use Rattle.paused_run.specs.Paused.{Job, PausedCall, start, Input, step_checks, step}
+use Rattle.paused_run.specs.Paused.{Job, PausedCall, start, StepAnswer, Input, step_checks, step}
 use Rattle.paused_run.specs.declared.PausedRun.{PausedRun}
-use Rattle.paused_run.specs.declared.StartAnswer.TheVariants.{Started}
-use Rattle.paused_run.specs.declared.StepAnswer.{StepAnswer}
-use Rattle.paused_run.specs.declared.StepAnswer.TheVariants.{Refusal, Stepped}
 use Rattle.demand_3.specs.Trace.{Run}
 use Rattle.demand_3.specs.Krylov.{euclidean}
 use Rattle.demand_3.specs.Demand3.{krylov_run, clamped}
+use Rattle.checks.specs.Reasons.{Sound}
+use Rattle.checks.specs.declared.Reason.TheVariants.{SubstepLimit}
+use Rattle.std.specs.Prelude.{Ok, Err}
 
 -- ---- what the start alone gives
 -- the run of the whole call with the start's options and job
@@ -68,8 +66,8 @@ Steps p i = Sound ≡ checked p i
 
 -- the run that an answer hands back
 abbrev pub run_in : StepAnswer → PausedRun
-run_in (Refusal k x s) = s
-run_in (Stepped s) = s
+run_in (Err r) = r.run
+run_in (Ok s) = s
 
 -- the tol in force at a step: 'a new tol for itself and the later ones'
 abbrev pub in_force : Option Float → Float → Float
@@ -78,14 +76,14 @@ in_force (Some x) tol = x
 
 -- the tol after it: an early refusal, 28 and 29 leave the one before
 abbrev pub tol_kept : Checked → StepAnswer → Float → Float → Float
-tol_kept (Refused j y) a before now = before
-tol_kept Sound (Stepped s) before now = now
-tol_kept Sound (Refusal k x s) before now = if eqb k 27 then now else before
+tol_kept (Err r) a before now = before
+tol_kept (Ok _) (Ok s) before now = now
+tol_kept (Ok _) (Err r) before now = if same r.refusal.reason SubstepLimit then now else before
 
 -- one more setting, unless it was refused early
 abbrev pub one_more : Checked → Setting → List Setting
-one_more (Refused k x) p = []
-one_more Sound p = p ∷ []
+one_more (Err r) p = []
+one_more (Ok _) p = p ∷ []
 
 abbrev pub at_start : KrylovPhiOptions → PausedRun → List Float → Past
 at_start o s y = record { began = s; run = s; field = y; inputs = []; answers = []; tol = o.tol; settings = [] }
@@ -106,7 +104,7 @@ next o j p i =
 
 -- started with o and j, and any steps after that
 pub data Left (o : KrylovPhiOptions) (j : Job) : Past → Type 0 where
-  started : (output memory field : List Float) {s : PausedRun} → (start o j output memory field).answer ≡ Started s → Left o j (at_start o s (start o j output memory field).field)
+  started : (output memory field : List Float) {s : PausedRun} → (start o j output memory field).answer ≡ Ok s → Left o j (at_start o s (start o j output memory field).field)
   stepped : {p : Past} → Left o j p → (i : Input) → Left o j (next o j p i)
 
 -- its substeps so far, each with its own setting, from the start of the whole call

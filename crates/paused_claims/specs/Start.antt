@@ -6,19 +6,20 @@ use Rattle.doubles.specs.F64.{◌⊗◌, +0, 1f}
 use Rattle.vectors.specs.Vectors.{scale}
 use Rattle.pow2.specs.Pow2.{pow2_scale}
 use Rattle.checks.specs.First.{Check, first}
-use Rattle.checks.specs.declared.Checked.TheVariants.{Sound, Refused}
 use Rattle.general_operator.specs.Csr.{row_sum_norm}
 use Rattle.combination.specs.Call.{cleared}
 use Rattle.krylov_advance.specs.Run.{first_length}
 use Rattle.krylov_job.specs.KrylovCall.{bound, krylov_need, krylov_checks}
 use Rattle.krylov_job.specs.declared.KrylovPhiOptions.{KrylovPhiOptions}
-use Rattle.paused_run.specs.Paused.{Job, PausedCall, leaves}
+use Rattle.paused_run.specs.Paused.{Job, PausedCall, leaves, StartAnswer}
 use Rattle.paused_run.specs.declared.PausedRun.{PausedRun}
-use Rattle.paused_run.specs.declared.StartAnswer.{StartAnswer}
-use Rattle.paused_run.specs.declared.StartAnswer.TheVariants.{Refusal, Started}
 use Rattle.demand_3.specs.Krylov.{euclidean, Zeros}
 use Rattle.demand_3.specs.Demand3.{start_of}
 use Rattle.paused_claims.specs.History.{values_in, dimension_in, own_eta}
+use Rattle.checks.specs.Reasons.{Sound, Refused}
+use Rattle.std.specs.Prelude.{Ok}
+use Rattle.checks.specs.declared.Reason.{Reason}
+use Rattle.checks.specs.declared.Reason.TheVariants.{WorkLength}
 
 -- the n + d values from which the whole call starts
 abbrev pub values_of : Job → List Float
@@ -33,9 +34,9 @@ abbrev pub need_in : KrylovPhiOptions → Job → Job → ℕ
 need_in o j i = krylov_need i.g.matrix.n (i.count - 1) (dimension_in o j) i.g.stored
 
 -- a start is refused by k with x exactly so: the whole call is refused early so; or not, and the lent field is not n + d doubles ('another length: 26')
-abbrev pub Refuses : KrylovPhiOptions → Job → List Float → List Float → List Float → ℕ → Float → Type 0
+abbrev pub Refuses : KrylovPhiOptions → Job → List Float → List Float → List Float → Reason → Float → Type 0
 Refuses o j output memory field k x =
-    (Refused k x ≡ first (job_checks o j output memory)) ⊎ ((Sound ≡ first (job_checks o j output memory)) × (length field ≡ values_in j → ⊥) × (k ≡ 26) × (x ≡ nan))
+    (Refused k x ≡ first (job_checks o j output memory)) ⊎ ((Sound ≡ first (job_checks o j output memory)) × (length field ≡ values_in j → ⊥) × (k ≡ WorkLength) × (x ≡ nan))
 
 -- 'elapsed time, .. report, .. eta, .. beside tol, m, limit, n, count': at time 0, with no substep
 pub record Unstepped (o : KrylovPhiOptions) (j : Job) (s : PausedRun) : Type 0 where
@@ -74,10 +75,10 @@ pub record Ready (o : KrylovPhiOptions) (j : Job) (s : PausedRun) (c : PausedCal
 
 pub record StartClaim (o : KrylovPhiOptions) (j : Job) (output memory field : List Float) (c : PausedCall StartAnswer) : Type 0 where
   -- refused exactly so, and then nothing is changed
-  pub only_refused : (k : ℕ) (x : Float) → c.answer ≡ Refusal k x → Refuses o j output memory field k x
-  pub if_refused : (k : ℕ) (x : Float) → Refuses o j output memory field k x → c ≡ leaves (Refusal k x) output memory field
+  pub only_refused : (k : Reason) (x : Float) → c.answer ≡ Refused k x → Refuses o j output memory field k x
+  pub if_refused : (k : Reason) (x : Float) → Refuses o j output memory field k x → c ≡ leaves (Refused k x) output memory field
   -- else it hands back a run
-  pub if_accepted : Sound ≡ first (job_checks o j output memory) → length field ≡ values_in j → (s : PausedRun) × (c.answer ≡ Started s)
-  pub only_accepted : {s : PausedRun} → c.answer ≡ Started s → (Sound ≡ first (job_checks o j output memory)) × (length field ≡ values_in j)
-  pub idle : {s : PausedRun} → c.answer ≡ Started s → Zeros (values_of j) → Idle o j s c memory
-  pub ready : {s : PausedRun} → c.answer ≡ Started s → (Zeros (values_of j) → ⊥) → Ready o j s c memory
+  pub if_accepted : Sound ≡ first (job_checks o j output memory) → length field ≡ values_in j → (s : PausedRun) × (c.answer ≡ Ok s)
+  pub only_accepted : {s : PausedRun} → c.answer ≡ Ok s → (Sound ≡ first (job_checks o j output memory)) × (length field ≡ values_in j)
+  pub idle : {s : PausedRun} → c.answer ≡ Ok s → Zeros (values_of j) → Idle o j s c memory
+  pub ready : {s : PausedRun} → c.answer ≡ Ok s → (Zeros (values_of j) → ⊥) → Ready o j s c memory

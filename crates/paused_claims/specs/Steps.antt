@@ -12,14 +12,15 @@ use Rattle.gram_schmidt.specs.Basis.{Setting, arnoldi}
 use Rattle.trial_steps.specs.Trials.{stuck, trials}
 use Rattle.krylov_advance.specs.Run.{first_length}
 use Rattle.krylov_job.specs.declared.KrylovPhiOptions.{KrylovPhiOptions}
-use Rattle.paused_run.specs.Paused.{Job, PausedCall, Input}
+use Rattle.paused_run.specs.Paused.{Job, PausedCall, StepAnswer, StepRefused, Input}
 use Rattle.paused_run.specs.declared.PausedRun.{PausedRun}
-use Rattle.paused_run.specs.declared.StepAnswer.{StepAnswer}
-use Rattle.paused_run.specs.declared.StepAnswer.TheVariants.{Refusal, Stepped}
 use Rattle.demand_3.specs.Trace.{Accepted, Run, accepted_by, tried_by, time_of, field_of, estimate_of}
 use Rattle.demand_3.specs.Krylov.{euclidean, Counted, GoesOn, Finished, Failed}
 use Rattle.paused_claims.specs.History.{dimension_in, made_with, Past, call_on, Steps, run_in, in_force, next, run_so_far}
 use Rattle.paused_claims.specs.Start.{need_in}
+use Rattle.checks.specs.declared.Reason.TheVariants.{SubstepLimit, LengthsRejected, NoInnerPlan}
+use Rattle.checks.specs.declared.Reason.{Reason}
+use Rattle.std.specs.Prelude.{Ok, Err}
 
 -- ---- 'proposed step': after an accepted substep by its error, or the time that is left
 unfoldable pub proposed : Float → Accepted → Float
@@ -55,8 +56,8 @@ pub record Finishes (before u : Run) (s : PausedRun) : Type 0 where
   pub ended : s.ended ≡ true
 
 -- '27 comes with the limit's last substep itself', and with the estimate
-pub record Spends (limit : ℕ) (before u : Run) (k : ℕ) (x : Float) (s : PausedRun) : Type 0 where
-  pub number : k ≡ 27
+pub record Spends (limit : ℕ) (before u : Run) (k : Reason) (x : Float) (s : PausedRun) : Type 0 where
+  pub number : k ≡ SubstepLimit
   pub one : OneMore before u
   pub goes_on : GoesOn u
   pub all : length (accepted_by u) ≡ limit
@@ -73,16 +74,16 @@ pub record Marked (r s : PausedRun) : Type 0 where
   pub ended : s.ended ≡ true
 
 -- 28 and 29, of a substep with the setting q: nothing is accepted. 28 comes with its eleventh length, and tells the tol asked of it; 29 tells the argument that has no inner plan
-pub record Fails (q : Setting) (before u : Run) (r : PausedRun) (k : ℕ) (x : Float) (s : PausedRun) : Type 0 where
+pub record Fails (q : Setting) (before u : Run) (r : PausedRun) (k : Reason) (x : Float) (s : PausedRun) : Type 0 where
   pub failed : Failed u k
   pub none : accepted_by u ≡ accepted_by before
-  pub of_28 : k ≡ 28 → (x ≡ q.tol) × (length (tried_by u) ≡ length (tried_by before) + 11)
-  pub of_29 : k ≡ 29 → trials q (euclidean (field_of before)) (proposed_of before) (1f ⊖ time_of before) (arnoldi q (field_of before) (euclidean (field_of before))) ≡ out (stuck x)
+  pub of_28 : k ≡ LengthsRejected → (x ≡ q.tol) × (length (tried_by u) ≡ length (tried_by before) + 11)
+  pub of_29 : k ≡ NoInnerPlan → trials q (euclidean (field_of before)) (proposed_of before) (1f ⊖ time_of before) (arnoldi q (field_of before) (euclidean (field_of before))) ≡ out (stuck x)
   pub marked : Marked r s
 
 abbrev pub Outcome : ℕ → Setting → Run → Run → PausedRun → StepAnswer → Type 0
-Outcome limit q before u r (Stepped s) = StillGoes limit before u s ⊎ Finishes before u s
-Outcome limit q before u r (Refusal k x s) = Spends limit before u k x s ⊎ Fails q before u r k x s
+Outcome limit q before u r (Ok s) = StillGoes limit before u s ⊎ Finishes before u s
+Outcome limit q before u r (Err e) = Spends limit before u e.refusal.reason e.refusal.value e.run ⊎ Fails q before u r e.refusal.reason e.refusal.value e.run
 
 -- ---- the call c of the step i on the run p
 pub record Done (o : KrylovPhiOptions) (j : Job) (p : Past) (i : Input) (u : Run) (c : PausedCall StepAnswer) : Type 0 where
@@ -107,5 +108,5 @@ pub record AtLimit (limit : ℕ) (u : Run) (x : Float) : Type 0 where
   pub told : x ≡ estimate_of u
 
 pub record Exactly27 (o : KrylovPhiOptions) (j : Job) (p : Past) (i : Input) : Type 0 where
-  pub only : Steps p i → {x : Float} {s : PausedRun} → (call_on p i).answer ≡ Refusal 27 x s → AtLimit o.max_substeps (run_so_far o j (next o j p i)) x
-  pub when : Steps p i → {x : Float} → AtLimit o.max_substeps (run_so_far o j (next o j p i)) x → (s : PausedRun) × ((call_on p i).answer ≡ Refusal 27 x s)
+  pub only : Steps p i → {x : Float} {s : PausedRun} → (call_on p i).answer ≡ StepRefused SubstepLimit x s → AtLimit o.max_substeps (run_so_far o j (next o j p i)) x
+  pub when : Steps p i → {x : Float} → AtLimit o.max_substeps (run_so_far o j (next o j p i)) x → (s : PausedRun) × ((call_on p i).answer ≡ StepRefused SubstepLimit x s)

@@ -2,18 +2,16 @@
 -- undivided one'). Whatever output and working memory its steps bring, and with steps refused early in between. Definitions only.
 use Rattle.std.specs.Prelude.{◌≡◌, true, false, List, [], ◌∷◌, ℕ, suc, ◌≤◌, length, Float}
 use Rattle.combination.specs.Call.{Call, ends}
-use Rattle.krylov_job.specs.KrylovCall.{phi_combination_krylov}
 use Rattle.krylov_job.specs.declared.KrylovPhiOptions.{KrylovPhiOptions}
-use Rattle.krylov_job.specs.declared.KrylovAnswer.{KrylovAnswer}
-use Rattle.krylov_job.specs.declared.KrylovAnswer.TheVariants as krylov_answer
-use Rattle.paused_run.specs.Paused.{Job, PausedCall, start, Input}
+use Rattle.krylov_job.specs.KrylovCall.{KrylovAnswer, phi_combination_krylov}
+use Rattle.paused_run.specs.Paused.{Job, PausedCall, start, StepAnswer, Input}
 use Rattle.paused_run.specs.declared.PausedRun.{PausedRun}
-use Rattle.paused_run.specs.declared.StartAnswer.TheVariants.{Started}
-use Rattle.paused_run.specs.declared.StepAnswer.{StepAnswer}
-use Rattle.paused_run.specs.declared.StepAnswer.TheVariants.{Refusal, Stepped}
 use Rattle.demand_3.specs.Krylov.{Each, Zeros}
 use Rattle.paused_claims.specs.History.{Past, call_on, Steps, in_force, at_start, next}
 use Rattle.paused_claims.specs.Start.{values_of, need_in}
+use Rattle.checks.specs.Reasons.{Refused}
+use Rattle.std.specs.Prelude.{Ok, Err}
+use Rattle.checks.specs.declared.Reason.TheVariants.{SubstepLimit}
 
 -- the start's job again, and no new tol or the start's
 pub record Unchanged (o : KrylovPhiOptions) (j : Job) (i : Input) : Type 0 where
@@ -22,7 +20,7 @@ pub record Unchanged (o : KrylovPhiOptions) (j : Job) (i : Input) : Type 0 where
 
 -- a run as it was left, each of whose steps was refused early or unchanged
 pub data LeftSame (o : KrylovPhiOptions) (j : Job) : Past → Type 0 where
-  started : (output memory field : List Float) {s : PausedRun} → (start o j output memory field).answer ≡ Started s → LeftSame o j (at_start o s (start o j output memory field).field)
+  started : (output memory field : List Float) {s : PausedRun} → (start o j output memory field).answer ≡ Ok s → LeftSame o j (at_start o s (start o j output memory field).field)
   stepped : {p : Past} → LeftSame o j p → (i : Input) → (Steps p i → Unchanged o j i) → LeftSame o j (next o j p i)
 
 -- the whole call with this limit
@@ -32,10 +30,10 @@ undivided o j limit output memory = phi_combination_krylov j.g j.tau j.count j.w
 -- after its k-th step that was not refused early: where the run goes on, output and working memory are those of the whole call with the limit k, which 27 refuses with the
 -- estimate; where it ends, they and the report or the refusal are the whole call's
 abbrev pub AsWhole : KrylovPhiOptions → Job → ℕ → List Float → List Float → PausedCall StepAnswer → StepAnswer → Type 0
-AsWhole o j k output memory c (Stepped s) =
-    (s.ended ≡ false → undivided o j k output memory ≡ ends (krylov_answer.Refusal 27 s.report.est_error) c.output c.memory)
-    × (s.ended ≡ true → undivided o j o.max_substeps output memory ≡ ends (krylov_answer.Result s.report) c.output c.memory)
-AsWhole o j k output memory c (Refusal r x s) = undivided o j o.max_substeps output memory ≡ ends (krylov_answer.Refusal r x) c.output c.memory
+AsWhole o j k output memory c (Ok s) =
+    (s.ended ≡ false → undivided o j k output memory ≡ ends (Refused SubstepLimit s.report.est_error) c.output c.memory)
+    × (s.ended ≡ true → undivided o j o.max_substeps output memory ≡ ends (Ok s.report) c.output c.memory)
+AsWhole o j k output memory c (Err e) = undivided o j o.max_substeps output memory ≡ ends (Refused e.refusal.reason e.refusal.value) c.output c.memory
 
 -- with the whole output, and enough working memory
 pub record Served (o : KrylovPhiOptions) (j : Job) (i : Input) : Type 0 where
@@ -61,4 +59,4 @@ pub record UndividedClaim (o : KrylovPhiOptions) (j : Job) (p : Past) : Type 0 w
 abbrev pub ZeroWhole : KrylovPhiOptions → Job → List Float → List Float → List Float → Type 0
 ZeroWhole o j output memory field =
     let c = start o j output memory field in
-    (s : PausedRun) → c.answer ≡ Started s → Zeros (values_of j) → undivided o j o.max_substeps output memory ≡ ends (krylov_answer.Result s.report) c.output c.memory
+    (s : PausedRun) → c.answer ≡ Ok s → Zeros (values_of j) → undivided o j o.max_substeps output memory ≡ ends (Ok s.report) c.output c.memory

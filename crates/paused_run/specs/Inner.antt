@@ -21,10 +21,10 @@ use Rattle.krylov_advance.specs.declared.Progress.TheVariants.{On, Finished, Ref
 use Rattle.krylov_job.specs.declared.KrylovPhiOptions.{KrylovPhiOptions}
 use Rattle.krylov_job.specs.declared.RunJob.{RunJob}
 use Rattle.paused_run.specs.declared.PausedRun.{PausedRun}
-use Rattle.paused_run.specs.declared.StartAnswer.{StartAnswer}
-use Rattle.paused_run.specs.declared.StartAnswer.TheVariants.{Started}
-use Rattle.paused_run.specs.declared.StepAnswer.{StepAnswer}
+use Rattle.paused_run.specs.Paused.{StartAnswer, StepAnswer}
 use Rattle.paused_run.specs.Paused.{Job, PausedCall, leaves, verdict, field_after}
+use Rattle.std.specs.Prelude.{Ok}
+use Rattle.checks.specs.declared.Reason.TheVariants.{VectorLength}
 
 -- a job over a generator that passed the checks gs
 abbrev pub job_over : List Check → Shape → List ℕ → List ℕ → List Float → List Float → Float → ℕ → List Float → Job
@@ -33,7 +33,7 @@ job_over gs g starts cols vals mass tau count w =
 
 -- 16 of a job of n rows and `count` vectors, whose values are `long`
 abbrev pub other_checks_by : PausedRun → ℕ → ℕ → ℕ → List Check
-other_checks_by s n count long = refuse 16 (not (eqb n s.n) || not (eqb count s.count)) (nat long) ∷ []
+other_checks_by s n count long = refuse VectorLength (not (eqb n s.n) || not (eqb count s.count)) (nat long) ∷ []
 
 -- ---- the start
 abbrev pub fresh_of : KrylovPhiOptions → RunJob → Scale → Float → Float → Bool → PausedRun
@@ -58,10 +58,10 @@ abbrev pub first_of : KrylovPhiOptions → RunJob → Scale → List Float → P
 first_of o j f y = fresh_of o j f (norm2 y) (first_length j.k.m j.k.anorm (o.tol ⊗ norm2 y) (norm2 y)) false
 
 unfoldable pub begun_of : KrylovPhiOptions → RunJob → List Float → List Float → Option Scale → PausedCall StartAnswer
-begun_of o j y memory None = leaves (Started (fresh_of o j (record { down = 1f; up = 1f }) +0 +0 true)) (window 0 j.g.n y) memory y
+begun_of o j y memory None = leaves (Ok (fresh_of o j (record { down = 1f; up = 1f }) +0 +0 true)) (window 0 j.g.n y) memory y
 begun_of o j y memory (Some f) =
     let y₀ = scale f.down y in
-    leaves (Started (first_of o j f y₀)) (window 0 j.g.n (scale f.up y₀)) memory y₀
+    leaves (Ok (first_of o j f y₀)) (window 0 j.g.n (scale f.up y₀)) memory y₀
 
 -- ---- a step
 -- what a substep is made with: the job's operator over the matrix q, and tol times the run's first norm
@@ -75,7 +75,7 @@ state c r y = record { control = c; report = r; y = y }
 unfoldable pub turned : Progress → List Float → Turn State End
 turned (On c r) y = on (state c r y)
 turned (Finished c r) y = out (finished (state c r y))
-turned (Refused k x c r) y = out (refused k x (state c r y))
+turned (Refused e c r) y = out (refused e.reason e.value (state c r y))
 
 unfoldable pub after_of : PausedRun → Float → RunJob → List Float → Turn State End → PausedCall StepAnswer
 after_of s tol j memory o = leaves (verdict s tol o) (window 0 j.g.n (scale s.factors.up (field_after o))) (cleared j.need memory) (field_after o)

@@ -9,8 +9,7 @@ use Rattle.pow2.specs.Pow2.{pow2_scale}
 use Rattle.pow2.specs.declared.Scale.{Scale}
 use Rattle.pow2.specs.declared.Scaling.{Scaling}
 use Rattle.checks.specs.First.{Check, refuse, first}
-use Rattle.checks.specs.declared.Checked.{Checked}
-use Rattle.checks.specs.declared.Checked.TheVariants.{Sound, Refused}
+use Rattle.checks.specs.First.{Checked}
 use Rattle.general_operator.specs.Csr.{row_sum_norm}
 use Rattle.generator_action.specs.Generator.{Generator}
 use Rattle.combination.specs.Combination.{further, eta_of, combination_operator, combination_start}
@@ -22,10 +21,23 @@ use Rattle.krylov_advance.specs.declared.KrylovPhiReport.{KrylovPhiReport}
 use Rattle.krylov_job.specs.KrylovCall.{bound, dimension, krylov_need, krylov_checks, krylov_checks_by, open_krylov_call}
 use Rattle.krylov_job.specs.declared.KrylovPhiOptions.{KrylovPhiOptions}
 use Rattle.paused_run.specs.declared.PausedRun.{PausedRun}
-use Rattle.paused_run.specs.declared.StartAnswer.{StartAnswer}
-use Rattle.paused_run.specs.declared.StartAnswer.TheVariants as start_answer
-use Rattle.paused_run.specs.declared.StepAnswer.{StepAnswer}
-use Rattle.paused_run.specs.declared.StepAnswer.TheVariants.{Refusal, Stepped}
+use Rattle.paused_run.specs.declared.StepRefusal.{StepRefusal}
+use Rattle.checks.specs.Reasons.{refusal}
+use Rattle.checks.specs.declared.Reason.{Reason}
+use Rattle.checks.specs.declared.Reason.TheVariants.{VectorLength, WorkLength, SubstepLimit, RunEnded}
+use Rattle.std.specs.Prelude.{Result, Ok, Err}
+use Rattle.checks.specs.declared.Refusal.{Refusal}
+
+-- a refusal, or the run that was started
+abbrev pub StartAnswer : Type 0
+StartAnswer = Result PausedRun Refusal
+
+-- a refusal with the run that it leaves, or the run after a step
+abbrev pub StepAnswer : Type 0
+StepAnswer = Result PausedRun StepRefusal
+
+abbrev pub StepRefused : Reason → Float → PausedRun → StepAnswer
+StepRefused k x s = Err (record { refusal = refusal k x; run = s })
 
 -- matrix, tau and vectors: what comes at the start, and again at each step
 pub record Job : Type 0 where
@@ -53,7 +65,7 @@ leaves a output memory field = record { answer = a; output = output; memory = me
 
 -- the lent field is not n + d long
 unfoldable pub field_checks : ℕ → ℕ → List Check
-field_checks field wanted = refuse 26 (not (eqb field wanted)) nan ∷ []
+field_checks field wanted = refuse WorkLength (not (eqb field wanted)) nan ∷ []
 
 -- what a substep is made with: the job's operator with the run's eta, and tol times the run's first norm
 unfoldable pub setting_of : Job → Float → Float → Float → ℕ → Setting
@@ -106,15 +118,15 @@ first_run o j f norm = fresh o j f norm (first_length (dimension (rows j) (degre
 
 -- no substep: the output holds the scaled start scaled back, the working memory is cleared, the field holds the scaled start
 unfoldable pub begun : KrylovPhiOptions → Job → List Float → List Float → Option Scale → PausedCall StartAnswer
-begun o j y memory None = leaves (start_answer.Started (idle_run o j)) (window 0 (rows j) y) memory y
+begun o j y memory None = leaves (Ok (idle_run o j)) (window 0 (rows j) y) memory y
 begun o j y memory (Some f) =
     let y₀ = scale f.down y in
-    leaves (start_answer.Started (first_run o j f (norm2 y₀))) (window 0 (rows j) (scale f.up y₀)) memory y₀
+    leaves (Ok (first_run o j f (norm2 y₀))) (window 0 (rows j) (scale f.up y₀)) memory y₀
 
 -- a refused start changes nothing
 unfoldable pub start_unless : Checked → KrylovPhiOptions → Job → List Float → List Float → List Float → PausedCall StartAnswer
-start_unless (Refused k x) o j output memory field = leaves (start_answer.Refusal k x) output memory field
-start_unless Sound o j output memory field = begun o j (first_field j) (cleared (need_of j o.m) memory) (pow2_scale (first_field j))
+start_unless (Err r) o j output memory field = leaves (Err r) output memory field
+start_unless (Ok _) o j output memory field = begun o j (first_field j) (cleared (need_of j o.m) memory) (pow2_scale (first_field j))
 
 unfoldable pub start : KrylovPhiOptions → Job → List Float → List Float → List Float → PausedCall StartAnswer
 start o j output memory field = start_unless (first (start_checks o j (length output) (length memory) (length field))) o j output memory field
@@ -142,13 +154,13 @@ over s = s.ended || (leb s.limit s.report.substeps || (ltb 129000000 s.report.ma
 
 -- another n or count than the start's
 unfoldable pub other_checks : PausedRun → Job → List Check
-other_checks s j = refuse 16 (not (eqb (rows j) s.n) || not (eqb j.count s.count)) (nat (length j.w)) ∷ []
+other_checks s j = refuse VectorLength (not (eqb (rows j) s.n) || not (eqb j.count s.count)) (nat (length j.w)) ∷ []
 
 -- 31 before any other; then a Krylov call's, with the run's eta in 22 and a second 16; then the field's length
 unfoldable pub step_checks : PausedRun → ℕ → Input → List Check
 step_checks s field i =
     let j = i.job in
-    refuse 31 (over s) nan
+    refuse RunEnded (over s) nan
     ∷ (krylov_checks_by j.g j.tau j.count j.w s.eta (length_checks (length i.output) (rows j) (length j.w) (j.count * rows j) ++ other_checks s j)
     (options_in s (tol_in i.tolerance s)) (length i.memory)
     ++ field_checks field (rows j + degree j))
@@ -196,10 +208,10 @@ stopped s =
 -- the answer to a substep: 27 with the limit's last one, unless it ends the run with a result, which divides the estimate by the first norm; 28 and 29
 unfoldable pub verdict : PausedRun → Float → Turn State End → StepAnswer
 verdict s tol (on t) =
-    if ltb t.report.substeps s.limit then Stepped (moved s tol t t.report false)
-    else Refusal 27 t.report.est_error (moved s tol t t.report true)
-verdict s tol (out (finished t)) = Stepped (moved s tol t (relative_report t.report s.norm) true)
-verdict s tol (out (refused k x t)) = Refusal k x (stopped s)
+    if ltb t.report.substeps s.limit then Ok (moved s tol t t.report false)
+    else StepRefused SubstepLimit t.report.est_error (moved s tol t t.report true)
+verdict s tol (out (finished t)) = Ok (moved s tol t (relative_report t.report s.norm) true)
+verdict s tol (out (refused k x t)) = StepRefused k x (stopped s)
 
 -- the field after a substep: the last accepted one
 abbrev pub field_after : Turn State End → List Float
@@ -218,8 +230,8 @@ after_substep s i o =
 
 -- an early refusal leaves the run unchanged
 unfoldable pub step_unless : Checked → PausedRun → List Float → Input → PausedCall StepAnswer
-step_unless (Refused k x) s y i = leaves (Refusal k x s) i.output i.memory y
-step_unless Sound s y i = after_substep s i (substep_of s y i)
+step_unless (Err r) s y i = leaves (StepRefused r.reason r.value s) i.output i.memory y
+step_unless (Ok _) s y i = after_substep s i (substep_of s y i)
 
 unfoldable pub step : PausedRun → List Float → Input → PausedCall StepAnswer
 step s y i = step_unless (first (step_checks s (length y) i)) s y i

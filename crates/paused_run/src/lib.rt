@@ -5,11 +5,10 @@ ghost use Rattle.std.specs.Prelude.{◌≡◌, false, not, ◌||◌, List, ◌+�
 ghost use Rattle.lists.specs.Window.{window};
 ghost use Rattle.vectors.specs.Vectors.{scale};
 ghost use Rattle.checks.specs.First.{first};
-ghost use Rattle.checks.specs.declared.Checked.TheVariants.{Sound};
 ghost use Rattle.paused_run.specs.Paused.{tol_in, options_in, over, moved, stopped, verdict};
 ghost use Rattle.paused_run.specs.Inner.{other_checks_by, fresh_of, state, turned};
 
-use checks::Checked;
+use checks::{Checked, Reason, Refusal};
 use krylov_advance::{Control, KrylovPhiReport, Progress};
 use krylov_job::{KrylovPhiOptions, RunJob};
 use pow2::Scale;
@@ -31,18 +30,11 @@ pub struct PausedRun {
     pub ended: bool,
 }
 
-// A refusal's number and double, or the run that was started.
+// Why a step is refused, and the run that it leaves.
 #[derive(Clone, Copy)]
-pub enum StartAnswer {
-    Refusal(u32, f64),
-    Started(PausedRun),
-}
-
-// The run after a step, and the refusal's number and double where there is one.
-#[derive(Clone, Copy)]
-pub enum StepAnswer {
-    Refusal(u32, f64, PausedRun),
-    Stepped(PausedRun),
+pub struct StepRefusal {
+    pub refusal: Refusal,
+    pub run: PausedRun,
 }
 
 // The first values of the field, scaled back.
@@ -130,9 +122,12 @@ pub fn check_other(run: PausedRun, n: usize, count: usize, long: usize) -> Check
     ensures { result ≡ first (other_checks_by run n count long) }
 {
     if is_other(run, n, count) {
-        return Checked::Refused(16, float::count(long));
+        return Err(Refusal {
+            reason: Reason::VectorLength,
+            value: float::count(long),
+        });
     }
-    Checked::Sound
+    Ok(())
 }
 
 // The run after an accepted substep.
@@ -156,21 +151,30 @@ fn stopped(run: PausedRun) -> PausedRun
     PausedRun { ended: true, ..run }
 }
 
-// The answer to a substep: 27 with the limit's last one, unless it ends the run with a result.
-pub fn verdict(run: PausedRun, tol: f64, o: Progress) -> StepAnswer
+// The answer to a substep: refused with the limit's last one, unless it ends the run with a result.
+pub fn verdict(run: PausedRun, tol: f64, o: Progress) -> Result<PausedRun, StepRefusal>
     ensures { (y : List Float) → result ≡ verdict run tol (turned o y) }
 {
     match o {
         Progress::On(c, r) => {
             if r.substeps < run.limit {
-                return StepAnswer::Stepped(moved(run, tol, c, r, false));
+                return Ok(moved(run, tol, c, r, false));
             }
-            StepAnswer::Refusal(27, r.est_error, moved(run, tol, c, r, true))
+            Err(StepRefusal {
+                refusal: Refusal {
+                    reason: Reason::SubstepLimit,
+                    value: r.est_error,
+                },
+                run: moved(run, tol, c, r, true),
+            })
         }
         Progress::Finished(c, r) => {
             let report = phi_krylov_arnoldi::relative_report(r, run.norm);
-            StepAnswer::Stepped(moved(run, tol, c, report, true))
+            Ok(moved(run, tol, c, report, true))
         }
-        Progress::Refused(number, x, _, _) => StepAnswer::Refusal(number, x, stopped(run)),
+        Progress::Refused(refusal, _, _) => Err(StepRefusal {
+            refusal,
+            run: stopped(run),
+        }),
     }
 }

@@ -6,7 +6,7 @@ ghost use Rattle.lists.specs.Window.{window};
 ghost use Rattle.vectors.specs.Vectors.{scale};
 ghost use Rattle.pow2.specs.Pow2.{pow2_scale};
 ghost use Rattle.checks.specs.First.{Check, first};
-ghost use Rattle.checks.specs.declared.Checked.TheVariants.{Sound};
+ghost use Rattle.checks.specs.Reasons.{Sound};
 ghost use Rattle.general_operator.specs.Csr.{csr};
 ghost use Rattle.generator_action.specs.Mass.{given};
 ghost use Rattle.generator_action.specs.Generator.{forward};
@@ -16,10 +16,10 @@ ghost use Rattle.combination.specs.Call.{cleared};
 ghost use Rattle.paused_run.specs.Paused.{leaves, start, over};
 ghost use Rattle.paused_run.specs.Inner.{job_over, first_of, begun_of};
 
-use checks::Checked;
-use generator_action::{MatrixAnswer, Shape};
+use checks::{Reason, Refusal};
+use generator_action::Shape;
 use krylov_job::{KrylovPhiOptions, RunJob};
-use paused_run::{PausedRun, StartAnswer};
+use paused_run::PausedRun;
 use pow2::Scale;
 
 // A run from a field that is not all zeros, which is scaled by a power of two.
@@ -50,7 +50,7 @@ fn begin(
     out: &mut [f64],
     work: &mut [f64],
     field: &mut [f64],
-) -> StartAnswer
+) -> Result<PausedRun, Refusal>
     requires d_bound { (j.d ≤ 3) × (j.k.m ≤ 128) × (j.need ≤ length work.old) × (j.g.n ≤ length w.now) }
     requires out_len { (length out.old ≡ j.g.n) × (length field.old ≡ j.g.n + j.d) }
     ensures { leaves result out.new work.new field.new ≡ begun_of o j (combination_start j.g.n w.now j.d j.eta.inv) (cleared j.need work.old) (pow2_scale (combination_start j.g.n w.now j.d j.eta.inv)) }
@@ -61,9 +61,9 @@ fn begin(
     let Some(f) = pow2::pow2_scale(field) else {
         vectors::copy_from(out, 0, field, 0, n);
         let one = Scale { down: 1.0, up: 1.0 };
-        return StartAnswer::Started(paused_run::fresh(o, j, one, 0.0, 0.0, true));
+        return Ok(paused_run::fresh(o, j, one, 0.0, 0.0, true));
     };
-    StartAnswer::Started(first_run(o, j, f, out, field))
+    Ok(first_run(o, j, f, out, field))
 }
 
 // A start over a generator that passed its checks.
@@ -76,18 +76,16 @@ pub fn started(
     out: &mut [f64],
     work: &mut [f64],
     field: &mut [f64],
-) -> StartAnswer
+) -> Result<PausedRun, Refusal>
     requires { (g.n ≤ 1000000) × (g.stored ≤ 16777216) }
     ensures { (gs : List Check) (starts cols : List ℕ) (vals mass : List Float) → Sound ≡ first gs → Passed (csr g.n starts cols vals) (given g.with_mass mass) g → leaves result out.new work.new field.new ≡ start o (job_over gs g starts cols vals mass tau count w.now) out.old work.old field.old }
 {
-    let others = Checked::Sound;
-    let j = krylov_job::admit_job(g, tau, count, w, None, o, out.len(), others, work.len());
-    let job = j.checked;
-    let Checked::Sound = job else {
-        return StartAnswer::Refusal(checks::number(job), checks::reported(job));
-    };
+    let j = krylov_job::admit_job(g, tau, count, w, None, o, out.len(), Ok(()), work.len())?;
     if field.len() != j.g.n + j.d {
-        return StartAnswer::Refusal(26, float::not_a_number());
+        return Err(Refusal {
+            reason: Reason::WorkLength,
+            value: float::not_a_number(),
+        });
     }
     begin(o, j, w, out, work, field)
 }
@@ -107,16 +105,10 @@ pub fn start(
     out: &mut [f64],
     work: &mut [f64],
     field: &mut [f64],
-) -> StartAnswer
+) -> Result<PausedRun, Refusal>
     ensures { leaves result out.new work.new field.new ≡ start o (record { g = forward (csr n starts.now cols.now vals.now) (given with_mass mass.now); tau = tau; count = count; w = w.now }) out.old work.old field.old }
 {
-    let matrix = generator_checks::check_generator(n, starts, cols, vals, with_mass, mass);
-    let MatrixAnswer::Norm(norm, _) = matrix else {
-        return StartAnswer::Refusal(
-            generator_action::number(matrix),
-            generator_action::value(matrix),
-        );
-    };
-    let g = generator_action::generator_shape(n, with_mass, vals.len(), norm);
+    let matrix = generator_checks::check_generator(n, starts, cols, vals, with_mass, mass)?;
+    let g = generator_action::generator_shape(n, with_mass, vals.len(), matrix.norm);
     started(g, tau, count, w, o, out, work, field)
 }

@@ -3,7 +3,7 @@
 
 ghost use Rattle.std.specs.Prelude.{◌≡◌, false, List, ◌+◌};
 ghost use Rattle.checks.specs.First.{Check, first};
-ghost use Rattle.checks.specs.declared.Checked.TheVariants.{Sound};
+ghost use Rattle.checks.specs.Reasons.{Sound};
 ghost use Rattle.general_operator.specs.Csr.{csr};
 ghost use Rattle.generator_action.specs.Mass.{given};
 ghost use Rattle.generator_action.specs.Generator.{forward};
@@ -12,10 +12,10 @@ ghost use Rattle.krylov_advance.specs.Run.{substep};
 ghost use Rattle.paused_run.specs.Paused.{leaves, over, step};
 ghost use Rattle.paused_run.specs.Inner.{job_over};
 
-use checks::Checked;
-use generator_action::{MatrixAnswer, Shape};
+use checks::{Reason, Refusal};
+use generator_action::Shape;
 use gram_schmidt::Krylov;
-use paused_run::{PausedRun, StepAnswer};
+use paused_run::{PausedRun, StepRefusal};
 
 // A step over a generator that passed its checks, of a run that 31 does not refuse.
 pub fn stepped(
@@ -32,7 +32,7 @@ pub fn stepped(
     out: &mut [f64],
     work: &mut [f64],
     field: &mut [f64],
-) -> StepAnswer
+) -> Result<PausedRun, StepRefusal>
     requires passed { Passed (csr g.n starts.now cols.now vals.now) (given g.with_mass mass.now) g }
     requires run_value { over run ≡ false }
     ensures { (gs : List Check) → Sound ≡ first gs → leaves result out.new work.new field.new ≡ step run field.old (record { tolerance = tolerance; job = job_over gs g starts.now cols.now vals.now mass.now tau count w.now; output = out.old; memory = work.old }) }
@@ -42,13 +42,25 @@ pub fn stepped(
     let o = paused_run::options_in(run, tol);
     let others = paused_run::check_other(run, n, count, w.len());
     let began = Some(run.eta);
-    let j = krylov_job::admit_job(g, tau, count, w, began, o, out.len(), others, work.len());
-    let job = j.checked;
-    let Checked::Sound = job else {
-        return StepAnswer::Refusal(checks::number(job), checks::reported(job), run);
-    };
+    let j = krylov_job::admit_job(
+        g,
+        tau,
+        count,
+        w,
+        began,
+        o,
+        out.len(),
+        others,
+        work.len(),
+    ).map_err(|refusal| StepRefusal { refusal, run })?;
     if field.len() != n + j.d {
-        return StepAnswer::Refusal(26, float::not_a_number(), run);
+        return Err(StepRefusal {
+            refusal: Refusal {
+                reason: Reason::WorkLength,
+                value: float::not_a_number(),
+            },
+            run,
+        });
     }
     paused_advance::advance(
         run,
@@ -81,21 +93,22 @@ pub fn step(
     out: &mut [f64],
     work: &mut [f64],
     field: &mut [f64],
-) -> StepAnswer
+) -> Result<PausedRun, StepRefusal>
     ensures { leaves result out.new work.new field.new ≡ step run field.old (record { tolerance = tolerance; job = record { g = forward (csr n starts.now cols.now vals.now) (given with_mass mass.now); tau = tau; count = count; w = w.now }; output = out.old; memory = work.old }) }
 {
     if paused_run::over(run) {
-        return StepAnswer::Refusal(31, float::not_a_number(), run);
-    }
-    let matrix = generator_checks::check_generator(n, starts, cols, vals, with_mass, mass);
-    let MatrixAnswer::Norm(norm, _) = matrix else {
-        return StepAnswer::Refusal(
-            generator_action::number(matrix),
-            generator_action::value(matrix),
+        return Err(StepRefusal {
+            refusal: Refusal {
+                reason: Reason::RunEnded,
+                value: float::not_a_number(),
+            },
             run,
-        );
-    };
-    let g = generator_action::generator_shape(n, with_mass, vals.len(), norm);
+        });
+    }
+    let matrix = generator_checks::check_generator(n, starts, cols, vals, with_mass, mass).map_err(
+        |refusal| StepRefusal { refusal, run },
+    )?;
+    let g = generator_action::generator_shape(n, with_mass, vals.len(), matrix.norm);
     stepped(
         run, tolerance, starts, cols, vals, mass, g, tau, count, w, out, work, field,
     )

@@ -3,7 +3,7 @@
 
 ghost use Rattle.std.specs.Prelude.{◌≡◌, List};
 ghost use Rattle.checks.specs.First.{Check, first};
-ghost use Rattle.checks.specs.declared.Checked.TheVariants.{Sound};
+ghost use Rattle.checks.specs.Reasons.{Sound};
 ghost use Rattle.general_operator.specs.Csr.{csr};
 ghost use Rattle.generator_action.specs.Mass.{given};
 ghost use Rattle.generator_action.specs.Generator.{forward};
@@ -12,9 +12,9 @@ ghost use Rattle.combination.specs.Call.{ends};
 ghost use Rattle.taylor_schedule.specs.Inner.{after_checks};
 ghost use Rattle.taylor_job.specs.Calls.{phi_action};
 
-use checks::Checked;
-use generator_action::{MatrixAnswer, Shape};
-use taylor_job::TaylorAnswer;
+use checks::Refusal;
+use generator_action::Shape;
+use taylor_job::TaylorReport;
 
 // The action over a generator that passed its checks.
 pub fn acted(
@@ -29,15 +29,11 @@ pub fn acted(
     v: &[f64],
     out: &mut [f64],
     work: &mut [f64],
-) -> TaylorAnswer
+) -> Result<TaylorReport, Refusal>
     requires { Passed (csr g.n starts.now cols.now vals.now) (given g.with_mass mass.now) g }
     ensures { (gs : List Check) → Sound ≡ first gs → ends result out.new work.new ≡ phi_action (after_checks gs (csr g.n starts.now cols.now vals.now) (given g.with_mass mass.now) g) tau cap k v.now out.old work.old }
 {
-    let j = admission::admit_action(g, tau, cap, k, v, out.len(), g.n, work.len());
-    let checked = j.checked;
-    let Checked::Sound = checked else {
-        return TaylorAnswer::Refusal(checks::number(checked), checks::reported(checked));
-    };
+    let j = admission::admit_action(g, tau, cap, k, v, out.len(), g.n, work.len())?;
     start_vectors::init_aug_vector(g.n, v, k, j.inv, work);
     taylor_job::run_job(starts, cols, vals, mass, v, out, work, j)
 }
@@ -56,16 +52,10 @@ pub fn phi_action(
     v: &[f64],
     out: &mut [f64],
     work: &mut [f64],
-) -> TaylorAnswer
+) -> Result<TaylorReport, Refusal>
     ensures { ends result out.new work.new ≡ phi_action (forward (csr n starts.now cols.now vals.now) (given with_mass mass.now)) tau cap k v.now out.old work.old }
 {
-    let matrix = generator_checks::check_generator(n, starts, cols, vals, with_mass, mass);
-    let MatrixAnswer::Norm(norm, _) = matrix else {
-        return TaylorAnswer::Refusal(
-            generator_action::number(matrix),
-            generator_action::value(matrix),
-        );
-    };
-    let g = generator_action::generator_shape(n, with_mass, vals.len(), norm);
+    let matrix = generator_checks::check_generator(n, starts, cols, vals, with_mass, mass)?;
+    let g = generator_action::generator_shape(n, with_mass, vals.len(), matrix.norm);
     acted(starts, cols, vals, mass, g, tau, cap, k, v, out, work)
 }

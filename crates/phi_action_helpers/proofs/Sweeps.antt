@@ -26,7 +26,7 @@ use Rattle.phi_action_helpers.specs.declared.Scales.{Scales}
 use Rattle.phi_action_helpers.specs.declared.SweepPlan.{SweepPlan}
 use Rattle.phi_action_helpers.specs.Augmented.{Augmented, aug_matvec}
 use Rattle.phi_action_helpers.specs.Sweeps.{shifted, Horner, scales, horner_step, aug_horner_outer, Swept, rescale, sweep}
-use Rattle.phi_action_helpers.specs.Laid.{matrix_at, operator_at, Laid, Ready, Lined, horner_at, swept_at}
+use Rattle.phi_action_helpers.specs.Laid.{matrix_at, operator_at, Laid, ReadyAt, Lined, horner_at, swept_at}
 use Rattle.phi_action_helpers.proofs.Augmented.{length_aug_matvec}
 use Rattle.phi_action_helpers.proofs.Counts.{terms_counted, sweep_counted, sweeps_counted, rescaled_long}
 
@@ -75,7 +75,7 @@ values_kept true q vals w₀ w k = kept_window k q (length vals) (omega arith)
 values_kept false q vals w₀ w k = refl
 
 pub ready_kept : {l : Layout} {b : Coupling} (starts cols : List ℕ) (vals vectors : List Float) {w₀ w : List Float} → Kept 0 l.q +0 w₀ w
-    → Ready l b starts cols vals vectors w₀ → Ready l b starts cols vals vectors w
+    → ReadyAt l b starts cols vals vectors w₀ → ReadyAt l b starts cols vals vectors w
 ready_kept {l} starts cols vals vectors {w₀} {w} k h = rw (values_kept l.mass l.q vals w₀ w k, k.long) h
 
 -- ---- what a run needs, by its parts

@@ -9,6 +9,7 @@ use Rattle.csr_matvec.specs.Values.{values, Stored}
 use Rattle.phi_action_helpers.specs.declared.Layout.{Layout}
 use Rattle.phi_action_helpers.specs.declared.Coupling.{Coupling}
 use Rattle.phi_action_helpers.specs.declared.Scales.{Scales}
+use Rattle.phi_action_helpers.specs.declared.AugmentedOperator.{AugmentedOperator}
 use Rattle.phi_action_helpers.specs.Augmented.{Augmented, augmented, aug_matvec}
 use Rattle.phi_action_helpers.specs.Sweeps.{Horner, Swept}
 
@@ -22,6 +23,13 @@ operator_of l b q vectors = augmented q l.d vectors b.places b.gains b.count
 abbrev pub operator_at : Layout → Coupling → List ℕ → List ℕ → List Float → List Float → List Float → Augmented
 operator_at l b starts cols vals vectors work = operator_of l b (matrix_at l starts cols vals work) vectors
 
+-- the same of the operator's parts as the code hands them on
+abbrev pub matrix_in : AugmentedOperator → List Float → Csr
+matrix_in o work = matrix_at o.l o.starts.now o.cols.now o.vals.now work
+
+abbrev pub operator_in : AugmentedOperator → List Float → Augmented
+operator_in o work = operator_of o.l o.b (matrix_in o work) o.vectors.now
+
 -- what a product needs: the operands lie within the work, w and av apart, av apart from the quotients; of vals, vectors and work the lengths
 pub record Laid (l : Layout) (b : Coupling) (q : Csr) (vals vectors work : ℕ) : Type 0 where
   pub valid : Valid q
@@ -33,8 +41,11 @@ pub record Laid (l : Layout) (b : Coupling) (q : Csr) (vals vectors work : ℕ) 
   pub apart : Disjoint l.w (l.n + l.d) l.av l.n
   pub stored : Stored l.mass l.q vals l.av l.n work
 
-abbrev pub Ready : Layout → Coupling → List ℕ → List ℕ → List Float → List Float → List Float → Type 0
-Ready l b starts cols vals vectors work = Laid l b (matrix_at l starts cols vals work) (length vals) (length vectors) (length work)
+abbrev pub ReadyAt : Layout → Coupling → List ℕ → List ℕ → List Float → List Float → List Float → Type 0
+ReadyAt l b starts cols vals vectors work = Laid l b (matrix_at l starts cols vals work) (length vals) (length vectors) (length work)
+
+abbrev pub Ready : AugmentedOperator → List Float → Type 0
+Ready o work = Laid o.l o.b (matrix_in o work) (length o.vals.now) (length o.vectors.now) (length work)
 
 -- a sweep's memory: the field of n + d values from 0, then the term, then G w, then the quotients
 pub record Lined (l : Layout) : Type 0 where

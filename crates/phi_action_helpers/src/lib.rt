@@ -7,10 +7,11 @@ ghost use Rattle.lists.specs.Loop.{tabulate};
 ghost use Rattle.lists.specs.Window.{window, splice};
 ghost use Rattle.lists.specs.Bounds.{Apart};
 ghost use Rattle.doubles.specs.F64.{◌⊕◌, ◌⊗◌, at};
-ghost use Rattle.general_operator.specs.Csr.{apply_generator};
 ghost use Rattle.phi_action_helpers.specs.Augmented.{scalars, coupled, generator_term, chain_term, bottom, aug_matvec};
 ghost use Rattle.phi_action_helpers.specs.Sweeps.{shifted};
-ghost use Rattle.phi_action_helpers.specs.Laid.{matrix_at, operator_at, Ready, added};
+ghost use Rattle.phi_action_helpers.specs.Laid.{operator_in, Ready, termed, added};
+
+use general_operator::CsrMatrix;
 
 // The schedule: s sweeps of degree m, and the shift mu, 0 for none.
 #[derive(Clone, Copy)]
@@ -48,11 +49,21 @@ pub struct Layout {
     pub mass: bool,
 }
 
-// What the sweeps of a run are made with: the places, the columns, the time and the plan.
+// The operator by its parts: the matrix, the vectors in which its columns lie, where the operands lie, and the columns.
 #[derive(Clone, Copy)]
-pub struct SweepArgs {
+pub struct AugmentedOperator<'a> {
+    pub starts: &'a [u32],
+    pub cols: &'a [u32],
+    pub vals: &'a [f64],
+    pub vectors: &'a [f64],
     pub l: Layout,
     pub b: Coupling,
+}
+
+// What the sweeps of a run are made with: the operator, the time and the plan.
+#[derive(Clone, Copy)]
+pub struct SweepArgs<'a> {
+    pub o: AugmentedOperator<'a>,
     pub tau: f64,
     pub p: SweepPlan,
 }
@@ -102,44 +113,26 @@ fn add_column_in(vectors: &[f64], p: usize, s: f64, work: &mut [f64], w: usize, 
 }
 
 // The columns' shares are added to work[w + i]. Column by column, so that each loop runs along the memory.
-fn columns_in(
-    vectors: &[f64],
-    places: [usize; 3],
-    sc: [f64; 3],
-    count: usize,
-    work: &mut [f64],
-    w: usize,
-    n: usize,
-)
-    requires count_bound { (count ≤ 3) × ((j : ℕ) → j < count → get_or places j 0 + n ≤ length vectors.now) }
-    requires n_in_bounds { w + n ≤ length work.old }
-    ensures { work.new ≡ splice w (tabulate n (λ i. coupled vectors.now places count sc i (at work.old (w + i)))) work.old }
+fn columns_in(o: AugmentedOperator, sc: [f64; 3], work: &mut [f64])
+    requires count_bound { (o.b.count ≤ 3) × ((j : ℕ) → j < o.b.count → get_or o.b.places j 0 + o.l.n ≤ length o.vectors.now) }
+    requires n_in_bounds { o.l.w + o.l.n ≤ length work.old }
+    ensures { work.new ≡ splice o.entry.l.w (tabulate o.entry.l.n (λ i. coupled o.entry.vectors.now o.entry.b.places o.entry.b.count sc i (at work.old (o.entry.l.w + i)))) work.old }
 {
+    let count = o.b.count;
     for j in 0..count {
-        let p = places[j];
-        add_column_in(vectors, p, sc[j], work, w, n);
+        add_column_in(o.vectors, o.b.places[j], sc[j], work, o.l.w, o.l.n);
     }
 }
 
 // work[w + i] becomes row i of the product: work[av + i] is row i of G w.
-fn top_in(
-    vectors: &[f64],
-    places: [usize; 3],
-    sc: [f64; 3],
-    count: usize,
-    k: Scales,
-    work: &mut [f64],
-    w: usize,
-    av: usize,
-    n: usize,
-)
-    requires count_bound { (count ≤ 3) × ((j : ℕ) → j < count → get_or places j 0 + n ≤ length vectors.now) }
-    requires n_in_bounds { (w + n ≤ length work.old) × (av + n ≤ length work.old) }
-    requires apart { Apart w av n }
-    ensures { work.new ≡ splice w (tabulate n (λ i. coupled vectors.now places count sc i (generator_term k (at work.old (av + i)) (at work.old (w + i))))) work.old }
+fn top_in(o: AugmentedOperator, sc: [f64; 3], k: Scales, work: &mut [f64])
+    requires count_bound { (o.b.count ≤ 3) × ((j : ℕ) → j < o.b.count → get_or o.b.places j 0 + o.l.n ≤ length o.vectors.now) }
+    requires n_in_bounds { (o.l.w + o.l.n ≤ length work.old) × (o.l.av + o.l.n ≤ length work.old) }
+    requires apart { Apart o.l.w o.l.av o.l.n }
+    ensures { work.new ≡ splice o.entry.l.w (tabulate o.entry.l.n (λ i. coupled o.entry.vectors.now o.entry.b.places o.entry.b.count sc i (generator_term k (at work.old (o.entry.l.av + i)) (at work.old (o.entry.l.w + i))))) work.old }
 {
-    generator_terms_in(k, work, w, av, n);
-    columns_in(vectors, places, sc, count, work, w, n);
+    generator_terms_in(k, work, o.l.w, o.l.av, o.l.n);
+    columns_in(o, sc, work);
 }
 
 // Value i of the product's chain.
@@ -173,65 +166,46 @@ pub fn chain_in(work: &mut [f64], c: usize, d: usize, k: Scales)
 }
 
 // One product with the operator, in place: `aug_matvec_inplace` of the Rust, and with k.shifted `aug_matvec_shifted`.
-pub fn aug_matvec(
-    starts: &[u32],
-    cols: &[u32],
-    vals: &[f64],
-    vectors: &[f64],
-    work: &mut [f64],
-    l: Layout,
-    b: Coupling,
-    k: Scales,
-)
-    requires { Ready l b starts.now cols.now vals.now vectors.now work.old }
-    ensures { work.new ≡ splice l.w (aug_matvec (operator_at l b starts.now cols.now vals.now vectors.now work.old) k (window l.w (l.n + l.d) work.old)) (splice l.av (apply_generator (matrix_at l starts.now cols.now vals.now work.old) (window l.w l.n work.old)) work.old) }
+pub fn aug_matvec(o: AugmentedOperator, work: &mut [f64], k: Scales)
+    requires { Ready o work.old }
+    ensures { work.new ≡ termed o.entry.l (operator_in o.entry work.old) k work.old }
 {
-    let n = l.n;
+    let l = o.l;
     let d = l.d;
-    let w = l.w;
-    let av = l.av;
-    let chain = w + n;
+    let chain = l.w + l.n;
     let end = chain + d;
-    let places = b.places;
-    let gains = b.gains;
-    let count = b.count;
-    csr_matvec::apply_generator(
-        starts, cols, vals, l.mass, work, l.q, w, av, n, false, k.tau,
-    );
-    let sc = scalars(gains, count, k.one, &work[chain..end]);
-    top_in(vectors, places, sc, count, k, work, w, av, n);
+    let q = CsrMatrix {
+        n: l.n,
+        starts: o.starts,
+        cols: o.cols,
+        vals: o.vals,
+    };
+    csr_matvec::apply_generator(q, l.mass, work, l.q, l.w, l.av, false, k.tau);
+    let sc = scalars(o.b.gains, o.b.count, k.one, &work[chain..end]);
+    top_in(o, sc, k, work);
     chain_in(work, chain, d, k);
 }
 
 // The product of the vector from src, which lies before w, goes to w. There is no shift, and so no G w besides.
-pub fn aug_product(
-    starts: &[u32],
-    cols: &[u32],
-    vals: &[f64],
-    vectors: &[f64],
-    work: &mut [f64],
-    l: Layout,
-    b: Coupling,
-    k: Scales,
-    src: usize,
-)
-    requires ready { Ready l b starts.now cols.now vals.now vectors.now work.old }
-    requires d_bound { (src + (l.n + l.d) ≤ l.w) × (l.w + (l.n + l.d) ≤ l.q) × (k.shifted ≡ false) }
-    ensures { work.new ≡ splice l.w (aug_matvec (operator_at l b starts.now cols.now vals.now vectors.now work.old) k (window src (l.n + l.d) work.old)) work.old }
+pub fn aug_product(o: AugmentedOperator, work: &mut [f64], k: Scales, src: usize)
+    requires ready { Ready o work.old }
+    requires d_bound { (src + (o.l.n + o.l.d) ≤ o.l.w) × (o.l.w + (o.l.n + o.l.d) ≤ o.l.q) × (k.shifted ≡ false) }
+    ensures { work.new ≡ splice o.entry.l.w (aug_matvec (operator_in o.entry work.old) k (window src (o.entry.l.n + o.entry.l.d) work.old)) work.old }
 {
+    let l = o.l;
     let n = l.n;
     let d = l.d;
-    let w = l.w;
-    let chain = w + n;
+    let chain = l.w + n;
     let end = chain + d;
-    let places = b.places;
-    let gains = b.gains;
-    let count = b.count;
-    csr_matvec::apply_generator(
-        starts, cols, vals, l.mass, work, l.q, src, w, n, true, k.tau,
-    );
+    let q = CsrMatrix {
+        n: l.n,
+        starts: o.starts,
+        cols: o.cols,
+        vals: o.vals,
+    };
+    csr_matvec::apply_generator(q, l.mass, work, l.q, src, l.w, true, k.tau);
     vectors::copy_in(work, chain, src + n, d);
-    let sc = scalars(gains, count, k.one, &work[chain..end]);
-    columns_in(vectors, places, sc, count, work, w, n);
+    let sc = scalars(o.b.gains, o.b.count, k.one, &work[chain..end]);
+    columns_in(o, sc, work);
     chain_in(work, chain, d, k);
 }

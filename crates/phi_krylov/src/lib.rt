@@ -3,7 +3,7 @@
 
 ghost use Rattle.std.specs.Prelude.{◌≡◌, List};
 ghost use Rattle.checks.specs.First.{Check, first};
-ghost use Rattle.checks.specs.declared.Checked.TheVariants.{Sound};
+ghost use Rattle.checks.specs.Reasons.{Sound};
 ghost use Rattle.general_operator.specs.Csr.{csr};
 ghost use Rattle.generator_action.specs.Mass.{given};
 ghost use Rattle.generator_action.specs.Generator.{forward};
@@ -12,9 +12,10 @@ ghost use Rattle.combination.specs.Call.{ends};
 ghost use Rattle.taylor_schedule.specs.Inner.{after_checks};
 ghost use Rattle.krylov_job.specs.KrylovCall.{phi_combination_krylov};
 
-use checks::Checked;
-use generator_action::{MatrixAnswer, Shape};
-use krylov_job::{KrylovAnswer, KrylovPhiOptions};
+use checks::Refusal;
+use generator_action::Shape;
+use krylov_advance::KrylovPhiReport;
+use krylov_job::KrylovPhiOptions;
 
 // The combination over a generator that passed its checks.
 pub fn combined(
@@ -29,17 +30,12 @@ pub fn combined(
     o: KrylovPhiOptions,
     out: &mut [f64],
     work: &mut [f64],
-) -> KrylovAnswer
+) -> Result<KrylovPhiReport, Refusal>
     requires { Passed (csr g.n starts.now cols.now vals.now) (given g.with_mass mass.now) g }
     ensures { (gs : List Check) → Sound ≡ first gs → ends result out.new work.new ≡ phi_combination_krylov (after_checks gs (csr g.n starts.now cols.now vals.now) (given g.with_mass mass.now) g) tau count w.now o out.old work.old }
 {
     let n = g.n;
-    let sound = Checked::Sound;
-    let j = krylov_job::admit_job(g, tau, count, w, None, o, out.len(), sound, work.len());
-    let run = j.checked;
-    let Checked::Sound = run else {
-        return KrylovAnswer::Refusal(checks::number(run), checks::reported(run));
-    };
+    let j = krylov_job::admit_job(g, tau, count, w, None, o, out.len(), Ok(()), work.len())?;
     krylov_run::start_in(n, w, j.d, j.eta.inv, work, j.k.y);
     krylov_run::run_job(starts, cols, vals, mass, &w[n..], out, work, j)
 }
@@ -58,16 +54,10 @@ pub fn phi_combination_krylov(
     o: KrylovPhiOptions,
     out: &mut [f64],
     work: &mut [f64],
-) -> KrylovAnswer
+) -> Result<KrylovPhiReport, Refusal>
     ensures { ends result out.new work.new ≡ phi_combination_krylov (forward (csr n starts.now cols.now vals.now) (given with_mass mass.now)) tau count w.now o out.old work.old }
 {
-    let matrix = generator_checks::check_generator(n, starts, cols, vals, with_mass, mass);
-    let MatrixAnswer::Norm(norm, _) = matrix else {
-        return KrylovAnswer::Refusal(
-            generator_action::number(matrix),
-            generator_action::value(matrix),
-        );
-    };
-    let g = generator_action::generator_shape(n, with_mass, vals.len(), norm);
+    let matrix = generator_checks::check_generator(n, starts, cols, vals, with_mass, mass)?;
+    let g = generator_action::generator_shape(n, with_mass, vals.len(), matrix.norm);
     combined(starts, cols, vals, mass, g, tau, count, w, o, out, work)
 }

@@ -5,17 +5,15 @@ ghost use Rattle.std.specs.Prelude.{◌≡◌, ◌+◌, ◌*◌, ◌≤◌, leng
 ghost use Rattle.lists.specs.Walk.{on};
 ghost use Rattle.lists.specs.Frame.{Kept};
 ghost use Rattle.doubles.specs.F64.{+0};
-ghost use Rattle.phi_action_helpers.specs.declared.Coupling.{Coupling};
-ghost use Rattle.phi_action_helpers.specs.declared.Layout.{Layout};
-ghost use Rattle.phi_action_helpers.specs.Laid.{matrix_at};
-ghost use Rattle.gram_schmidt.specs.Memory.{setting_at, Room};
+ghost use Rattle.gram_schmidt.specs.Memory.{setting_in, RoomFor};
 ghost use Rattle.krylov_advance.specs.Run.{first_length, substep, relative_report};
 ghost use Rattle.krylov_advance.specs.declared.KrylovPhiReport.{KrylovPhiReport};
 ghost use Rattle.krylov_advance.specs.Memory.{products, state_at, progress_at};
 
+use checks::{Reason, Refusal};
 use gram_schmidt::{Broken, Full, Krylov};
 use krylov_advance::{Control, KrylovPhiReport, Progress};
-use phi_action_helpers::{Coupling, Layout};
+use phi_action_helpers::AugmentedOperator;
 use trial_steps::Outcome;
 
 // e and 2 pi, of Stirling's formula; the least normal double, below which no norm is divided by; and 2^-52.
@@ -46,36 +44,45 @@ fn products(basis: Result<Full, Broken>) -> usize
     }
 }
 
-// One substep: the basis once, then lengths tried on it; 28 after eleven rejections, 29 without an inner plan.
+// One substep: the basis once, then lengths tried on it; refused after eleven rejections, or without an inner plan.
 pub fn substep(
-    starts: &[u32],
-    cols: &[u32],
-    vals: &[f64],
-    vectors: &[f64],
+    o: AugmentedOperator,
     work: &mut [f64],
-    l: Layout,
-    b: Coupling,
     k: Krylov,
     c: Control,
     r: KrylovPhiReport,
 ) -> Progress
-    requires room { Room l b k (matrix_at l starts.now cols.now vals.now work.old) (length vals.now) (length vectors.now) (length work.old) }
+    requires room { RoomFor o k work.old }
     requires m_bound { (k.m ≤ 128) × (r.matvecs ≤ 1000000000) × (r.substeps ≤ 1000000) × (r.rejected ≤ 1000000000) }
-    ensures work_after { progress_at l k result work.new ≡ substep (setting_at l b k (matrix_at l starts.now cols.now vals.now work.old) vectors.now) (state_at l k c r work.old) }
-    ensures kept { Kept 0 l.q +0 work.old work.new }
+    ensures work_after { progress_at o.entry.l k result work.new ≡ substep (setting_in o.entry k work.old) (state_at o.entry.l k c r work.old) }
+    ensures kept { Kept 0 o.entry.l.q +0 work.old work.new }
 {
-    let basis = arnoldi::arnoldi(starts, cols, vals, vectors, work, l, b, k, c.beta);
+    let basis = arnoldi::arnoldi(o, work, k, c.beta);
     let from = k.h;
     let to = from + (k.m + 2) * (k.m + 2);
     let remaining = 1.0 - c.time;
     let trial = trial_steps::trial_steps(&work[from..to], k, c.beta, c.next, remaining, basis);
     let outcome = trial.outcome;
     match outcome {
-        Outcome::Next(_, _) => Progress::Refused(28, k.tol, c, r),
-        Outcome::NoPlan(arg) => Progress::Refused(29, arg, c, r),
+        Outcome::Next(_, _) => Progress::Refused(
+            Refusal {
+                reason: Reason::LengthsRejected,
+                value: k.tol,
+            },
+            c,
+            r,
+        ),
+        Outcome::NoPlan(arg) => Progress::Refused(
+            Refusal {
+                reason: Reason::NoInnerPlan,
+                value: arg,
+            },
+            c,
+            r,
+        ),
         Outcome::Accepted(s) => krylov_advance::advance(
             work,
-            l,
+            o.l,
             k,
             c,
             r,

@@ -2,11 +2,13 @@
 #![tactic(auto)]
 
 ghost use Rattle.std.specs.Prelude.{◌≡◌};
-ghost use Rattle.general_operator.specs.Csr.{csr, Valid};
+ghost use Rattle.general_operator.specs.Csr.{Valid};
+ghost use Rattle.general_operator.specs.Matrix.{matrix};
 ghost use Rattle.phi_shift.specs.Plan.{plan, argument, shifted_bound, cheaper_shifted, usable, with_shift, sweep_plan};
 
 use csr_shift::Shifted;
 use expmv::Row;
+use general_operator::CsrMatrix;
 use phi_action_helpers::SweepPlan;
 
 // (tau norm + 2) 2
@@ -67,19 +69,11 @@ pub fn with_shift(m_max: u32, tau: f64, row: Row, shift: Option<Shifted>) -> Swe
 }
 
 // None where no row fits the unshifted argument.
-pub fn sweep_plan(
-    m_max: u32,
-    tau: f64,
-    n: usize,
-    starts: &[u32],
-    cols: &[u32],
-    vals: &[f64],
-    norm: f64,
-) -> Option<SweepPlan>
-    requires { Valid (csr n starts.now cols.now vals.now) }
-    ensures { result ≡ sweep_plan m_max tau (csr n starts.now cols.now vals.now) norm }
+pub fn sweep_plan(m_max: u32, tau: f64, q: CsrMatrix, norm: f64) -> Option<SweepPlan>
+    requires { Valid (matrix q) }
+    ensures { result ≡ sweep_plan m_max tau (matrix q.entry) norm }
 {
     let row = expmv::select_s_m(m_max, argument(tau, norm))?;
-    let shift = csr_shift::negated_csr_shift(n, starts, cols, vals, norm);
+    let shift = csr_shift::negated_csr_shift(q, norm);
     Some(with_shift(m_max, tau, row, shift))
 }

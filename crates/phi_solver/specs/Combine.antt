@@ -1,25 +1,28 @@
 -- One combination by the chosen evaluator (phi_krylov.rs, `combine`). Definitions only.
-use Rattle.std.specs.Prelude.{List, ℕ, Float}
+use Rattle.std.specs.Prelude.{List, ℕ, Float, Result, Ok, Err}
+use Rattle.checks.specs.declared.Refusal.{Refusal}
 use Rattle.generator_action.specs.Generator.{Generator}
 use Rattle.combination.specs.Call.{Call, ends}
 use Rattle.taylor_job.specs.Calls.{phi_combination}
-use Rattle.taylor_job.specs.declared.TaylorAnswer.{TaylorAnswer}
-use Rattle.taylor_job.specs.declared.TaylorAnswer.TheVariants as taylor
+use Rattle.taylor_job.specs.Calls.{TaylorAnswer}
 use Rattle.krylov_job.specs.KrylovCall.{phi_combination_krylov}
-use Rattle.krylov_job.specs.declared.KrylovAnswer.{KrylovAnswer}
-use Rattle.krylov_job.specs.declared.KrylovAnswer.TheVariants as krylov
+use Rattle.krylov_job.specs.KrylovCall.{KrylovAnswer}
 use Rattle.phi_solver.specs.declared.PhiSolver.{PhiSolver}
 use Rattle.phi_solver.specs.declared.PhiSolver.TheVariants as solver
-use Rattle.phi_solver.specs.declared.PhiAnswer.{PhiAnswer}
-use Rattle.phi_solver.specs.declared.PhiAnswer.TheVariants.{Refusal, Taylor, Krylov}
+use Rattle.phi_solver.specs.declared.PhiReport.{PhiReport}
+use Rattle.phi_solver.specs.declared.PhiReport.TheVariants.{Taylor, Krylov}
+
+-- a refusal, or the report of the evaluator used
+abbrev pub PhiAnswer : Type 0
+PhiAnswer = Result PhiReport Refusal
 
 unfoldable pub of_taylor : TaylorAnswer → PhiAnswer
-of_taylor (taylor.Refusal k x) = Refusal k x
-of_taylor (taylor.Result r) = Taylor r
+of_taylor (Err r) = Err r
+of_taylor (Ok r) = Ok (Taylor r)
 
 unfoldable pub of_krylov : KrylovAnswer → PhiAnswer
-of_krylov (krylov.Refusal k x) = Refusal k x
-of_krylov (krylov.Result r) = Krylov r
+of_krylov (Err r) = Err r
+of_krylov (Ok r) = Ok (Krylov r)
 
 -- a call with its answer put differently
 unfoldable pub answering : {A B : Type 0} → (A → B) → Call A → Call B

@@ -8,10 +8,11 @@ ghost use Rattle.generator_action.specs.Generator.{forward};
 ghost use Rattle.combination.specs.Call.{ends};
 ghost use Rattle.phi_solver.specs.Combine.{of_taylor, of_krylov, combine};
 
+use checks::Refusal;
 use gram_schmidt::Krylov;
 use krylov_advance::KrylovPhiReport;
-use krylov_job::{KrylovAnswer, KrylovPhiOptions};
-use taylor_job::{TaylorAnswer, TaylorReport};
+use krylov_job::KrylovPhiOptions;
+use taylor_job::TaylorReport;
 
 // Which evaluator a combination uses; Taylor's plan has a highest degree.
 #[derive(Clone, Copy)]
@@ -20,30 +21,23 @@ pub enum PhiSolver {
     Krylov(KrylovPhiOptions),
 }
 
-// A refusal's number and double, or the report of the evaluator used.
+// The report of the evaluator used.
 #[derive(Clone, Copy)]
-pub enum PhiAnswer {
-    Refusal(u32, f64),
+pub enum PhiReport {
     Taylor(TaylorReport),
     Krylov(KrylovPhiReport),
 }
 
-pub fn of_taylor(answer: TaylorAnswer) -> PhiAnswer
+pub fn of_taylor(answer: Result<TaylorReport, Refusal>) -> Result<PhiReport, Refusal>
     ensures { result ≡ of_taylor answer }
 {
-    match answer {
-        TaylorAnswer::Refusal(k, x) => PhiAnswer::Refusal(k, x),
-        TaylorAnswer::Result(report) => PhiAnswer::Taylor(report),
-    }
+    Ok(PhiReport::Taylor(answer?))
 }
 
-pub fn of_krylov(answer: KrylovAnswer) -> PhiAnswer
+pub fn of_krylov(answer: Result<KrylovPhiReport, Refusal>) -> Result<PhiReport, Refusal>
     ensures { result ≡ of_krylov answer }
 {
-    match answer {
-        KrylovAnswer::Refusal(k, x) => PhiAnswer::Refusal(k, x),
-        KrylovAnswer::Result(report) => PhiAnswer::Krylov(report),
-    }
+    Ok(PhiReport::Krylov(answer?))
 }
 
 // One combination by the chosen evaluator.
@@ -60,7 +54,7 @@ pub fn combine(
     w: &[f64],
     out: &mut [f64],
     work: &mut [f64],
-) -> PhiAnswer
+) -> Result<PhiReport, Refusal>
     ensures { ends result out.new work.new ≡ combine solver (forward (csr n starts.now cols.now vals.now) (given with_mass mass.now)) tau count w.now out.old work.old }
 {
     match solver {

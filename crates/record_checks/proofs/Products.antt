@@ -2,7 +2,7 @@
 use mathlib.Core.Path.{◌≡◌, refl, sym, ap, ◌∙◌}
 use mathlib.Core.Bool.{Bool, true, false, not}
 use mathlib.Core.List.{List, [], ◌∷◌, ◌++◌}
-use Prim.Native.Nat.{ℕ, ◌≤◌, ◌<◌}
+use Prim.Native.Nat.{ℕ, ◌<◌}
 use native.Mathlib.Omega.{arith}
 use native.Mathlib.Nat.{zero-mul}
 use lib.ListN.{length}
@@ -19,12 +19,13 @@ use Rattle.vectors.specs.Vectors.{scale}
 use Rattle.vectors.proofs.Laws.{length_scale, scale_at}
 use Rattle.pow2.specs.Pow2.{sup}
 use Rattle.checks.specs.First.{first}
-use Rattle.checks.specs.declared.Checked.TheVariants.{Sound, Refused}
 use Rattle.checks.proofs.First.{passes_none, stops_position, ends_sound}
 use Rattle.combination.specs.Combination.{vector, gain, weighed, magnitude}
 use Rattle.combination.specs.Checks.{not_finite_at, finite_checks}
 use Rattle.weighted_columns.specs.Inner.{powers_of}
 use Rattle.combination.proofs.Further.{finite_behind}
+use Rattle.checks.specs.Reasons.{Sound, Refused}
+use Rattle.checks.specs.declared.Reason.TheVariants.{VectorNotFinite}
 
 -- ---- 17
 module _ (load : List Float) (level : Float) where
@@ -35,15 +36,15 @@ module _ (load : List Float) (level : Float) where
   unfolding not_finite_at
   same k l = ap (λ (x : Float). not (is_finite x)) (scale_at level load k l)
 
-  pub product_bad : {i : ℕ} → (i < length load) × (bad i ≡ true) × NoneBelow bad i → Refused 17 (at load i ⊗ level) ≡ first (finite_checks (scale level load))
+  pub product_bad : {i : ℕ} → (i < length load) × (bad i ≡ true) × NoneBelow bad i → Refused VectorNotFinite (at load i ⊗ level) ≡ first (finite_checks (scale level load))
   unfolding finite_checks
   product_bad {i} h =
-      ap (Refused 17) (sym (scale_at level load i h.0))
-      ∙ stops_position 17 (scale level load) [] (not_finite_at (scale level load)) (length (scale level load)) (omega (arith, length_scale level load), same i h.0 ∙ h.1, λ k l. same k (omega arith) ∙ h.2 k l)
+      ap (Refused VectorNotFinite) (sym (scale_at level load i h.0))
+      ∙ stops_position VectorNotFinite (scale level load) [] (not_finite_at (scale level load)) (length (scale level load)) (omega (arith, length_scale level load), same i h.0 ∙ h.1, λ k l. same k (omega arith) ∙ h.2 k l)
 
   pub products_finite : NoneBelow bad (length load) → Sound ≡ first (finite_checks (scale level load))
   unfolding finite_checks
-  products_finite h = passes_none 17 _ [] (not_finite_at (scale level load)) (length (scale level load)) (λ k l. let j : k < length load = omega (arith, length_scale level load) in same k j ∙ h k j) ends_sound
+  products_finite h = passes_none VectorNotFinite _ [] (not_finite_at (scale level load)) (length (scale level load)) (λ k l. let j : k < length load = omega (arith, length_scale level load) in same k j ∙ h k j) ends_sound
 
   pub products_sup : fold (λ m x. max_num m (abs (x ⊗ level))) +0 load ≡ sup (scale level load)
   unfolding sup

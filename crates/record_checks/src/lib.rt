@@ -5,15 +5,16 @@ ghost use Rattle.std.specs.Prelude.{◌≡◌, not, ◌+◌, ◌-◌, ◌≤◌,
 ghost use Rattle.lists.specs.Positions.{IsPosition};
 ghost use Rattle.doubles.specs.F64.{◌⊗◌, +0, at, abs, max_num, is_finite};
 ghost use Rattle.vectors.specs.Vectors.{scale};
-ghost use Rattle.checks.specs.First.{first};
+ghost use Rattle.checks.specs.First.{first, or_first};
 ghost use Rattle.combination.specs.Checks.{finite_checks};
 ghost use Rattle.weighted_columns.specs.Inner.{powers_of};
-ghost use Rattle.ambient_checks.specs.Inner.{places, field_of, early_checks, record_job};
+ghost use Rattle.ambient_checks.specs.Inner.{early_checks, record_job, record_refusals};
+ghost use Rattle.combination.specs.Combination.{field_of};
 
-use checks::Checked;
+use checks::{Checked, Reason, Refusal};
 use generator_action::Shape;
 use taylor_schedule::Job;
-use weighted_columns::Powers;
+use weighted_columns::{Powers, Weights};
 
 // The first place at which load x level is not finite.
 fn first_bad_product(load: &[f64], level: f64) -> Option<usize>
@@ -27,9 +28,12 @@ fn check_products(load: &[f64], level: f64) -> Checked
     ensures { result ≡ first (finite_checks (scale level load.now)) }
 {
     if let Some(i) = first_bad_product(load, level) {
-        return Checked::Refused(17, load[i] * level);
+        return Err(Refusal {
+            reason: Reason::VectorNotFinite,
+            value: load[i] * level,
+        });
     }
-    Checked::Sound
+    Ok(())
 }
 
 // The largest magnitude of load x level.
@@ -58,7 +62,7 @@ fn powers_of_products(n: usize, load: &[f64], level: f64, duration: f64) -> Powe
     }
 }
 
-// 14, and 17 of the field, which is the first one or the output's, then of load x level.
+// 14, and 17 of the field, then of load x level.
 pub fn check_record(
     duration: f64,
     level: f64,
@@ -69,26 +73,25 @@ pub fn check_record(
 ) -> Checked
     ensures { result ≡ first (early_checks duration level (field_of initial field.now out.now) load.now) }
 {
-    let time = combination::check_plan(duration, expmv::M_MAX);
-    let products = check_products(load, level);
-    if initial {
-        let first = combination::and_then(vector_checks::check_finite(field), products);
-        return combination::and_then(time, first);
-    }
-    let later = combination::and_then(vector_checks::check_finite(out), products);
-    combination::and_then(time, later)
+    combination::check_plan(duration, expmv::M_MAX)?;
+    vector_checks::check_finite(vector_checks::field_of(initial, field, out))?;
+    check_products(load, level)
 }
 
 // 21, 22 and 24 to 26 of a record. A record needs n doubles more than its combination.
-pub fn admit_record(g: Shape, duration: f64, level: f64, load: &[f64], memory: usize) -> Job
+pub fn admit_record(
+    g: Shape,
+    duration: f64,
+    level: f64,
+    load: &[f64],
+    memory: usize,
+) -> Result<Job, Refusal>
     requires { (length load.now ≡ g.n) × (g.n ≤ 1000000) × (g.stored ≤ 16777216) }
-    ensures { result ≡ record_job g duration level load.now memory }
+    ensures { result ≡ or_first (record_refusals g duration level load.now memory) (record_job g duration level load.now) }
 {
     let p = powers_of_products(g.n, load, level, duration);
     let eta = pow2::eta_scaling(p.sum);
-    let weights = weighted_columns::weigh_by(g.n, 1, p, eta);
-    let checked = weights.checked;
-    let b = weights.b;
+    let Weights { inv, b } = weighted_columns::weigh_by(g.n, 1, p, eta)?;
     let lent = memory.saturating_sub(g.n);
-    taylor_schedule::plan_job(checked, g, duration, expmv::M_MAX, 1, weights.inv, b, lent)
+    taylor_schedule::plan_job(g, duration, expmv::M_MAX, 1, inv, b, lent)
 }

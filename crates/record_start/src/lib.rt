@@ -6,7 +6,7 @@ ghost use Rattle.lists.specs.Window.{splice};
 ghost use Rattle.vectors.specs.Vectors.{scale};
 ghost use Rattle.checks.specs.First.{first};
 ghost use Rattle.combination.specs.Combination.{combination_start};
-ghost use Rattle.ambient_checks.specs.Inner.{field_of};
+ghost use Rattle.combination.specs.Combination.{field_of};
 
 // The first field of a record's run, at the front of the lent memory.
 pub fn start_record(initial: bool, field: &[f64], out: &[f64], n: usize, inv: f64, work: &mut [f64])

@@ -2,7 +2,7 @@
 // and describes its form. Before a call the double and the counts are 90, and so is every byte of output and working memory.
 #![tactic(auto)]
 
-ghost use Rattle.std.specs.Prelude.{◌≡◌, true, ◌&&◌, cond, ◌-◌, length, leb, ltb, IsTrue, ◌↔◌};
+ghost use Rattle.std.specs.Prelude.{◌≡◌, ◌&&◌, cond, ◌-◌, length, leb, ltb, IsTrue, ◌↔◌};
 ghost use Rattle.lists.specs.Loop.{tabulate};
 
 use le_bytes::{double_at, half_at};
@@ -373,7 +373,7 @@ fn read_record<'a, R: Read>(input: &mut R, room: &'a mut [u8]) -> Option<Record<
     let mut head = [0u8; 184];
     input.read_exact(&mut head).ok()?;
     let mut words = [0usize; 23];
-    le_bytes::unpack_words(&head, &mut words);
+    le_bytes::unpack(&head, &mut words);
     let body = room.get_mut(..words[13])?;
     input.read_exact(body).ok()?;
     record_of(&head, words, body)
@@ -398,6 +398,7 @@ fn replay_section<R: Read>(rt: &impl Print, input: &mut R, section: Section) -> 
     let replayed = read_count(input).unwrap_or(0);
     let mut different = 0u32;
     let mut first = None;
+    // k is the record's number, and what is read is no iterator
     for k in 0..replayed {
         if !replay_next(input, section) {
             different += 1;

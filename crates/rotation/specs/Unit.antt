@@ -6,13 +6,12 @@ use Rattle.lists.specs.Loop.{tabulate}
 use Rattle.doubles.specs.F64.{+0, 1f}
 use Rattle.krylov_advance.specs.Run.{empty_report}
 use Rattle.krylov_job.specs.declared.KrylovPhiOptions.{KrylovPhiOptions}
-use Rattle.paused_run.specs.Paused.{Job, Input, PausedCall, leaves, start, step}
+use Rattle.paused_run.specs.Paused.{Job, Input, PausedCall, leaves, StartAnswer, start, StepAnswer, StepRefused, step}
 use Rattle.paused_run.specs.declared.PausedRun.{PausedRun}
-use Rattle.paused_run.specs.declared.StartAnswer.{StartAnswer}
-use Rattle.paused_run.specs.declared.StartAnswer.TheVariants as start_answer
-use Rattle.paused_run.specs.declared.StepAnswer.{StepAnswer}
-use Rattle.paused_run.specs.declared.StepAnswer.TheVariants.{Refusal, Stepped}
 use Rattle.rotation.specs.declared.Rotation.{Rotation}
+use Rattle.checks.specs.Reasons.{Refused}
+use Rattle.std.specs.Prelude.{Ok, Err}
+use Rattle.checks.specs.declared.Reason.TheVariants.{RunEnded, UnitFull}
 
 -- ---- the unit: the runs by place, and a queue of places that ends at the first number above 15
 -- a place that was never taken: a run that has ended
@@ -104,20 +103,20 @@ admitted_by false false u s c full = unit_call u 16 full
 
 -- 'It refuses with 32, after all checks of the job itself, a seventeenth unfinished run': a refused start is refused as it is
 unfoldable pub admitted : Rotation → StartAnswer → PausedCall StartAnswer → PausedCall StartAnswer → UnitCall StartAnswer
-admitted u (start_answer.Refusal k x) c full = unit_call u 16 c
-admitted u (start_answer.Started s) c full = admitted_by s.ended (room u) u s c full
+admitted u (Err r) c full = unit_call u 16 c
+admitted u (Ok s) c full = admitted_by s.ended (room u) u s c full
 
 -- c: as the start leaves output, working memory and field; full: nothing is changed
 unfoldable pub join : Rotation → KrylovPhiOptions → Job → List Float → List Float → List Float → UnitCall StartAnswer
 join u o j output memory field =
     let c = start o j output memory field in
-    admitted u c.answer c (leaves (start_answer.Refusal 32 nan) output memory field)
+    admitted u c.answer c (leaves (Refused UnitFull nan) output memory field)
 
 -- ---- a turn
 -- the run that a step hands back: after an early refusal the run as it was
 abbrev pub run_left : StepAnswer → PausedRun
-run_left (Refusal k x s) = s
-run_left (Stepped s) = s
+run_left (Err r) = r.run
+run_left (Ok s) = s
 
 -- 'an ended run leaves'; any other goes to the end: 'A turn refused early counts and passes on'
 abbrev pub back : ℕ → Bool → List ℕ
@@ -129,7 +128,7 @@ passed_on u p l s = record { places = set u.places p s; queue = queue_of (l ++ b
 
 -- the run whose turn it is makes one step on the field y; 'if no run waits; a turn is then refused with 31', and nothing is changed
 unfoldable pub turn_of : List ℕ → Rotation → List Float → Input → UnitCall StepAnswer
-turn_of [] u y i = unit_call u 16 (leaves (Refusal 31 nan vacant) i.output i.memory y)
+turn_of [] u y i = unit_call u 16 (leaves (StepRefused RunEnded nan vacant) i.output i.memory y)
 turn_of (p ∷ l) u y i =
     let c = step (run_at u p) y i in
     unit_call (passed_on u p l (run_left c.answer)) p c

@@ -12,11 +12,10 @@ use borrow.Author.Tests.{eqb-true, eqb-false, ne_eqb, lt-ltb, le-ltb}
 use Rattle.lists.proofs.Bounds.{lt_or_le}
 use Rattle.lists.proofs.Find.{found_at, found_none, find_before, find_holds}
 use Rattle.checks.specs.First.{before}
+use Rattle.checks.proofs.First.{same_reason, same_double}
 use Rattle.checks.proofs.Numbers.{not_by}
-use Rattle.paused_run.specs.Paused.{PausedCall, leaves}
+use Rattle.paused_run.specs.Paused.{PausedCall, leaves, StartAnswer}
 use Rattle.paused_run.specs.declared.PausedRun.{PausedRun}
-use Rattle.paused_run.specs.declared.StartAnswer.{StartAnswer}
-use Rattle.paused_run.specs.declared.StartAnswer.TheVariants.{Refusal, Started}
 use Rattle.rotation.specs.Unit.{run_at, waiting, UnitCall, unit_call, lowest_free, room, seated, admitted_by, admitted, join}
 use Rattle.rotation.specs.declared.Rotation.{Rotation}
 use Rattle.demand_3.specs.Krylov.{Zeros}
@@ -29,17 +28,21 @@ use Rattle.rotation_claims.proofs.Queue.{Places, times_here, times_other, times_
 use Rattle.rotation_claims.proofs.Cases.{join_cases, place_is, was_free, waits_last}
 use Rattle.rotation_claims.proofs.Orderly.{Orderly, not_in, at_most, is_free, goes, orderly}
 use Rattle.rotation_claims.proofs.Numbers.{none_32}
+use Rattle.checks.specs.Reasons.{number, Refused}
+use Rattle.std.specs.Prelude.{Ok, Err}
+use Rattle.checks.specs.declared.Reason.TheVariants.{UnitFull}
+use Rattle.checks.specs.declared.Reason.{Reason}
 
 -- ---- any unit
-not_started : {k : ℕ} {x : Float} {s : PausedRun} → Started s ≡ Refusal k x → ⊥
+not_started : {k : Reason} {x : Float} {s : PausedRun} → Ok s ≡ Refused {A = PausedRun} k x → ⊥
 not_started e = let z : zero ≡ 1 = cc in absurd (omega (arith, z))
 
-pub same_refused : {k l : ℕ} {x y : Float} → Refusal k x ≡ Refusal l y → (k ≡ l) × (x ≡ y)
-same_refused e = (cc, cc)
+pub same_refused : {k l : Reason} {x y : Float} → Refused {A = PausedRun} k x ≡ Refused {A = PausedRun} l y → (k ≡ l) × (x ≡ y)
+same_refused e = (same_reason e, same_double e)
 
 module _ (u : Rotation) (c : Coming) where
   abbrev full : PausedCall StartAnswer
-  full = leaves (Refusal 32 nan) c.output c.memory c.field
+  full = leaves (Refused UnitFull nan) c.output c.memory c.field
 
   -- by the start's answer
   abbrev answered : StartAnswer → UnitCall StartAnswer
@@ -49,28 +52,28 @@ module _ (u : Rotation) (c : Coming) where
   unfolding join
   join_is e = ap answered e
 
-  ended_by : (s : PausedRun) → s.ended ≡ true → answered (Started s) ≡ unit_call u 16 (start_of c)
+  ended_by : (s : PausedRun) → s.ended ≡ true → answered (Ok s) ≡ unit_call u 16 (start_of c)
   unfolding admitted
   ended_by s e = ap (λ (d : Bool). admitted_by d (room u) u s (start_of c) full) e
 
-  pub seat_by : (s : PausedRun) (b : Bool) → s.ended ≡ false → room u ≡ b → answered (Started s) ≡ admitted_by false b u s (start_of c) full
+  pub seat_by : (s : PausedRun) (b : Bool) → s.ended ≡ false → room u ≡ b → answered (Ok s) ≡ admitted_by false b u s (start_of c) full
   unfolding admitted
   seat_by s b e eb = ap (λ (d : Bool). admitted_by d (room u) u s (start_of c) full) e ∙ ap (λ (x : Bool). admitted_by false x u s (start_of c) full) eb
 
   -- a run that passes and is not all zeros goes on
-  pub started_on : Unfinished c → (s : PausedRun) × ((start_of c).answer ≡ Started s) × (s.ended ≡ false)
+  pub started_on : Unfinished c → (s : PausedRun) × ((start_of c).answer ≡ Ok s) × (s.ended ≡ false)
   started_on h =
       let claim = the_start c.o c.j c.output c.memory c.field in
       let s = claim.if_accepted h.0.0 h.0.1 in
       (s.0, s.1, (claim.ready s.1 h.1).ended)
 
   -- and only such a run
-  pub goes_unfinished : {s : PausedRun} → (start_of c).answer ≡ Started s → s.ended ≡ false → Unfinished c
+  pub goes_unfinished : {s : PausedRun} → (start_of c).answer ≡ Ok s → s.ended ≡ false → Unfinished c
   goes_unfinished e on =
       let claim = the_start c.o c.j c.output c.memory c.field in
       (claim.only_accepted e, λ z. true≢false (sym (claim.idle e z).ended ∙ on))
 
-  refused : (k : ℕ) (x : Float) → Refuses c.o c.j c.output c.memory c.field k x → join_to u c ≡ unit_call u 16 (leaves (Refusal k x) c.output c.memory c.field)
+  refused : (k : Reason) (x : Float) → Refuses c.o c.j c.output c.memory c.field k x → join_to u c ≡ unit_call u 16 (leaves (Refused k x) c.output c.memory c.field)
   unfolding admitted
   refused k x h =
       let e = (the_start c.o c.j c.output c.memory c.field).if_refused k x h in
@@ -92,8 +95,8 @@ module _ (u : Rotation) (c : Coming) where
       by s false false = inr refl
 
       go : (a : StartAnswer) → ((answered a).call ≡ start_of c) ⊎ (answered a ≡ refused_32 u c)
-      go (Refusal k x) = inl refl
-      go (Started s) = by s s.ended (room u)
+      go (Err r) = inl refl
+      go (Ok s) = by s s.ended (room u)
 
   pub any_unit : AnyUnit u c
   any_unit = record { refused = refused; idle = idle; else_32 = else_32 }
@@ -198,17 +201,17 @@ module _ (h : List Act) (c : Coming) where
       join_is u c s.1 ∙ seat_by u c s.0 false s.2 (no_room_if o (omega (arith, none_free o all)))
 
   -- 32 of the start itself is of a generator that has a check of that number
-  not_32 : before 32 c.j.g.checks ≡ c.j.g.checks → {x : Float} → (start_of c).answer ≡ Refusal 32 x → ⊥
-  not_32 g {x} e = elim ((the_start c.o c.j c.output c.memory c.field).only_refused 32 x e) [
-    | inl r ↦ not_by 32 _ (none_32 c.o c.j (length c.output) (length c.memory) g) r
-    | inr r ↦ (let z = r.2 in absurd (omega (arith, z)))
+  not_32 : before UnitFull c.j.g.checks ≡ c.j.g.checks → {x : Float} → (start_of c).answer ≡ Refused UnitFull x → ⊥
+  not_32 g {x} e = elim ((the_start c.o c.j c.output c.memory c.field).only_refused UnitFull x e) [
+    | inl r ↦ not_by UnitFull _ (none_32 c.o c.j (length c.output) (length c.memory) g) r
+    | inr r ↦ (let z = ap number r.2 in absurd (omega (arith, z)))
   ]
 
-  only_32 : before 32 c.j.g.checks ≡ c.j.g.checks → (x : Float) → (join_to u c).call.answer ≡ Refusal 32 x → Unfinished c × Full h
+  only_32 : before UnitFull c.j.g.checks ≡ c.j.g.checks → (x : Float) → (join_to u c).call.answer ≡ Refused UnitFull x → Unfinished c × Full h
   unfolding join admitted
   only_32 g x e = go (start_of c).answer refl e
     where
-      by : (s : PausedRun) → (start_of c).answer ≡ Started s → (d b : Bool) → s.ended ≡ d → room u ≡ b → (admitted_by d b u s (start_of c) (full u c)).call.answer ≡ Refusal 32 x → Unfinished c × Full h
+      by : (s : PausedRun) → (start_of c).answer ≡ Ok s → (d b : Bool) → s.ended ≡ d → room u ≡ b → (admitted_by d b u s (start_of c) (full u c)).call.answer ≡ Refused UnitFull x → Unfinished c × Full h
       by s es true b ed eb r = absurd (not_started (sym es ∙ r))
       by s es false true ed eb r = absurd (not_started (sym es ∙ r))
       by s es false false ed eb r = (
@@ -219,9 +222,9 @@ module _ (h : List Act) (c : Coming) where
         ],
       )
 
-      go : (a : StartAnswer) → (start_of c).answer ≡ a → (admitted u a (start_of c) (full u c)).call.answer ≡ Refusal 32 x → Unfinished c × Full h
-      go (Refusal k y) ea r = absurd (not_32 g r)
-      go (Started s) ea r = by s ea s.ended (room u) refl refl r
+      go : (a : StartAnswer) → (start_of c).answer ≡ a → (admitted u a (start_of c) (full u c)).call.answer ≡ Refused UnitFull x → Unfinished c × Full h
+      go (Err e) ea r = absurd (not_32 g r)
+      go (Ok s) ea r = by s ea s.ended (room u) refl refl r
 
   only_lowest : (join_to u c).place < 16 → Unfinished c × Lowest h (join_to u c).place
   only_lowest l = elim (join_cases u c.o c.j c.output c.memory c.field) [

@@ -10,24 +10,23 @@ use lib.Seq.{get_or-set_same, get_or-set_other}
 use lib.Ieee.{Float, nan}
 use Rattle.lists.proofs.Find.{find_holds}
 use Rattle.krylov_job.specs.declared.KrylovPhiOptions.{KrylovPhiOptions}
-use Rattle.paused_run.specs.Paused.{Job, Input, PausedCall, leaves, start, step}
+use Rattle.paused_run.specs.Paused.{Job, Input, PausedCall, leaves, StartAnswer, start, StepAnswer, StepRefused, step}
 use Rattle.paused_run.specs.declared.PausedRun.{PausedRun}
-use Rattle.paused_run.specs.declared.StartAnswer.{StartAnswer}
-use Rattle.paused_run.specs.declared.StartAnswer.TheVariants.{Refusal, Started}
-use Rattle.paused_run.specs.declared.StepAnswer.{StepAnswer}
-use Rattle.paused_run.specs.declared.StepAnswer.TheVariants as step_answer
 use Rattle.rotation.specs.Unit.{vacant, unread, run_at, waiting, UnitCall, unit_call, lowest_free, room, seated, admitted_by, admitted, join, run_left, back, passed_on, turn_of, turn}
 use Rattle.rotation.specs.declared.Rotation.{Rotation}
 use Rattle.rotation.proofs.Queue.{length_waiting, has_room}
 use Rattle.paused_claims.specs.History.{run_in}
 use Rattle.rotation_claims.specs.History.{goes_on}
 use Rattle.rotation_claims.proofs.Queue.{Places, places_append, waiting_places, waiting_few, waiting_of}
+use Rattle.checks.specs.Reasons.{Refused}
+use Rattle.std.specs.Prelude.{Ok, Err}
+use Rattle.checks.specs.declared.Reason.TheVariants.{RunEnded, UnitFull}
 
 -- ---- a join: the run takes the lowest free place, or the unit is as it was
 pub record Seated (u : Rotation) (c : PausedCall StartAnswer) (r : UnitCall StartAnswer) : Type 0 where
   pub s : PausedRun
   pub room : room u ≡ true
-  pub started : c.answer ≡ Started s
+  pub started : c.answer ≡ Ok s
   pub on : s.ended ≡ false
   pub is : r ≡ unit_call (seated u s) (lowest_free u) c
 
@@ -38,8 +37,8 @@ pub record Unseated (u : Rotation) (r : UnitCall StartAnswer) : Type 0 where
 
 join_by : (u : Rotation) (a : StartAnswer) (c full : PausedCall StartAnswer) → c.answer ≡ a → goes_on full.answer ≡ false → Seated u c (admitted u a c full) ⊎ Unseated u (admitted u a c full)
 unfolding admitted
-join_by u (Refusal k x) c full e f = inr (record { unit = refl; place = refl; over = ap goes_on e })
-join_by u (Started s) c full e f = go s.ended (room u) refl refl
+join_by u (Err r) c full e f = inr (record { unit = refl; place = refl; over = ap goes_on e })
+join_by u (Ok s) c full e f = go s.ended (room u) refl refl
   where
     go : (d b : Bool) → s.ended ≡ d → room u ≡ b → Seated u c (admitted_by d b u s c full) ⊎ Unseated u (admitted_by d b u s c full)
     go true b ed eb = inr (record { unit = refl; place = refl; over = ap goes_on e ∙ ap not ed })
@@ -49,7 +48,7 @@ join_by u (Started s) c full e f = go s.ended (room u) refl refl
 module _ (u : Rotation) (o : KrylovPhiOptions) (j : Job) (output memory field : List Float) where
   pub join_cases : Seated u (start o j output memory field) (join u o j output memory field) ⊎ Unseated u (join u o j output memory field)
   unfolding join
-  join_cases = join_by u (start o j output memory field).answer (start o j output memory field) (leaves (Refusal 32 nan) output memory field) refl refl
+  join_cases = join_by u (start o j output memory field).answer (start o j output memory field) (leaves (Refused UnitFull nan) output memory field) refl refl
 
 -- ---- room
 module _ (u : Rotation) (e : room u ≡ true) where
@@ -78,7 +77,7 @@ pub record Served (u : Rotation) (y : List Float) (i : Input) (r : UnitCall Step
 
 pub record Unserved (u : Rotation) (y : List Float) (i : Input) (r : UnitCall StepAnswer) : Type 0 where
   pub waits : waiting u ≡ []
-  pub is : r ≡ unit_call u 16 (leaves (step_answer.Refusal 31 nan vacant) i.output i.memory y)
+  pub is : r ≡ unit_call u 16 (leaves (StepRefused RunEnded nan vacant) i.output i.memory y)
 
 pub turn_cases : (u : Rotation) (y : List Float) (i : Input) → Served u y i (turn u y i) ⊎ Unserved u y i (turn u y i)
 unfolding turn turn_of
@@ -89,8 +88,8 @@ turn_cases u y i = go (waiting u) refl
     go (p ∷ l) e = inl (record { p = p; others = l; waits = e; is = ap (λ (l : List ℕ). turn_of l u y i) e })
 
 pub same_run : (a : StepAnswer) → run_left a ≡ run_in a
-same_run (step_answer.Refusal k x s) = refl
-same_run (step_answer.Stepped s) = refl
+same_run (Err r) = refl
+same_run (Ok s) = refl
 
 back_few : (p : ℕ) (b : Bool) → length (back p b) ≤ 1
 back_few p true = omega arith

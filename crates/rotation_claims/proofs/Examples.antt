@@ -14,11 +14,12 @@ use Rattle.general_operator.specs.Csr.{csr}
 use Rattle.generator_action.specs.Generator.{forward}
 use Rattle.krylov_job.specs.declared.KrylovPhiOptions.{KrylovPhiOptions}
 use Rattle.paused_run.specs.Paused.{Job, open_paused}
-use Rattle.paused_run.specs.declared.StartAnswer.TheVariants as start_answer
 use Rattle.rotation.specs.Unit.{empty, waiting, queue_of, next_place, lowest_free, room, admitted, join, turn_of, turn}
 use Rattle.paused_claims.specs.Alike.{number_in}
 use Rattle.rotation_claims.specs.History.{Act, joins, takes_turn, Event, joined, turned, unit_after, event_of, unit_from, events_from, unfinished_from, unfinished}
 use Rattle.rotation_claims.specs.Order.{place_in}
+use Rattle.checks.specs.Reasons.{number}
+use Rattle.std.specs.Prelude.{Ok, Err}
 
 -- 1e-10
 abbrev tenth : Float
@@ -45,7 +46,7 @@ acts = comes 3 1f ∷ comes 2 1f ∷ comes 2 +0 ∷ serves 3 3 ∷ serves 3 2 �
 
 -- 0, or the refusal's number
 abbrev number_of : Event → ℕ
-number_of (joined o j q c) = elim c.answer [ start_answer.Refusal k x ↦ k | start_answer.Started s ↦ 0 ]
+number_of (joined o j q c) = elim c.answer [ Err r ↦ number r.reason | Ok s ↦ 0 ]
 number_of (turned i y q c) = number_in c.answer
 
 places : map place_in (events_from empty acts) ≡ 0 ∷ 1 ∷ 16 ∷ 0 ∷ 1 ∷ 0 ∷ 1 ∷ 0 ∷ 16 ∷ []

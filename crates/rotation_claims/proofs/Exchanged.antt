@@ -8,15 +8,11 @@ use lib.Ieee.{Float}
 use Rattle.std.specs.Prelude.{Option, Some, None}
 use Rattle.pow2.specs.declared.Scale.{Scale}
 use Rattle.pow2.specs.Pow2.{pow2_scale}
-use Rattle.checks.specs.First.{first}
-use Rattle.checks.specs.declared.Checked.{Checked}
-use Rattle.checks.specs.declared.Checked.TheVariants.{Sound, Refused}
+use Rattle.checks.specs.First.{first, Checked}
 use Rattle.combination.specs.Call.{cleared}
 use Rattle.krylov_job.specs.declared.KrylovPhiOptions.{KrylovPhiOptions}
-use Rattle.paused_run.specs.Paused.{Job, PausedCall, need_of, begun, step_checks, step}
+use Rattle.paused_run.specs.Paused.{Job, PausedCall, StartAnswer, need_of, begun, StepAnswer, step_checks, step}
 use Rattle.paused_run.specs.declared.PausedRun.{PausedRun}
-use Rattle.paused_run.specs.declared.StartAnswer.{StartAnswer}
-use Rattle.paused_run.specs.declared.StepAnswer.{StepAnswer}
 use Rattle.paused_claims.specs.History.{run_in}
 use Rattle.paused_claims.specs.Start.{values_of}
 use Rattle.paused_claims.proofs.Start.{started_is}
@@ -24,6 +20,9 @@ use Rattle.paused_claims.proofs.Alike.{blind}
 use Rattle.rotation_claims.specs.Isolation.{OwnTurn, checked_on, Back, left_in, AsLeft, Stay, arrival, turns_in, Stays, Given, Told, told_of, unless_early, given_from, told_from, ExchangedClaim}
 use Rattle.rotation_claims.proofs.Isolation.{Chain, at_start_is, stay_chain, early_same}
 use Rattle.paused_claims.proofs.Standing.{same_run as same-started}
+use Rattle.checks.specs.Reasons.{Sound, Refused}
+use Rattle.std.specs.Prelude.{Ok, Err}
+use Rattle.checks.specs.declared.Reason.{Reason}
 
 abbrev given_of : OwnTurn → Given
 given_of t = record { tolerance = t.given.tolerance; job = t.given.job }
@@ -38,7 +37,7 @@ tails : {A : Type 0} {a b : A} {l m : List A} → (a ∷ l) ≡ (b ∷ m) → l 
 tails e = cc
 
 -- refused early, the run and its field stay
-stays_at : (t : OwnTurn) (s : PausedRun) {k : ℕ} {x : Float} → t.call ≡ step s t.lent t.given → checked_on s t ≡ Refused k x → run_in t.call.answer ≡ s
+stays_at : (t : OwnTurn) (s : PausedRun) {k : Reason} {x : Float} → t.call ≡ step s t.lent t.given → checked_on s t ≡ Refused k x → run_in t.call.answer ≡ s
 stays_at t s ec e = ap (λ (c : PausedCall StepAnswer). run_in c.answer) ec ∙ early_same s t.lent t.given e
 
 -- ---- turns all refused early tell nothing
@@ -49,8 +48,8 @@ none_told (t ∷ m) s h e = go (checked_on s t) e (none_told m (run_in t.call.an
   where
     go : (c : Checked) → unless_early c (given_of t) (given_from (run_in t.call.answer) m) ≡ [] → (given_from (run_in t.call.answer) m ≡ [] → told_from (run_in t.call.answer) m ≡ [])
         → unless_early c (told_of t.call) (told_from (run_in t.call.answer) m) ≡ []
-    go (Refused k x) e ih = ih e
-    go Sound e ih = absurd (no_more e)
+    go (Err r) e ih = ih e
+    go (Ok _) e ih = absurd (no_more e)
 
 -- ---- the same steps: told alike
 abbrev Alike : List OwnTurn → Type 0
@@ -88,10 +87,10 @@ module _ (t : OwnTurn) (l : List OwnTurn) (s : PausedRun) (y : List Float) (ec :
           → (given_of t ∷ given_from (run_in t.call.answer) l) ≡ unless_early c (given_of r) (given_from (run_in r.call.answer) m)
           → (Chain s m → AsLeft s y m → (given_of t ∷ given_from (run_in t.call.answer) l) ≡ given_from s m → (told_of t.call ∷ told_from (run_in t.call.answer) l) ≡ told_from s m)
           → (told_of t.call ∷ told_from (run_in t.call.answer) l) ≡ unless_early c (told_of r.call) (told_from (run_in r.call.answer) m)
-      go (Refused k x) er br ar gr next =
+      go (Err e) er br ar gr next =
           let run = stays_at r s hm.1 er in
           next (subst (λ (z : PausedRun). Chain z m) run hm.2) (subst (λ (z : PausedRun). AsLeft z y m) run ar) (gr ∙ ap (λ (z : PausedRun). given_from z m) run) ∙ ap (λ (z : PausedRun). told_from z m) (sym run)
-      go Sound er br ar gr next = with_turn r m hm.1 hm.2 er br ar gr
+      go (Ok _) er br ar gr next = with_turn r m hm.1 hm.2 er br ar gr
 
 told_alike : (l : List OwnTurn) → Alike l
 unfolding given_from told_from AsLeft
@@ -102,10 +101,10 @@ told_alike (t ∷ l) s y m hl hm al am g = go (checked_on s t) refl al.0 al.1 g 
         → unless_early c (given_of t) (given_from (run_in t.call.answer) l) ≡ given_from s m
         → Alike l
         → unless_early c (told_of t.call) (told_from (run_in t.call.answer) l) ≡ told_from s m
-    go (Refused k x) e b a g ih =
+    go (Err r) e b a g ih =
         let run = stays_at t s hl.1 e in
         ih (run_in t.call.answer) y m hl.2 (subst (λ (z : PausedRun). Chain z m) (sym run) hm) a (subst (λ (z : PausedRun). AsLeft z y m) (sym run) am) (g ∙ ap (λ (z : PausedRun). given_from z m) (sym run)) ∙ ap (λ (z : PausedRun). told_from z m) run
-    go Sound e b a g ih = against t l s y hl.1 hl.2 e b a ih m hm am g
+    go (Ok _) e b a g ih = against t l s y hl.1 hl.2 e b a ih m hm am g
 
 -- ---- the start
 begun_alike : (o : KrylovPhiOptions) (j : Job) (y memory other : List Float) (p : Option Scale) → told_of (begun o j y memory p) ≡ told_of (begun o j y other p)

@@ -10,15 +10,10 @@ use lib.Dec.{eqb}
 use lib.ListN.{length, length-set}
 use lib.Ieee.{Float}
 use borrow.Author.Tests.{eqb-true, eqb-false}
-use Rattle.checks.specs.First.{first}
-use Rattle.checks.specs.declared.Checked.{Checked}
-use Rattle.checks.specs.declared.Checked.TheVariants.{Sound, Refused}
+use Rattle.checks.specs.First.{first, Checked}
 use Rattle.krylov_job.specs.declared.KrylovPhiOptions.{KrylovPhiOptions}
-use Rattle.paused_run.specs.Paused.{Job, Input, PausedCall, start, over, step_checks, step_unless, step}
+use Rattle.paused_run.specs.Paused.{Job, Input, PausedCall, StartAnswer, start, over, StepAnswer, step_checks, step_unless, step}
 use Rattle.paused_run.specs.declared.PausedRun.{PausedRun}
-use Rattle.paused_run.specs.declared.StartAnswer.{StartAnswer}
-use Rattle.paused_run.specs.declared.StartAnswer.TheVariants.{Started}
-use Rattle.paused_run.specs.declared.StepAnswer.{StepAnswer}
 use Rattle.rotation.specs.Unit.{run_at, UnitCall, lowest_free, join, turn}
 use Rattle.rotation.specs.declared.Rotation.{Rotation}
 use Rattle.demand_3.specs.Krylov.{Each}
@@ -32,6 +27,10 @@ use Rattle.rotation_claims.proofs.Cases.{Seated, join_cases, place_is, was_free,
 use Rattle.rotation_claims.proofs.Orderly.{orderly}
 use Rattle.paused_claims.proofs.Standing.{same_run as same-started}
 use Rattle.rotation_claims.proofs.Numbers.{only_over, step_number}
+use Rattle.checks.specs.Reasons.{Refused}
+use Rattle.std.specs.Prelude.{Ok, Err}
+use Rattle.checks.specs.declared.Reason.{Reason}
+use Rattle.checks.specs.declared.Reason.TheVariants.{RunEnded}
 
 -- ---- a barrel's own turns: each is a step of the run that the last one left, and that run has not ended
 abbrev pub Chain : PausedRun → List OwnTurn → Type 0
@@ -151,7 +150,7 @@ alone_claim v s h = record { at_start = at_start_is v s h; at_turns = chain_alon
 
 -- ---- a run as N5 leaves it
 -- refused early, it is as it was
-pub early_same : (s : PausedRun) (y : List Float) (i : Input) {k : ℕ} {x : Float} → first (step_checks s (length y) i) ≡ Refused k x → run_in (step s y i).answer ≡ s
+pub early_same : (s : PausedRun) (y : List Float) (i : Input) {k : Reason} {x : Float} → first (step_checks s (length y) i) ≡ Refused k x → run_in (step s y i).answer ≡ s
 unfolding step step_unless
 early_same s y i e = rw e refl
 
@@ -165,9 +164,9 @@ module _ (o : KrylovPhiOptions) (j : Job) where
   -- what follows a turn, by its checks
   next_left : (t : OwnTurn) (s : PausedRun) (y : List Float) (p : Past) → Left o j p → p.run ≡ s → p.field ≡ y → t.call ≡ step s t.lent t.given → (c : Checked) → checked_on s t ≡ c → Back c y t
       → (q : Past) × Left o j q × (q.run ≡ run_in t.call.answer) × (q.field ≡ left_in c y t)
-  next_left t s y p l er ey ec (Refused k x) e b =
+  next_left t s y p l er ey ec (Err r) e b =
       (p, l, er ∙ sym (ap (λ (c : PausedCall StepAnswer). run_in c.answer) ec ∙ early_same s t.lent t.given e), ey)
-  next_left t s y p l er ey ec Sound e b =
+  next_left t s y p l er ey ec (Ok _) e b =
       let same : step p.run p.field t.given ≡ t.call = (λ n. step (er n) ((ey ∙ sym b) n) t.given) ∙ sym ec in
       (_, stepped l t.given, ap (λ (c : PausedCall StepAnswer). run_in c.answer) same, ap (λ (c : PausedCall StepAnswer). c.field) same)
 
@@ -187,13 +186,13 @@ module _ (o : KrylovPhiOptions) (j : Job) where
   never_31 (t ∷ m) s y p l er ey h a g =
       let n = next_left t s y p l er ey h.1 (checked_on s t) refl a.0 in
       let fresh : over s ≡ false = ap over (sym er) ∙ over_left l ∙ ap (λ (x : PausedRun). x.ended) er ∙ h.0 in
-      (λ e. step_number s t.lent t.given 31 (only_over s (length t.lent) t.given g.0.no_31 fresh) (λ z. absurd (omega (arith, z))) (λ z. absurd (omega (arith, z))) (λ z. absurd (omega (arith, z))) (λ z. absurd (omega (arith, z))) (ap (λ (c : PausedCall StepAnswer). number_in c.answer) (sym h.1) ∙ e), never_31 m (run_in t.call.answer) (left_in (checked_on s t) y t) n.0 n.1 n.2 n.3 h.2 a.1 g.1)
+      (λ e. step_number s t.lent t.given RunEnded (only_over s (length t.lent) t.given g.0.no_31 fresh) (λ z. absurd (omega (arith, z))) (λ z. absurd (omega (arith, z))) (λ z. absurd (omega (arith, z))) (λ z. absurd (omega (arith, z))) (ap (λ (c : PausedCall StepAnswer). number_in c.answer) (sym h.1) ∙ e), never_31 m (run_in t.call.answer) (left_in (checked_on s t) y t) n.0 n.1 n.2 n.3 h.2 a.1 g.1)
 
 module _ (v : Stay) (s : PausedRun) (h : Stays v s) where
   abbrev c : PausedCall StartAnswer
   c = start v.o v.j v.output v.memory v.field
 
-  began : c.answer ≡ Started s
+  began : c.answer ≡ Ok s
   began = sym (ap (λ (x : PausedCall StartAnswer). x.answer) (at_start_is v s h.takes)) ∙ h.takes.began
 
   field_is : c.field ≡ (arrival v).call.field

@@ -8,11 +8,8 @@ use Prim.Native.Nat.{ℕ, ◌<◌}
 use native.Mathlib.Omega.{arith}
 use lib.Ieee.{Float}
 use borrow.Author.Tests.{eq-eqb, ne_eqb}
-use Rattle.paused_run.specs.Paused.{Input, step}
+use Rattle.paused_run.specs.Paused.{Input, StartAnswer, StepAnswer, step}
 use Rattle.paused_run.specs.declared.PausedRun.{PausedRun}
-use Rattle.paused_run.specs.declared.StartAnswer.{StartAnswer}
-use Rattle.paused_run.specs.declared.StartAnswer.TheVariants.{Started}
-use Rattle.paused_run.specs.declared.StepAnswer.{StepAnswer}
 use Rattle.rotation.specs.Unit.{run_at, waiting, UnitCall, lowest_free, back}
 use Rattle.rotation.specs.declared.Rotation.{Rotation}
 use Rattle.paused_claims.specs.History.{run_in}
@@ -23,6 +20,7 @@ use Rattle.rotation_claims.proofs.Orderly.{orderly, orderly_turn}
 use Rattle.rotation_claims.proofs.Order.{turn_named, ended_of, turned_waits}
 use Rattle.paused_claims.proofs.Standing.{same_run as same-started}
 use Rattle.rotation_claims.proofs.Admission.{takes}
+use Rattle.std.specs.Prelude.{Ok}
 
 -- ---- any unit
 pub any_turn : (u : Rotation) (i : Input) (y : List Float) → AnyTurn u i y
@@ -83,7 +81,7 @@ module _ (h : List Act) where
   abbrev unit : Rotation
   unit = left_by h
 
-  by_join : (c : Coming) (s : PausedRun) → (join_to unit c).place < 16 → (join_to unit c).call.answer ≡ Started s → run_at (join_to unit c).unit (join_to unit c).place ≡ s
+  by_join : (c : Coming) (s : PausedRun) → (join_to unit c).place < 16 → (join_to unit c).call.answer ≡ Ok s → run_at (join_to unit c).unit (join_to unit c).place ≡ s
   by_join c s l e = elim (join_cases unit c.o c.j c.output c.memory c.field) [
     | inl k ↦
         ap (λ (x : UnitCall StartAnswer). run_at x.unit x.place) k.is

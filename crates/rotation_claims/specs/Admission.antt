@@ -2,20 +2,19 @@
 use Rattle.std.specs.Prelude.{◌≡◌, ◌⊎◌, Bool, true, false, List, [], ◌∷◌, ◌++◌, ℕ, ◌<◌, length, Float}
 use Rattle.std.specs.Float.{nan}
 use Rattle.checks.specs.First.{first, before}
-use Rattle.checks.specs.declared.Checked.TheVariants.{Sound}
 use Rattle.krylov_job.specs.declared.KrylovPhiOptions.{KrylovPhiOptions}
-use Rattle.paused_run.specs.Paused.{Job, Input, PausedCall, leaves, start, step}
-use Rattle.paused_run.specs.declared.StartAnswer.{StartAnswer}
-use Rattle.paused_run.specs.declared.StartAnswer.TheVariants.{Refusal, Started}
+use Rattle.paused_run.specs.Paused.{Job, Input, PausedCall, leaves, StartAnswer, start, StepAnswer, StepRefused, step}
 use Rattle.paused_run.specs.declared.PausedRun.{PausedRun}
-use Rattle.paused_run.specs.declared.StepAnswer.{StepAnswer}
-use Rattle.paused_run.specs.declared.StepAnswer.TheVariants as step_answer
 use Rattle.demand_3.specs.Krylov.{Zeros}
 use Rattle.paused_claims.specs.History.{values_in, run_in}
 use Rattle.paused_claims.specs.Start.{values_of, job_checks, Refuses}
 use Rattle.rotation.specs.Unit.{vacant, run_at, waiting, next_place, UnitCall, unit_call, join, turn}
 use Rattle.rotation.specs.declared.Rotation.{Rotation}
 use Rattle.rotation_claims.specs.History.{Act, left_by, unfinished}
+use Rattle.checks.specs.Reasons.{Sound, Refused}
+use Rattle.std.specs.Prelude.{Ok}
+use Rattle.checks.specs.declared.Reason.TheVariants.{RunEnded, UnitFull}
+use Rattle.checks.specs.declared.Reason.{Reason}
 
 -- a job as it comes to the unit: options, matrix, tau and vectors, and what is lent
 pub record Coming : Type 0 where
@@ -51,12 +50,12 @@ pub record Lowest (h : List Act) (p : ℕ) : Type 0 where
 
 -- nothing but the answer
 abbrev pub refused_32 : Rotation → Coming → UnitCall StartAnswer
-refused_32 u c = unit_call u 16 (leaves (Refusal 32 nan) c.output c.memory c.field)
+refused_32 u c = unit_call u 16 (leaves (Refused UnitFull nan) c.output c.memory c.field)
 
 -- ---- on any unit, one that no call left too
 pub record AnyUnit (u : Rotation) (c : Coming) : Type 0 where
   -- 'after all checks of the job itself': refused as the start alone, nothing changed and no place taken
-  pub refused : (k : ℕ) (x : Float) → Refuses c.o c.j c.output c.memory c.field k x → join_to u c ≡ unit_call u 16 (leaves (Refusal k x) c.output c.memory c.field)
+  pub refused : (k : Reason) (x : Float) → Refuses c.o c.j c.output c.memory c.field k x → join_to u c ≡ unit_call u 16 (leaves (Refused k x) c.output c.memory c.field)
   -- 'one ended at its start takes none', and is served as by the start alone, on a full unit too
   pub idle : Passes c → Zeros (values_of c.j) → join_to u c ≡ unit_call u 16 (start_of c)
   -- 'Only its admission, place and turns depend on the others': the start's own call, or 32
@@ -66,13 +65,13 @@ pub record AnyUnit (u : Rotation) (c : Coming) : Type 0 where
 pub record AnyTurn (u : Rotation) (i : Input) (y : List Float) : Type 0 where
   pub named : (turn u y i).place ≡ next_place u
   pub one_step : next_place u < 16 → (turn u y i).call ≡ step (run_at u (next_place u)) y i
-  pub none : next_place u ≡ 16 → turn u y i ≡ unit_call u 16 (leaves (step_answer.Refusal 31 nan vacant) i.output i.memory y)
+  pub none : next_place u ≡ 16 → turn u y i ≡ unit_call u 16 (leaves (StepRefused RunEnded nan vacant) i.output i.memory y)
 
 -- ---- on every unit that was left
 pub record AdmissionClaim (h : List Act) (c : Coming) : Type 0 where
   -- 'It refuses with 32, after all checks of the job itself, a seventeenth unfinished run': exactly so, over a generator none of whose own checks is numbered 32
   pub if_32 : Unfinished c → Full h → join_to (left_by h) c ≡ refused_32 (left_by h) c
-  pub only_32 : before 32 c.j.g.checks ≡ c.j.g.checks → (x : Float) → (join_to (left_by h) c).call.answer ≡ Refusal 32 x → Unfinished c × Full h
+  pub only_32 : before UnitFull c.j.g.checks ≡ c.j.g.checks → (x : Float) → (join_to (left_by h) c).call.answer ≡ Refused UnitFull x → Unfinished c × Full h
   -- 'A new run joins the end in the lowest free place of 0 to 15': exactly that one
   pub if_lowest : Unfinished c → (p : ℕ) → Lowest h p → ((join_to (left_by h) c).place ≡ p) × ((join_to (left_by h) c).call ≡ start_of c)
   pub only_lowest : (join_to (left_by h) c).place < 16 → Unfinished c × Lowest h (join_to (left_by h) c).place
@@ -103,7 +102,7 @@ pub record LeavesClaim (h : List Act) (i : Input) (y : List Float) : Type 0 wher
 
 -- what a place holds: the run last told of it
 pub record HoldsClaim (h : List Act) : Type 0 where
-  pub by_join : (c : Coming) (s : PausedRun) → (join_to (left_by h) c).place < 16 → (join_to (left_by h) c).call.answer ≡ Started s → run_at (join_to (left_by h) c).unit (join_to (left_by h) c).place ≡ s
+  pub by_join : (c : Coming) (s : PausedRun) → (join_to (left_by h) c).place < 16 → (join_to (left_by h) c).call.answer ≡ Ok s → run_at (join_to (left_by h) c).unit (join_to (left_by h) c).place ≡ s
   pub by_turn : (i : Input) (y : List Float) → (turn_on h i y).place < 16 → run_at (turn_on h i y).unit (turn_on h i y).place ≡ run_in (turn_on h i y).call.answer
   pub others_join : (c : Coming) (q : ℕ) → (q ≡ (join_to (left_by h) c).place → ⊥) → run_at (join_to (left_by h) c).unit q ≡ run_at (left_by h) q
   pub others_turn : (i : Input) (y : List Float) (q : ℕ) → (q ≡ (turn_on h i y).place → ⊥) → run_at (turn_on h i y).unit q ≡ run_at (left_by h) q

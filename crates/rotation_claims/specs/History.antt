@@ -2,13 +2,11 @@
 -- answers, not by what the unit holds. Definitions only.
 use Rattle.std.specs.Prelude.{Bool, false, not, ◌&&◌, ◌||◌, List, [], ◌∷◌, ℕ, suc, eqb, Float, if◌then◌else◌}
 use Rattle.krylov_job.specs.declared.KrylovPhiOptions.{KrylovPhiOptions}
-use Rattle.paused_run.specs.Paused.{Job, Input, PausedCall}
-use Rattle.paused_run.specs.declared.StartAnswer.{StartAnswer}
-use Rattle.paused_run.specs.declared.StartAnswer.TheVariants as start_answer
-use Rattle.paused_run.specs.declared.StepAnswer.{StepAnswer}
+use Rattle.paused_run.specs.Paused.{Job, Input, PausedCall, StartAnswer, StepAnswer}
 use Rattle.paused_claims.specs.History.{run_in}
 use Rattle.rotation.specs.Unit.{empty, join, turn}
 use Rattle.rotation.specs.declared.Rotation.{Rotation}
+use Rattle.std.specs.Prelude.{Ok, Err}
 
 -- what a caller does: a start with its lent output, working memory and field; or a turn with what its step brings (a new tol or none, matrix, tau and vectors, output,
 -- working memory) and the field that is lent, which may be any
@@ -49,8 +47,8 @@ left_by h = unit_from empty h
 -- ---- the unfinished runs, as the answers tell
 -- a start that was accepted and has not ended
 abbrev pub goes_on : StartAnswer → Bool
-goes_on (start_answer.Refusal k x) = false
-goes_on (start_answer.Started s) = not s.ended
+goes_on (Err r) = false
+goes_on (Ok s) = not s.ended
 
 -- place p has an unfinished run: from the join that took the place to the turn of that place whose answer is a run that has ended
 unfoldable pub unfinished_from : Bool → ℕ → List Event → Bool

@@ -1,21 +1,17 @@
 -- One barrel among any others (document 02, N6: 'Suppose the other runs are exchanged for any others and the same steps are given to one barrel: its field, report and run
 -- refusals are as if it were alone'). Definitions only.
 use Rattle.std.specs.Prelude.{◌≡◌, List, [], ◌∷◌, map, ℕ, ◌<◌, eqb, length, Float, if◌then◌else◌, Option}
-use Rattle.checks.specs.First.{first}
-use Rattle.checks.specs.declared.Checked.{Checked}
-use Rattle.checks.specs.declared.Checked.TheVariants.{Sound, Refused}
+use Rattle.checks.specs.First.{first, Checked}
 use Rattle.krylov_job.specs.declared.KrylovPhiOptions.{KrylovPhiOptions}
-use Rattle.paused_run.specs.Paused.{Job, Input, PausedCall, start, step_checks, step}
+use Rattle.paused_run.specs.Paused.{Job, Input, PausedCall, StartAnswer, start, StepAnswer, step_checks, step}
 use Rattle.paused_run.specs.declared.PausedRun.{PausedRun}
-use Rattle.paused_run.specs.declared.StartAnswer.{StartAnswer}
-use Rattle.paused_run.specs.declared.StartAnswer.TheVariants.{Started}
-use Rattle.paused_run.specs.declared.StepAnswer.{StepAnswer}
 use Rattle.demand_3.specs.Krylov.{Each}
 use Rattle.paused_claims.specs.History.{run_in, Past, Left}
 use Rattle.paused_claims.specs.Early.{Plain}
 use Rattle.paused_claims.specs.Alike.{number_in}
 use Rattle.rotation.specs.Unit.{UnitCall, join}
 use Rattle.rotation_claims.specs.History.{Act, Event, joined, turned, events_from, left_by}
+use Rattle.std.specs.Prelude.{Ok, Err}
 
 -- ---- a barrel's own turns
 -- what a turn brought, the field that was lent, and what it told
@@ -44,12 +40,12 @@ checked_on s t = first (step_checks s (length t.lent) t.given)
 
 -- its field, y at first, comes back at each turn as the last one that was not refused early left it; one that is refused early may be lent any
 abbrev pub Back : Checked → List Float → OwnTurn → Type 0
-Back (Refused k x) y t = Unit {0}
-Back Sound y t = t.lent ≡ y
+Back (Err r) y t = Unit {0}
+Back (Ok _) y t = t.lent ≡ y
 
 abbrev pub left_in : Checked → List Float → OwnTurn → List Float
-left_in (Refused k x) y t = y
-left_in Sound y t = t.call.field
+left_in (Err r) y t = y
+left_in (Ok _) y t = t.call.field
 
 unfoldable pub AsLeft : PausedRun → List Float → List OwnTurn → Type 0
 AsLeft s y [] = Unit {0}
@@ -78,7 +74,7 @@ turns_in v = own_turns (arrival v).place (events_from (arrival v).unit v.later)
 -- it takes a place
 pub record Placed (v : Stay) (s : PausedRun) : Type 0 where
   pub placed : (arrival v).place < 16
-  pub began : (arrival v).call.answer ≡ Started s
+  pub began : (arrival v).call.answer ≡ Ok s
 
 -- and its field comes back as it was left; the others' may be any
 pub record Stays (v : Stay) (s : PausedRun) : Type 0 where
@@ -135,8 +131,8 @@ told_of c = record { answer = c.answer; output = c.output; field = c.field }
 
 -- not where it is refused early
 abbrev pub unless_early : {A : Type 0} → Checked → A → List A → List A
-unless_early (Refused k x) a l = l
-unless_early Sound a l = a ∷ l
+unless_early (Err r) a l = l
+unless_early (Ok _) a l = a ∷ l
 
 -- the steps that are not refused early, on the run that each answer hands back
 unfoldable pub given_from : PausedRun → List OwnTurn → List Given

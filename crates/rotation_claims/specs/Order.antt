@@ -1,11 +1,12 @@
 -- The order of the turns (document 02, N6), from the empty unit on, whatever joins and turns are asked for and whatever fields are lent. Definitions only.
 use Rattle.std.specs.Prelude.{◌≡◌, Bool, true, false, not, ◌&&◌, List, [], ◌∷◌, ◌++◌, ℕ, suc, ◌≤◌, ◌<◌, eqb, ltb, length, Float, if◌then◌else◌}
 use Rattle.std.specs.Float.{nan}
-use Rattle.paused_run.specs.Paused.{Input, leaves}
-use Rattle.paused_run.specs.declared.StepAnswer.{StepAnswer}
-use Rattle.paused_run.specs.declared.StepAnswer.TheVariants.{Refusal, Stepped}
+use Rattle.paused_run.specs.Paused.{Input, leaves, StepAnswer, StepRefused}
 use Rattle.rotation.specs.Unit.{vacant, waiting, next_place, unit_call, turn}
 use Rattle.rotation_claims.specs.History.{Act, Event, joined, turned, event_of, events_from, left_by, unfinished, turns_asked, turns_of}
+use Rattle.checks.specs.declared.Reason.TheVariants.{RunEnded}
+use Rattle.checks.specs.Reasons.{number}
+use Rattle.std.specs.Prelude.{Ok, Err}
 
 -- ---- the queue
 unfoldable pub times : ℕ → List ℕ → ℕ
@@ -34,13 +35,13 @@ pub record NextClaim (h : List Act) : Type 0 where
   pub if_none : ((p : ℕ) → p < 16 → unfinished h p ≡ false) → next_place (left_by h) ≡ 16
   pub bounded : next_place (left_by h) ≤ 16
   -- a turn is then 31, which carries NaN and changes nothing
-  pub empty_turn : next_place (left_by h) ≡ 16 → (i : Input) (y : List Float) → turn (left_by h) y i ≡ unit_call (left_by h) 16 (leaves (Refusal 31 nan vacant) i.output i.memory y)
+  pub empty_turn : next_place (left_by h) ≡ 16 → (i : Input) (y : List Float) → turn (left_by h) y i ≡ unit_call (left_by h) 16 (leaves (StepRefused RunEnded nan vacant) i.output i.memory y)
 
 -- ---- 'Between two turns of a waiting run at most 15 substeps of others are served'
 -- a substep was made: an answer, or 27 to 29
 abbrev pub substep_in : StepAnswer → Bool
-substep_in (Stepped s) = true
-substep_in (Refusal k x s) = ltb 26 k && ltb k 30
+substep_in (Ok s) = true
+substep_in (Err r) = ltb 26 (number r.refusal.reason) && ltb (number r.refusal.reason) 30
 
 -- substeps of places other than p
 unfoldable pub substeps_of_others : ℕ → List Event → ℕ

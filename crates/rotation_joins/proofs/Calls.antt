@@ -1,5 +1,5 @@
 -- A join and a turn as the code makes them. Assumes nothing.
-use Rattle.std.specs.Prelude.{if◌then◌else◌, Option, Some, None, is_some}
+use Rattle.std.specs.Prelude.{if◌then◌else◌, Option, Some, None}
 use mathlib.Core.Path.{◌≡◌, refl, sym, ap, ◌∙◌}
 use mathlib.Core.Logic.{◌⊎◌, inl, inr}
 use mathlib.Core.Bool.{Bool, true, false}
@@ -10,19 +10,13 @@ use lib.ListN.{get_or}
 use lib.Ieee.{Float, nan}
 use borrow.Author.Tests.{lt-ltb}
 use Rattle.lists.specs.Loop.{tabulate}
-use Rattle.doubles.specs.F64.{+0}
 use Rattle.pow2.specs.declared.Scale.{Scale}
 use Rattle.pow2.specs.Pow2.{pow2_scale}
 use Rattle.checks.specs.First.{first}
-use Rattle.checks.specs.declared.Checked.{Checked}
-use Rattle.checks.specs.declared.Checked.TheVariants.{Sound, Refused}
+use Rattle.checks.specs.First.{Checked}
 use Rattle.krylov_job.specs.declared.KrylovPhiOptions.{KrylovPhiOptions}
-use Rattle.paused_run.specs.Paused.{Job, Input, PausedCall, leaves, begun, start_unless, start, step}
+use Rattle.paused_run.specs.Paused.{Job, Input, PausedCall, leaves, StartAnswer, begun, start_unless, start, StepAnswer, StepRefused, step}
 use Rattle.paused_run.specs.declared.PausedRun.{PausedRun}
-use Rattle.paused_run.specs.declared.StartAnswer.{StartAnswer}
-use Rattle.paused_run.specs.declared.StartAnswer.TheVariants.{Refusal, Started}
-use Rattle.paused_run.specs.declared.StepAnswer.{StepAnswer}
-use Rattle.paused_run.specs.declared.StepAnswer.TheVariants as step_answer
 use Rattle.rotation.specs.Unit.{vacant, run_at, waiting, first_of, next_place, UnitCall, unit_call, lowest_free, room, seated, admitted_by, admitted, join, run_left, passed_on, turn_of, turn}
 use Rattle.rotation.specs.Inner.{count_of, run_in_place, seat_of, passed_of}
 use Rattle.rotation.specs.declared.Rotation.{Rotation}
@@ -30,18 +24,15 @@ use Rattle.rotation.specs.declared.Seat.{Seat}
 use Rattle.rotation.proofs.Queue.{waits_none, waits_some, place_below}
 use Rattle.rotation_joins.specs.Inner.{full_answer, admitted_of}
 use Rattle.rotation_joins.specs.declared.Joined.{Joined}
+use Rattle.checks.specs.Reasons.{Sound, Refused}
+use Rattle.std.specs.Prelude.{Ok, Err}
+use Rattle.checks.specs.declared.Reason.TheVariants.{RunEnded, UnitFull}
+use Rattle.checks.specs.declared.Refusal.{Refusal}
+use Rattle.checks.proofs.First.{err_is}
 
 -- ---- a join
-number_of : Checked → ℕ
-number_of (Refused k x) = k
-number_of Sound = 0
-
-value_of : Checked → Float
-value_of (Refused k x) = x
-value_of Sound = +0
-
-not_sound : {k : ℕ} {x : Float} → Refused k x ≡ Sound → ⊥
-not_sound {k} {x} e =
+not_sound : {e : Refusal} → ◌≡◌ {A = Checked} (Err e) Sound → ⊥
+not_sound {e} s =
     let z : zero ≡ 1 = cc in
     absurd (omega (arith, z))
 
@@ -51,9 +42,9 @@ module _ (u : Rotation) where
   seat_if s b = if b then record { unit = seated u s; place = lowest_free u } else record { unit = u; place = 16 }
 
   abbrev joined_if : PausedRun → Bool → Seat → Joined
-  joined_if s d seat = if d then record { unit = u; place = 16; answer = Started s } else record { unit = seat.unit; place = seat.place; answer = Started s }
+  joined_if s d seat = if d then record { unit = u; place = 16; answer = Ok s } else record { unit = seat.unit; place = seat.place; answer = Ok s }
 
-  seat_by : (s : PausedRun) (c full : PausedCall StartAnswer) (d b : Bool) → Sound ≡ (if b then Sound else (if d then Sound else Refused 32 nan))
+  seat_by : (s : PausedRun) (c full : PausedCall StartAnswer) (d b : Bool) → Sound ≡ (if b then Sound else (if d then Sound else Refused UnitFull nan))
       → unit_call (joined_if s d (seat_if s b)).unit (joined_if s d (seat_if s b)).place c ≡ admitted_by d b u s c full
   seat_by s c full true b h = refl
   seat_by s c full false true h = refl
@@ -61,47 +52,46 @@ module _ (u : Rotation) where
 
   served_by : (a : StartAnswer) (c full : PausedCall StartAnswer) → Sound ≡ (if room u then Sound else full_answer a) → unit_call (admitted_of u a).unit (admitted_of u a).place c ≡ admitted u a c full
   unfolding admitted
-  served_by (Refusal k x) c full h = refl
-  served_by (Started s) c full h = seat_by s c full s.ended (room u) h
+  served_by (Err r) c full h = refl
+  served_by (Ok s) c full h = seat_by s c full s.ended (room u) h
 
   answer_kept : (a : StartAnswer) → (admitted_of u a).answer ≡ a
-  answer_kept (Refusal k x) = refl
-  answer_kept (Started s) = go s.ended
+  answer_kept (Err r) = refl
+  answer_kept (Ok s) = go s.ended
     where
-      go : (d : Bool) → (joined_if s d (seat_of u s)).answer ≡ Started s
+      go : (d : Bool) → (joined_if s d (seat_of u s)).answer ≡ Ok s
       go true = refl
       go false = refl
 
-  pub told_ended : {a : StartAnswer} (s : PausedRun) → a ≡ Started s → s.ended ≡ true → record { unit = u; place = 16; answer = Started s } ≡ admitted_of u a
+  pub told_ended : {a : StartAnswer} (s : PausedRun) → a ≡ Ok s → s.ended ≡ true → record { unit = u; place = 16; answer = Ok s } ≡ admitted_of u a
   told_ended s e d = ap (λ (x : Bool). joined_if s x (seat_of u s)) (sym d) ∙ ap (admitted_of u) (sym e)
 
-  pub told_seated : {a : StartAnswer} (s : PausedRun) {seat : Seat} → a ≡ Started s → s.ended ≡ false → seat ≡ seat_of u s → record { unit = seat.unit; place = seat.place; answer = Started s } ≡ admitted_of u a
+  pub told_seated : {a : StartAnswer} (s : PausedRun) {seat : Seat} → a ≡ Ok s → s.ended ≡ false → seat ≡ seat_of u s → record { unit = seat.unit; place = seat.place; answer = Ok s } ≡ admitted_of u a
   told_seated s e d es = ap (joined_if s false) es ∙ ap (λ (x : Bool). joined_if s x (seat_of u s)) (sym d) ∙ ap (admitted_of u) (sym e)
 
 module _ (u : Rotation) (o : KrylovPhiOptions) (j : Job) (out w₀ field : List Float) where
-  abbrev refuses : Checked → UnitCall StartAnswer
-  refuses r = unit_call u 16 (leaves (Refusal (number_of r) (value_of r)) out w₀ field)
+  abbrev refuses : Refusal → UnitCall StartAnswer
+  refuses e = unit_call u 16 (leaves (Err e) out w₀ field)
 
   abbrev answers : PausedCall StartAnswer → UnitCall StartAnswer
-  answers c = admitted u c.answer c (leaves (Refusal 32 nan) out w₀ field)
+  answers c = admitted u c.answer c (leaves (Refused UnitFull nan) out w₀ field)
 
   -- refused before the start
-  refused_start : (memory y : List Float) (p : Option Scale) {k : ℕ} {x : Float} → room u ≡ false → Refused k x ≡ full_answer (begun o j y memory p).answer → refuses (Refused k x) ≡ answers (begun o j y memory p)
-  unfolding begun admitted number_of value_of
-  refused_start memory y None e h = absurd (not_sound h)
-  refused_start memory y (Some f) e h = ap refuses h ∙ rw e refl
+  refused_start : (memory y : List Float) (p : Option Scale) {e : Refusal} → room u ≡ false → Err e ≡ full_answer (begun o j y memory p).answer → refuses e ≡ answers (begun o j y memory p)
+  unfolding begun admitted
+  refused_start memory y None eb h = absurd (not_sound h)
+  refused_start memory y (Some f) eb h = ap refuses (err_is h) ∙ rw eb refl
 
-  refused_by : (r : Checked) {k : ℕ} {x : Float} → room u ≡ false → Refused k x ≡ full_answer (start_unless r o j out w₀ field).answer → refuses (Refused k x) ≡ answers (start_unless r o j out w₀ field)
-  unfolding start_unless admitted number_of value_of
-  refused_by (Refused k x) e h = ap refuses h
-  refused_by Sound e h = refused_start _ _ (pow2_scale _) e h
+  refused_by : (r : Checked) {e : Refusal} → room u ≡ false → Err e ≡ full_answer (start_unless r o j out w₀ field).answer → refuses e ≡ answers (start_unless r o j out w₀ field)
+  unfolding start_unless admitted
+  refused_by (Err r) eb h = ap refuses (err_is h)
+  refused_by (Ok _) eb h = refused_start _ _ (pow2_scale _) eb h
 
-  pub join_refused : {r : Checked} {k : ℕ} {x : Float} → r ≡ (if room u then Sound else full_answer (start o j out w₀ field).answer) → r ≡ Refused k x
-      → unit_call u 16 (leaves (Refusal k x) out w₀ field) ≡ join u o j out w₀ field
-  unfolding join start number_of value_of
-  join_refused {r} {k} {x} h e = go (room u) refl (sym e ∙ h)
+  pub join_refused : {r : Checked} {e : Refusal} → r ≡ (if room u then Sound else full_answer (start o j out w₀ field).answer) → r ≡ Err e → unit_call u 16 (leaves (Err e) out w₀ field) ≡ join u o j out w₀ field
+  unfolding join start
+  join_refused {r} {e} h er = go (room u) refl (sym er ∙ h)
     where
-      go : (b : Bool) → room u ≡ b → Refused k x ≡ (if b then Sound else full_answer (start o j out w₀ field).answer) → refuses (Refused k x) ≡ join u o j out w₀ field
+      go : (b : Bool) → room u ≡ b → Err e ≡ (if b then Sound else full_answer (start o j out w₀ field).answer) → refuses e ≡ join u o j out w₀ field
       go true eb h = absurd (not_sound h)
       go false eb h = refused_by (first _) eb h
 
@@ -118,7 +108,7 @@ module _ (u : Rotation) (o : KrylovPhiOptions) (j : Job) (out w₀ field : List 
       let h = sym e ∙ ef ∙ ap (λ (x : StartAnswer). if room u then Sound else full_answer x) (sym same) in
       ap (λ (x : Joined). unit_call x.unit x.place (leaves x.answer out₁ w₁ y₁)) er
       ∙ ap (λ (x : StartAnswer). unit_call (admitted_of u a).unit (admitted_of u a).place (leaves x out₁ w₁ y₁)) (answer_kept u a)
-      ∙ served_by u a (leaves a out₁ w₁ y₁) (leaves (Refusal 32 nan) out w₀ field) h
+      ∙ served_by u a (leaves a out₁ w₁ y₁) (leaves (Refused UnitFull nan) out w₀ field) h
       ∙ ap answers es
 
 -- ---- a turn
@@ -142,10 +132,10 @@ none_or_some u = go (count_of u.queue) refl
 
 module _ (u : Rotation) (y : List Float) (i : Input) where
   pub turn_none : {p : ℕ} {x : Float} {s : PausedRun} → p ≡ next_place u → p ≡ 16 → x ≡ nan → s ≡ vacant
-      → unit_call u 16 (leaves (step_answer.Refusal 31 x s) i.output i.memory y) ≡ turn u y i
+      → unit_call u 16 (leaves (StepRefused RunEnded x s) i.output i.memory y) ≡ turn u y i
   unfolding turn turn_of
   turn_none ep e ex es = elim (none_or_some u) [
-    | inl n ↦ (λ k. unit_call u 16 (leaves (step_answer.Refusal 31 (ex k) (es k)) i.output i.memory y)) ∙ sym (ap (λ (l : List ℕ). turn_of l u y i) n)
+    | inl n ↦ (λ k. unit_call u 16 (leaves (StepRefused RunEnded (ex k) (es k)) i.output i.memory y)) ∙ sym (ap (λ (l : List ℕ). turn_of l u y i) n)
     | inr w ↦ absurd (omega (arith, ep, e, w.below))
   ]
 

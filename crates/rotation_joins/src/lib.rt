@@ -4,7 +4,7 @@
 ghost use Rattle.std.specs.Prelude.{◌≡◌, List, ℕ, ◌≤◌, length, is_some, Float, if◌then◌else◌};
 ghost use Rattle.pow2.specs.Pow2.{eta_scaling, pow2_scale};
 ghost use Rattle.checks.specs.First.{Check, first};
-ghost use Rattle.checks.specs.declared.Checked.TheVariants.{Sound};
+ghost use Rattle.checks.specs.Reasons.{Sound};
 ghost use Rattle.general_operator.specs.Csr.{csr};
 ghost use Rattle.generator_action.specs.Mass.{given};
 ghost use Rattle.generator_action.specs.Generator.{forward};
@@ -15,10 +15,10 @@ ghost use Rattle.paused_run.specs.Inner.{job_over};
 ghost use Rattle.rotation.specs.Unit.{room, unit_call, join};
 ghost use Rattle.rotation_joins.specs.Inner.{full_answer, admitted_of};
 
-use checks::Checked;
-use generator_action::{MatrixAnswer, Shape};
+use checks::{Checked, Reason, Refusal};
+use generator_action::Shape;
 use krylov_job::KrylovPhiOptions;
-use paused_run::StartAnswer;
+use paused_run::PausedRun;
 use rotation::Rotation;
 
 // The unit after a join, the place taken (16: none) and the start's answer.
@@ -26,7 +26,7 @@ use rotation::Rotation;
 pub struct Joined {
     pub unit: Rotation,
     pub place: usize,
-    pub answer: StartAnswer,
+    pub answer: Result<PausedRun, Refusal>,
 }
 
 // Whether the n + d values of a start are not all zeros: 1 / eta stands at the end of a chain.
@@ -51,19 +51,20 @@ fn refused_job(
     requires { (g.n ≤ 1000000) × (g.stored ≤ 16777216) }
     ensures { (gs : List Check) (starts cols : List ℕ) (vals mass output memory lent : List Float) → Sound ≡ first gs → Passed (csr g.n starts cols vals) (given g.with_mass mass) g → length output ≡ out → length memory ≡ work → length lent ≡ field → result ≡ full_answer (start o (job_over gs g starts cols vals mass tau count w.now) output memory lent).answer }
 {
-    let others = Checked::Sound;
-    let j = krylov_job::admit_job(g, tau, count, w, None, o, out, others, work);
-    let job = j.checked;
-    let Checked::Sound = job else {
-        return Checked::Refused(checks::number(job), checks::reported(job));
-    };
+    let j = krylov_job::admit_job(g, tau, count, w, None, o, out, Ok(()), work)?;
     if field != j.g.n + j.d {
-        return Checked::Refused(26, float::not_a_number());
+        return Err(Refusal {
+            reason: Reason::WorkLength,
+            value: float::not_a_number(),
+        });
     }
     if goes_on(j.g.n, w, j.d) {
-        return Checked::Refused(32, float::not_a_number());
+        return Err(Refusal {
+            reason: Reason::UnitFull,
+            value: float::not_a_number(),
+        });
     }
-    Checked::Sound
+    Ok(())
 }
 
 // How a unit refuses a job before its start: not at all where it has room.
@@ -86,30 +87,24 @@ fn refused_full(
     ensures { (output memory lent : List Float) → length output ≡ out → length memory ≡ work → length lent ≡ field → result ≡ (if room unit then Sound else full_answer (start o (record { g = forward (csr n starts.now cols.now vals.now) (given with_mass mass.now); tau = tau; count = count; w = w.now }) output memory lent).answer) }
 {
     if rotation::room(unit) {
-        return Checked::Sound;
+        return Ok(());
     }
-    let matrix = generator_checks::check_generator(n, starts, cols, vals, with_mass, mass);
-    let MatrixAnswer::Norm(norm, _) = matrix else {
-        return Checked::Refused(
-            generator_action::number(matrix),
-            generator_action::value(matrix),
-        );
-    };
-    let g = generator_action::generator_shape(n, with_mass, vals.len(), norm);
+    let matrix = generator_checks::check_generator(n, starts, cols, vals, with_mass, mass)?;
+    let g = generator_action::generator_shape(n, with_mass, vals.len(), matrix.norm);
     refused_job(g, tau, count, w, o, out, work, field)
 }
 
 // The unit with a run that its start left: one that has ended takes no place.
-fn admitted(unit: Rotation, answer: StartAnswer) -> Joined
+fn admitted(unit: Rotation, answer: Result<PausedRun, Refusal>) -> Joined
     ensures { result ≡ admitted_of unit answer }
 {
     match answer {
-        StartAnswer::Refusal(_, _) => Joined {
+        Err(_) => Joined {
             unit,
             place: 16,
             answer,
         },
-        StartAnswer::Started(run) => {
+        Ok(run) => {
             if run.ended {
                 return Joined {
                     unit,
@@ -118,9 +113,8 @@ fn admitted(unit: Rotation, answer: StartAnswer) -> Joined
                 };
             }
             let seat = rotation::seated(unit, run);
-            let left = seat.unit;
             Joined {
-                unit: left,
+                unit: seat.unit,
                 place: seat.place,
                 answer,
             }
@@ -163,13 +157,13 @@ pub fn join(
         work.len(),
         field.len(),
     );
-    let Checked::Sound = full else {
+    if let Err(refusal) = full {
         return Joined {
             unit,
             place: 16,
-            answer: StartAnswer::Refusal(checks::number(full), checks::reported(full)),
+            answer: Err(refusal),
         };
-    };
+    }
     let answer = paused_start::start(
         n, starts, cols, vals, with_mass, mass, tau, count, w, o, out, work, field,
     );

@@ -8,7 +8,8 @@ ghost use Rattle.generator_action.specs.Generator.{forward};
 ghost use Rattle.paused_run.specs.Paused.{leaves};
 ghost use Rattle.rotation.specs.Unit.{unit_call, run_left, turn};
 
-use paused_run::{PausedRun, StepAnswer};
+use checks::{Reason, Refusal};
+use paused_run::{PausedRun, StepRefusal};
 use rotation::Rotation;
 
 // The unit after a turn, the place whose turn it was (16: none) and the step's answer.
@@ -16,16 +17,16 @@ use rotation::Rotation;
 pub struct Turned {
     pub unit: Rotation,
     pub place: usize,
-    pub answer: StepAnswer,
+    pub answer: Result<PausedRun, StepRefusal>,
 }
 
 // The run that a step hands back.
-fn run_left(answer: StepAnswer) -> PausedRun
+fn run_left(answer: Result<PausedRun, StepRefusal>) -> PausedRun
     ensures { result ≡ run_left answer }
 {
     match answer {
-        StepAnswer::Refusal(_, _, run) => run,
-        StepAnswer::Stepped(run) => run,
+        Err(r) => r.run,
+        Ok(run) => run,
     }
 }
 
@@ -53,7 +54,13 @@ pub fn turn(
         return Turned {
             unit,
             place: 16,
-            answer: StepAnswer::Refusal(31, float::not_a_number(), rotation::vacant()),
+            answer: Err(StepRefusal {
+                refusal: Refusal {
+                    reason: Reason::RunEnded,
+                    value: float::not_a_number(),
+                },
+                run: rotation::vacant(),
+            }),
         };
     }
     let run = rotation::run_at(unit, p);

@@ -21,8 +21,7 @@ use Rattle.doubles.proofs.PowerOfTwo.{lift, sink, times_scaled, scaled_times}
 use Rattle.vectors.proofs.Laws.{length_scale, scale_at}
 use Rattle.pow2.specs.Pow2.{exact_pow2}
 use Rattle.checks.specs.First.{first}
-use Rattle.checks.specs.declared.Checked.{Checked}
-use Rattle.checks.specs.declared.Checked.TheVariants.{Sound, Refused}
+use Rattle.checks.specs.First.{Checked}
 use Rattle.checks.proofs.First.{sound_append}
 use Rattle.general_operator.specs.Csr.{Csr, Valid, row_sum_norm}
 use Rattle.general_operator.specs.Checks.{matrix_checks}
@@ -42,12 +41,13 @@ use Rattle.combination.specs.Call.{Call, unless_refused}
 use Rattle.combination.specs.Checks.{plan_checks, vector_checks}
 use Rattle.taylor_schedule.proofs.Admitted.{Vectors, vectors_known, further_within, first_within, length_start}
 use Rattle.taylor_job.specs.declared.TaylorReport.{TaylorReport}
-use Rattle.taylor_job.specs.declared.TaylorAnswer.{TaylorAnswer}
-use Rattle.taylor_job.specs.declared.TaylorAnswer.TheVariants.{Refusal, Result}
+use Rattle.taylor_job.specs.Calls.{TaylorAnswer}
 use Rattle.taylor_job.specs.Calls.{Fields, report, after_plan, swept_fields, combination_checks, combination_run, phi_combination}
 use Rattle.scaling.specs.Doubled.{doubled, CleanDoubled, operator_of, start_of, CleanJob, DoubledOutput, DoubledReport}
 use Rattle.scaling.proofs.Run.{run_scaled}
 use Rattle.scaling.proofs.Weights.{operators_scaled, start_scaled}
+use Rattle.checks.specs.Reasons.{Sound, Refused}
+use Rattle.std.specs.Prelude.{Ok, Err}
 
 -- ---- the vectors
 length_doubled : (j : ℤ) (x : List Float) → length (doubled j x) ≡ length x
@@ -68,12 +68,12 @@ doubled_is j n x x' l l' h =
     ext_get_or nan x' (doubled j x) (l' ∙ sym (length_doubled j x ∙ l)) (λ i m. scaled_times j (at x i) (at x' i) (h i (rw l' at m)) ∙ sym (doubled_at j x i (rw l (rw l' at m))))
 
 -- ---- an accepted job
-accepted : (x : Checked) (output memory : List Float) (end : Call TaylorAnswer) {r : TaylorReport} → (unless_refused Refusal x output memory end).answer ≡ Result r → (Sound ≡ x) × (unless_refused Refusal x output memory end ≡ end)
+accepted : (x : Checked) (output memory : List Float) (end : Call TaylorAnswer) {r : TaylorReport} → (unless_refused Refused x output memory end).answer ≡ Ok r → (Sound ≡ x) × (unless_refused Refused x output memory end ≡ end)
 unfolding unless_refused
-accepted Sound output memory end e = (refl, refl)
-accepted (Refused k x) output memory end e = let z : zero ≡ 1 = cc in absurd (omega (arith, z))
+accepted (Ok _) output memory end e = (refl, refl)
+accepted (Err r) output memory end e = let z : zero ≡ 1 = cc in absurd (omega (arith, z))
 
-planned : (need : ℕ) (tau norm : Float) (output memory : List Float) (x : Option SweepPlan) (run : SweepPlan → Fields) {r : TaylorReport} → (after_plan need tau norm output memory x run).answer ≡ Result r
+planned : (need : ℕ) (tau norm : Float) (output memory : List Float) (x : Option SweepPlan) (run : SweepPlan → Fields) {r : TaylorReport} → (after_plan need tau norm output memory x run).answer ≡ Ok r
     → (p : SweepPlan) × (x ≡ Some p) × ((after_plan need tau norm output memory x run).output ≡ (run p).fields) × ((after_plan need tau norm output memory x run).answer ≡ report p (run p).applied)
 unfolding after_plan
 planned need tau norm output memory None run e = let z : zero ≡ 1 = cc in absurd (omega (arith, z))
@@ -103,7 +103,7 @@ module _ (g : Generator) (tau : Float) (cap count : ℕ) (w output memory : List
   unfolding swept_fields combination_operator
   made p = (refl, run_counted _ tau p _)
 
-  known : {r : TaylorReport} → (phi_combination g tau cap count w output memory).answer ≡ Result r → Accepted g g.matrix tau cap count w output memory
+  known : {r : TaylorReport} → (phi_combination g tau cap count w output memory).answer ≡ Ok r → Accepted g g.matrix tau cap count w output memory
   unfolding phi_combination combination_checks combination_run
   known e =
       let a = accepted _ output memory _ e in
@@ -150,7 +150,7 @@ run_doubled j q tau cap count w long p plan valid doubles time dw vectors cd c c
 
 -- ---- the theorem, over any generator whose matrix is valid where its checks pass, and holds doubles
 module _ (g g' : Generator) (same : g'.matrix ≡ g.matrix) where
-  known_same : (tau : Float) (cap count : ℕ) (w output memory : List Float) {r : TaylorReport} → (phi_combination g' tau cap count w output memory).answer ≡ Result r → Accepted g' g.matrix tau cap count w output memory
+  known_same : (tau : Float) (cap count : ℕ) (w output memory : List Float) {r : TaylorReport} → (phi_combination g' tau cap count w output memory).answer ≡ Ok r → Accepted g' g.matrix tau cap count w output memory
   known_same tau cap count w output memory e = subst (λ (q : Csr). Accepted g' q tau cap count w output memory) same (known g' tau cap count w output memory e)
 
   pub doubled_output : (Sound ≡ first g.checks → Valid g.matrix) → Doubles g.matrix.entries → DoubledOutput g g'

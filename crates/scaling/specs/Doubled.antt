@@ -16,9 +16,9 @@ use Rattle.phi_action_helpers.specs.declared.SweepPlan.{SweepPlan}
 use Rattle.phi_shift.specs.Plan.{sweep_plan}
 use Rattle.combination.specs.Combination.{further, gain, eta_of, combination_operator, combination_start}
 use Rattle.taylor_job.specs.declared.TaylorReport.{TaylorReport}
-use Rattle.taylor_job.specs.declared.TaylorAnswer.TheVariants.{Result}
 use Rattle.taylor_job.specs.Calls.{phi_combination}
 use Rattle.scaling.specs.Operations.{InSweeps}
+use Rattle.std.specs.Prelude.{Ok}
 
 -- N9, 'every vector is multiplied by 2 ^ j': each value, rounded once; j is any whole number
 unfoldable pub doubled : ℤ → List Float → List Float
@@ -59,8 +59,8 @@ DoubledOutput g g' =
     (j : ℤ) (tau : Float) (cap count : ℕ) (w output memory output' memory' : List Float) (r r' : TaylorReport)
     → T (fits binary64 tau)
     → Doubles w
-    → (phi_combination g tau cap count w output memory).answer ≡ Result r
-    → (phi_combination g' tau cap count (doubled j w) output' memory').answer ≡ Result r'
+    → (phi_combination g tau cap count w output memory).answer ≡ Ok r
+    → (phi_combination g' tau cap count (doubled j w) output' memory').answer ≡ Ok r'
     → CleanDoubled j w
     → CleanJob g.matrix tau cap count w
     → CleanJob g.matrix tau cap count (doubled j w)
@@ -70,6 +70,6 @@ DoubledOutput g g' =
 abbrev pub DoubledReport : Generator → Generator → Type 0
 DoubledReport g g' =
     (j : ℤ) (tau : Float) (cap count : ℕ) (w output memory output' memory' : List Float) (told told' : TaylorReport)
-    → (phi_combination g tau cap count w output memory).answer ≡ Result told
-    → (phi_combination g' tau cap count (doubled j w) output' memory').answer ≡ Result told'
+    → (phi_combination g tau cap count w output memory).answer ≡ Ok told
+    → (phi_combination g' tau cap count (doubled j w) output' memory').answer ≡ Ok told'
     → (phi_combination g' tau cap count (doubled j w) output' memory').answer ≡ (phi_combination g tau cap count w output memory).answer

@@ -22,12 +22,12 @@ use Rattle.pow2.specs.Pow2.{exact_pow2, eta_of}
 use Rattle.phi_shift.specs.Plan.{plan}
 use Rattle.combination.specs.Call.{Call, ends}
 use Rattle.taylor_job.specs.declared.TaylorReport.{TaylorReport}
-use Rattle.taylor_job.specs.declared.TaylorAnswer.{TaylorAnswer}
-use Rattle.taylor_job.specs.declared.TaylorAnswer.TheVariants.{Result}
+use Rattle.taylor_job.specs.Calls.{TaylorAnswer}
 use Rattle.taylor_job.specs.Calls.{phi_combination, open_calls}
 use Rattle.scaling.specs.Doubled.{doubled, scaling_of, InJob, CleanJob}
 use Rattle.scaling.proofs.Tested.{job_bad, in_job, open_tested}
 use Rattle.scaling_examples.specs.Words.{Normal, Words⊗, Words⊕, WordsDoubled}
+use Rattle.std.specs.Prelude.{Ok}
 
 -- ---- document 02's words as a test
 unfoldable normal : Float → Bool
@@ -84,11 +84,11 @@ abbrev told : TaylorReport
 told = record { s = 2; m = 25; mu = +0; applications = 50 }
 
 -- both are accepted, and these are their outputs
-once_out : job vectors ≡ ends (Result told) (bits 0x8030_0000_0000_0000 ∷ bits 0x0170_0000_0000_0000 ∷ bits 0x4010_0000_0000_0000 ∷ []) (replicate 11 +0)
+once_out : job vectors ≡ ends (Ok told) (bits 0x8030_0000_0000_0000 ∷ bits 0x0170_0000_0000_0000 ∷ bits 0x4010_0000_0000_0000 ∷ []) (replicate 11 +0)
 unfolding open_calls
 once_out = refl
 
-twice_out : job twice ≡ ends (Result told) (bits 0x803f_ffff_ffff_ffff ∷ bits 0x0180_0000_0000_0000 ∷ bits 0x4020_0000_0000_0000 ∷ []) (replicate 11 +0)
+twice_out : job twice ≡ ends (Ok told) (bits 0x803f_ffff_ffff_ffff ∷ bits 0x0180_0000_0000_0000 ∷ bits 0x4020_0000_0000_0000 ∷ []) (replicate 11 +0)
 unfolding open_calls
 twice_out = refl
 

@@ -17,19 +17,19 @@ use Rattle.general_operator.specs.Csr.{csr}
 use Rattle.generator_action.specs.Generator.{Generator, forward}
 use Rattle.transpose.specs.Transpose.{lent, transposed, open_transpose}
 use Rattle.taylor_job.specs.declared.TaylorReport.{TaylorReport}
-use Rattle.taylor_job.specs.declared.TaylorAnswer.TheVariants.{Result}
 use Rattle.taylor_job.specs.Calls.{phi_combination, open_calls}
 use Rattle.scaling.specs.Doubled.{doubled, scaling_of, DoubledOutput}
 use Rattle.scaling.proofs.Doubled.{doubled_forward, doubled_transposed}
 use Rattle.scaling.proofs.Tested.{job_bad, bad⊗, bad⊕, doubling_bad, clean_job, clean_doubled, open_tested}
+use Rattle.std.specs.Prelude.{Ok}
 
 -- what is computed of a pair over the generator g: no operation is bad, and both are accepted with the report r
 record Computed (j : ℤ) (g : Generator) (tau cap count : ℕ) (w : List ℕ) (out memory : ℕ) (r : TaylorReport) : Type 0 where
   doubling : doubling_bad j (map bits w) ≡ false
   operations : job_bad bad⊗ bad⊕ g.matrix (bits tau) cap count (map bits w) ≡ false
   operations' : job_bad bad⊗ bad⊕ g.matrix (bits tau) cap count (doubled j (map bits w)) ≡ false
-  accepted : (phi_combination g (bits tau) cap count (map bits w) (replicate out +0) (replicate memory +0)).answer ≡ Result r
-  accepted' : (phi_combination g (bits tau) cap count (doubled j (map bits w)) (replicate out +0) (replicate memory +0)).answer ≡ Result r
+  accepted : (phi_combination g (bits tau) cap count (map bits w) (replicate out +0) (replicate memory +0)).answer ≡ Ok r
+  accepted' : (phi_combination g (bits tau) cap count (doubled j (map bits w)) (replicate out +0) (replicate memory +0)).answer ≡ Ok r
 
 abbrev Doubled : ℤ → Generator → ℕ → ℕ → ℕ → List ℕ → ℕ → ℕ → Type 0
 Doubled j g tau cap count w out memory =

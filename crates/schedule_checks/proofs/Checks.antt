@@ -9,8 +9,7 @@ use borrow.Author.Tests.{eqb-true, eqb-false, ne_eqb, not-false, ltb-false, le-l
 use Rattle.lists.proofs.Tests.{and_both, above_0}
 use Rattle.lists.proofs.Bounds.{product_within}
 use Rattle.checks.specs.First.{refuse, first}
-use Rattle.checks.specs.declared.Checked.{Checked}
-use Rattle.checks.specs.declared.Checked.TheVariants.{Sound}
+use Rattle.checks.specs.First.{Checked}
 use Rattle.checks.proofs.First.{sound_cons, sound_append, passes, ends_sound, not_eq}
 use Rattle.doubles.specs.F64.{nat}
 use Rattle.general_operator.proofs.Sound.{or_false}
@@ -18,6 +17,8 @@ use Rattle.combination.specs.Checks.{count_checks, length_checks}
 use Rattle.schedule_checks.specs.declared.Stage.{Stage}
 use Rattle.schedule_checks.specs.Inner.{Even}
 use Rattle.schedule_checks.specs.Schedule.{Schedule, stages_of, schedule_checks, further_need, wrong_slice, time_checks_of, stage_checks}
+use Rattle.checks.specs.Reasons.{Sound}
+use Rattle.checks.specs.declared.Reason.TheVariants.{VectorCount, OutputLength, VectorLength}
 
 -- ---- 37
 pub schedule_known : (s : Schedule) {r : Checked} → r ≡ Sound → r ≡ first (schedule_checks s) → Even s
@@ -51,11 +52,11 @@ count_known count e f =
 
 pub count_sound : {count : ℕ} → 1 ≤ count → count ≤ 4 → Sound ≡ first (count_checks count)
 unfolding count_checks
-count_sound {count} l m = passes 12 _ [] (rw (ne_eqb count 0 (λ e. absurd (omega (arith, l, e))), le-ltb 4 count m) refl) ends_sound
+count_sound {count} l m = passes VectorCount _ [] (rw (ne_eqb count 0 (λ e. absurd (omega (arith, l, e))), le-ltb 4 count m) refl) ends_sound
 
 pub lengths_sound : {output wanted vectors expected : ℕ} → output ≡ wanted → vectors ≡ expected → Sound ≡ first (length_checks output wanted vectors expected)
 unfolding length_checks
-lengths_sound e f = passes 15 _ _ (not_eq e) (passes 16 _ [] (not_eq f) ends_sound)
+lengths_sound e f = passes OutputLength _ _ (not_eq e) (passes VectorLength _ [] (not_eq f) ends_sound)
 
 pub count_some : (count : ℕ) {r : Checked} → r ≡ Sound → r ≡ first (count_checks count) → 1 ≤ count
 count_some count e f = (count_known count e f).0
@@ -82,7 +83,7 @@ stage_known n s last output field used further e f =
     let c = sound_append (count_checks s.count) _ (sym e ∙ f) in
     let k = count_known s.count refl c.0 in
     let t = sound_append (time_checks_of s.solver s.tau) _ c.1 in
-    let l = sound_append (length_checks output n field n) (refuse 16 (wrong_slice (further_need n s) last used further) (nat further) ∷ []) t.1 in
+    let l = sound_append (length_checks output n field n) (refuse VectorLength (wrong_slice (further_need n s) last used further) (nat further) ∷ []) t.1 in
     let a = sound_cons _ _ _ _ l.0 in
     let b = sound_cons _ _ _ _ a.1 in
     let w = or_false (ltb further (used + (s.count - 1) * n)) _ (sound_cons _ _ _ _ l.1).0 in

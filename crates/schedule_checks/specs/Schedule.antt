@@ -8,12 +8,21 @@ use Rattle.combination.specs.Checks.{count_checks, time_checks, plan_checks, len
 use Rattle.combination.specs.Call.{Call, ends}
 use Rattle.phi_solver.specs.declared.PhiSolver.{PhiSolver}
 use Rattle.phi_solver.specs.declared.PhiSolver.TheVariants.{Taylor, Krylov}
-use Rattle.phi_solver.specs.declared.PhiAnswer.{PhiAnswer}
-use Rattle.phi_solver.specs.declared.PhiAnswer.TheVariants as phi
+use Rattle.phi_solver.specs.Combine.{PhiAnswer}
+use Rattle.phi_solver.specs.declared.PhiReport.TheVariants as phi
 use Rattle.schedule_checks.specs.declared.Stage.{Stage}
 use Rattle.schedule_checks.specs.declared.StagedReport.{StagedReport}
-use Rattle.schedule_checks.specs.declared.StagedAnswer.{StagedAnswer}
-use Rattle.schedule_checks.specs.declared.StagedAnswer.TheVariants.{Refusal}
+use Rattle.schedule_checks.specs.declared.StageRefusal.{StageRefusal}
+use Rattle.checks.specs.declared.Refusal.{Refusal}
+use Rattle.std.specs.Prelude.{Result, Ok, Err}
+use Rattle.checks.specs.declared.Reason.TheVariants.{VectorLength, StageCount}
+
+-- a refusal with the stage that met it, or the counts
+abbrev pub StagedAnswer : Type 0
+StagedAnswer = Result StagedReport StageRefusal
+
+abbrev pub refused_at : Refusal → ℕ → StagedAnswer
+refused_at r i = Err (record { refusal = r; stage = i })
 
 -- ---- the schedule
 -- the numbers of the stages, one list for each; Taylor is 0 and has a highest degree, any other number is Krylov with tol, m and max_substeps
@@ -51,7 +60,7 @@ uneven s =
 
 -- not 1 to 64 stages
 unfoldable pub schedule_checks : Schedule → List Check
-schedule_checks s = refuse 37 (eqb (stages_of s) 0 || (ltb 64 (stages_of s) || uneven s)) nan ∷ []
+schedule_checks s = refuse StageCount (eqb (stages_of s) 0 || (ltb 64 (stages_of s) || uneven s)) nan ∷ []
 
 -- ---- one stage
 -- before a stage: w_0, what the output and the working memory hold, how many numbers of the further vectors' slice are used, and the counts so far
@@ -81,16 +90,16 @@ stage_checks n s last output field used further =
     count_checks s.count
     ++ (time_checks_of s.solver s.tau
     ++ (length_checks output n field n
-    ++ (refuse 16 (wrong_slice (further_need n s) last used further) (nat further) ∷ [])))
+    ++ (refuse VectorLength (wrong_slice (further_need n s) last used further) (nat further) ∷ [])))
 
 -- the counts so far and those of a single call; Taylor has no substeps and rejects nothing
 unfoldable pub counted : StagedReport → PhiAnswer → StagedReport
-counted r (phi.Refusal k x) = r
-counted r (phi.Taylor t) = record { applications = r.applications + t.applications; substeps = r.substeps; rejected = r.rejected }
-counted r (phi.Krylov t) = record { applications = r.applications + t.matvecs; substeps = r.substeps + t.substeps; rejected = r.rejected + t.rejected }
+counted r (Err e) = r
+counted r (Ok (phi.Taylor t)) = record { applications = r.applications + t.applications; substeps = r.substeps; rejected = r.rejected }
+counted r (Ok (phi.Krylov t)) = record { applications = r.applications + t.matvecs; substeps = r.substeps + t.substeps; rejected = r.rejected + t.rejected }
 
 -- a refused call ends the soak with what it leaves, and the answer names the stage; any other leaves its field to the next stage
 unfoldable pub settle : ℕ → ℕ → StagedReport → Call PhiAnswer → PhiAnswer → Turn Progress (Call StagedAnswer)
-settle i used r c (phi.Refusal k x) = out (ends (Refusal k x (i + 1)) c.output c.memory)
-settle i used r c (phi.Taylor t) = on (record { field = c.output; output = c.output; memory = c.memory; used = used; report = counted r (phi.Taylor t) })
-settle i used r c (phi.Krylov t) = on (record { field = c.output; output = c.output; memory = c.memory; used = used; report = counted r (phi.Krylov t) })
+settle i used r c (Err e) = out (ends (refused_at e (i + 1)) c.output c.memory)
+settle i used r c (Ok (phi.Taylor t)) = on (record { field = c.output; output = c.output; memory = c.memory; used = used; report = counted r (Ok (phi.Taylor t)) })
+settle i used r c (Ok (phi.Krylov t)) = on (record { field = c.output; output = c.output; memory = c.memory; used = used; report = counted r (Ok (phi.Krylov t)) })

@@ -6,7 +6,7 @@ ghost use Rattle.checks.specs.First.{first};
 ghost use Rattle.schedule_checks.specs.Schedule.{stage, schedule_checks};
 ghost use Rattle.schedule_checks.specs.Inner.{schedule_of};
 
-use checks::Checked;
+use checks::{Checked, Reason, Refusal};
 use phi_solver::PhiSolver;
 
 // Products with the generator, accepted substeps and rejected lengths of all stages.
@@ -17,11 +17,11 @@ pub struct StagedReport {
     pub rejected: u64,
 }
 
-// A refusal's number and double with the stage that met it, from 1 (0: before any stage), or the counts.
+// A refusal with the stage that met it, from 1 (0: before any stage).
 #[derive(Clone, Copy)]
-pub enum StagedAnswer {
-    Refusal(u32, f64, u32),
-    Staged(StagedReport),
+pub struct StageRefusal {
+    pub refusal: Refusal,
+    pub stage: u32,
 }
 
 // A stage: its tau, its number of vectors, w_0 among them, and its solver.
@@ -39,13 +39,6 @@ pub struct SoFar {
     pub report: StagedReport,
 }
 
-// The soak goes on, or a stage ended it by a refusal.
-#[derive(Clone, Copy)]
-pub enum StageTurn {
-    On(SoFar),
-    Ended(u32, f64, u32),
-}
-
 // Lists that do not tell of one number k of stages.
 fn uneven(
     k: usize,
@@ -58,35 +51,14 @@ fn uneven(
 ) -> bool
     ensures { result ≡ not (eqb counts k && (eqb solvers k && (eqb degrees k && (eqb tols k && (eqb ms k && eqb limits k))))) }
 {
-    if counts != k {
-        return true;
-    }
-    if solvers != k {
-        return true;
-    }
-    if degrees != k {
-        return true;
-    }
-    if tols != k {
-        return true;
-    }
-    if ms != k {
-        return true;
-    }
-    limits != k
+    counts != k || solvers != k || degrees != k || tols != k || ms != k || limits != k
 }
 
 // Not 1 to 64 stages.
 fn wrong_number(k: usize, odd: bool) -> bool
     ensures { result ≡ (eqb k 0 || (ltb 64 k || odd)) }
 {
-    if k == 0 {
-        return true;
-    }
-    if k > 64 {
-        return true;
-    }
-    odd
+    k == 0 || k > 64 || odd
 }
 
 // 37.
@@ -112,7 +84,10 @@ pub fn check_schedule(
         limits.len(),
     );
     if wrong_number(k, odd) {
-        return Checked::Refused(37, float::not_a_number());
+        return Err(Refusal {
+            reason: Reason::StageCount,
+            value: float::not_a_number(),
+        });
     }
-    Checked::Sound
+    Ok(())
 }

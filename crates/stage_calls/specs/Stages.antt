@@ -3,22 +3,22 @@ use Rattle.std.specs.Prelude.{List, ◌++◌, ℕ, ◌+◌, eqb, length, Float}
 use Rattle.lists.specs.Walk.{Turn, on, out, walk}
 use Rattle.lists.specs.Window.{window}
 use Rattle.checks.specs.First.{first}
-use Rattle.checks.specs.declared.Checked.{Checked}
-use Rattle.checks.specs.declared.Checked.TheVariants.{Sound, Refused}
+use Rattle.checks.specs.First.{Checked}
 use Rattle.generator_action.specs.Generator.{Generator}
 use Rattle.combination.specs.Call.{Call, ends, unless_refused}
 use Rattle.taylor_job.specs.Calls.{open_calls}
 use Rattle.krylov_job.specs.KrylovCall.{open_krylov_call}
 use Rattle.phi_solver.specs.Combine.{of_taylor, of_krylov, answering, combine}
-use Rattle.phi_solver.specs.declared.PhiAnswer.{PhiAnswer}
+use Rattle.phi_solver.specs.Combine.{PhiAnswer}
 use Rattle.schedule_checks.specs.declared.Stage.{Stage}
-use Rattle.schedule_checks.specs.declared.StagedAnswer.{StagedAnswer}
-use Rattle.schedule_checks.specs.declared.StagedAnswer.TheVariants.{Refusal, Staged}
-use Rattle.schedule_checks.specs.Schedule.{Schedule, stage, stages_of, schedule_checks, Progress, further_need, stage_checks, counted, settle}
+use Rattle.schedule_checks.specs.Schedule.{StagedAnswer, refused_at, Schedule, stage, stages_of, schedule_checks, Progress, further_need, stage_checks, counted, settle}
+use Rattle.checks.specs.Reasons.{refusal}
+use Rattle.checks.specs.declared.Reason.{Reason}
+use Rattle.std.specs.Prelude.{Ok, Err}
 
 unfoldable pub unless_stage_refused : Checked → ℕ → Progress → Turn Progress (Call StagedAnswer) → Turn Progress (Call StagedAnswer)
-unless_stage_refused (Refused k x) i p t = out (ends (Refusal k x (i + 1)) p.output p.memory)
-unless_stage_refused Sound i p t = t
+unless_stage_refused (Err r) i p t = out (ends (refused_at r (i + 1)) p.output p.memory)
+unless_stage_refused (Ok _) i p t = t
 
 -- the single call of a stage: w_0 is the field, and the further vectors are the next ones of the slice
 abbrev pub stage_call : Generator → Stage → List Float → Progress → Call PhiAnswer
@@ -36,7 +36,7 @@ stage_step g schedule further i p =
 
 -- ---- the whole
 unfoldable pub concluded : Turn Progress (Call StagedAnswer) → Call StagedAnswer
-concluded (on p) = ends (Staged p.report) p.output p.memory
+concluded (on p) = ends (Ok p.report) p.output p.memory
 concluded (out c) = c
 
 -- the start field is w_0 of stage 1
@@ -44,8 +44,8 @@ abbrev pub begun : List Float → List Float → List Float → Progress
 begun start output memory = record { field = start; output = output; memory = memory; used = 0; report = record { applications = 0; substeps = 0; rejected = 0 } }
 
 -- refused before any stage: 1 to 11, then 37
-abbrev pub before_stages : ℕ → Float → StagedAnswer
-before_stages k x = Refusal k x 0
+abbrev pub before_stages : Reason → Float → StagedAnswer
+before_stages k x = refused_at (refusal k x) 0
 
 unfoldable pub staged : Generator → Schedule → List Float → List Float → List Float → List Float → Call StagedAnswer
 staged g schedule start further output memory =

@@ -3,7 +3,7 @@
 
 ghost use Rattle.std.specs.Prelude.{◌≡◌, List, ◌++◌, ◌+◌, ◌-◌, ◌*◌, ◌≤◌, length};
 ghost use Rattle.checks.specs.First.{Check, first};
-ghost use Rattle.checks.specs.declared.Checked.TheVariants.{Sound};
+ghost use Rattle.checks.specs.Reasons.{Sound};
 ghost use Rattle.general_operator.specs.Csr.{csr};
 ghost use Rattle.generator_action.specs.Mass.{given};
 ghost use Rattle.generator_action.specs.Known.{Passed};
@@ -14,15 +14,16 @@ ghost use Rattle.taylor_job.specs.Calls.{phi_combination};
 ghost use Rattle.krylov_job.specs.KrylovCall.{phi_combination_krylov};
 ghost use Rattle.phi_solver.specs.Combine.{combine};
 ghost use Rattle.schedule_checks.specs.Schedule.{time_checks_of};
-ghost use Rattle.schedule_checks.specs.Inner.{field_of};
+ghost use Rattle.combination.specs.Combination.{field_of};
 ghost use Rattle.stage_calls.specs.Inner.{Whole, stage_end};
 
-use checks::Checked;
+use checks::Refusal;
 use generator_action::Shape;
-use krylov_job::{KrylovAnswer, KrylovPhiOptions};
-use phi_solver::{PhiAnswer, PhiSolver};
+use krylov_advance::KrylovPhiReport;
+use krylov_job::KrylovPhiOptions;
+use phi_solver::{PhiReport, PhiSolver};
 use schedule_checks::Stage;
-use taylor_job::TaylorAnswer;
+use taylor_job::TaylorReport;
 
 // A Taylor stage whose 12 to 16 have passed.
 fn taylor_stage(
@@ -39,21 +40,14 @@ fn taylor_stage(
     vectors: &[f64],
     out: &mut [f64],
     work: &mut [f64],
-) -> TaylorAnswer
+) -> Result<TaylorReport, Refusal>
     requires passed { Passed (csr g.n starts.now cols.now vals.now) (given g.with_mass mass.now) g }
     requires whole { Whole g.n count (length (field_of initial start.now out.old)) (length vectors.now) (length out.old) × (Sound ≡ first (plan_checks tau cap)) }
     ensures { (gs : List Check) → Sound ≡ first gs → ends result out.new work.new ≡ phi_combination (after_checks gs (csr g.n starts.now cols.now vals.now) (given g.with_mass mass.now) g) tau cap count (field_of initial start.now out.old ++ vectors.now) out.old work.old }
 {
-    let finite = stage_checks::check_field(initial, start, out, vectors);
-    let Checked::Sound = finite else {
-        return TaylorAnswer::Refusal(checks::number(finite), checks::reported(finite));
-    };
+    stage_checks::check_field(initial, start, out, vectors)?;
     let d = count - 1;
-    let j = admission::admit_combination(g, tau, cap, d, vectors, work.len());
-    let checked = j.checked;
-    let Checked::Sound = checked else {
-        return TaylorAnswer::Refusal(checks::number(checked), checks::reported(checked));
-    };
+    let j = admission::admit_combination(g, tau, cap, d, vectors, work.len())?;
     stage_turns::start_field(initial, start, out, g.n, d, j.inv, work, 0);
     taylor_job::run_job(starts, cols, vals, mass, vectors, out, work, j)
 }
@@ -73,23 +67,16 @@ fn krylov_stage(
     vectors: &[f64],
     out: &mut [f64],
     work: &mut [f64],
-) -> KrylovAnswer
+) -> Result<KrylovPhiReport, Refusal>
     requires passed { Passed (csr g.n starts.now cols.now vals.now) (given g.with_mass mass.now) g }
     requires whole { Whole g.n count (length (field_of initial start.now out.old)) (length vectors.now) (length out.old) × (Sound ≡ first (time_checks tau)) }
     ensures { (gs : List Check) → Sound ≡ first gs → ends result out.new work.new ≡ phi_combination_krylov (after_checks gs (csr g.n starts.now cols.now vals.now) (given g.with_mass mass.now) g) tau count (field_of initial start.now out.old ++ vectors.now) o out.old work.old }
 {
     let d = count - 1;
     let m = krylov_job::clamp_m(o.m, g.n + d);
-    let finite = stage_checks::check_field(initial, start, out, vectors);
-    let early = combination::and_then(finite, krylov_job::check_options(o, m));
-    let Checked::Sound = early else {
-        return KrylovAnswer::Refusal(checks::number(early), checks::reported(early));
-    };
-    let j = krylov_job::admit_run(g, tau, d, vectors, None, o, m, work.len());
-    let checked = j.checked;
-    let Checked::Sound = checked else {
-        return KrylovAnswer::Refusal(checks::number(checked), checks::reported(checked));
-    };
+    stage_checks::check_field(initial, start, out, vectors)?;
+    krylov_job::check_options(o, m)?;
+    let j = krylov_job::admit_run(g, tau, d, vectors, None, o, m, work.len())?;
     stage_turns::start_field(initial, start, out, g.n, d, j.eta.inv, work, j.k.y);
     krylov_run::run_job(starts, cols, vals, mass, vectors, out, work, j)
 }
@@ -107,7 +94,7 @@ fn stage_call(
     vectors: &[f64],
     out: &mut [f64],
     work: &mut [f64],
-) -> PhiAnswer
+) -> Result<PhiReport, Refusal>
     requires passed { Passed (csr g.n starts.now cols.now vals.now) (given g.with_mass mass.now) g }
     requires whole { Whole g.n s.count (length (field_of initial start.now out.old)) (length vectors.now) (length out.old) × (Sound ≡ first (time_checks_of s.solver s.tau)) }
     ensures { (gs : List Check) → Sound ≡ first gs → ends result out.new work.new ≡ combine s.solver (after_checks gs (csr g.n starts.now cols.now vals.now) (given g.with_mass mass.now) g) s.tau s.count (field_of initial start.now out.old ++ vectors.now) out.old work.old }
@@ -140,17 +127,14 @@ pub fn run_stage(
     further: &[f64],
     out: &mut [f64],
     work: &mut [f64],
-) -> PhiAnswer
+) -> Result<PhiReport, Refusal>
     requires passed { Passed (csr g.n starts.now cols.now vals.now) (given g.with_mass mass.now) g }
     requires used_bound { used ≤ 192000000 }
     ensures { (gs : List Check) → Sound ≡ first gs → ends result out.new work.new ≡ stage_end (after_checks gs (csr g.n starts.now cols.now vals.now) (given g.with_mass mass.now) g) s last used further.now (field_of initial start.now out.old) out.old work.old }
 {
     let n = g.n;
     let field = stage_turns::field_length(initial, start.len(), out.len());
-    let checked = stage_checks::check_stage(n, s, last, out.len(), field, used, further.len());
-    let Checked::Sound = checked else {
-        return PhiAnswer::Refusal(checks::number(checked), checks::reported(checked));
-    };
+    stage_checks::check_stage(n, s, last, out.len(), field, used, further.len())?;
     let to = used + (s.count - 1) * n;
     let vectors = &further[used..to];
     stage_call(

@@ -5,9 +5,10 @@ ghost use Rattle.std.specs.Prelude.{◌≡◌, ◌&&◌, ◌++◌, ◌+◌, ◌-
 ghost use Rattle.checks.specs.First.{first};
 ghost use Rattle.combination.specs.Checks.{finite_checks};
 ghost use Rattle.schedule_checks.specs.Schedule.{solver_of, stage, wrong_slice, time_checks_of, stage_checks};
-ghost use Rattle.schedule_checks.specs.Inner.{schedule_of, field_of};
+ghost use Rattle.schedule_checks.specs.Inner.{schedule_of};
+ghost use Rattle.combination.specs.Combination.{field_of};
 
-use checks::Checked;
+use checks::{Checked, Reason, Refusal};
 use krylov_job::KrylovPhiOptions;
 use phi_solver::PhiSolver;
 use schedule_checks::Stage;
@@ -64,10 +65,7 @@ fn wrong_slice(need: usize, last: bool, used: usize, further: usize) -> bool
     ensures { result ≡ wrong_slice need last used further }
 {
     let to = used + need;
-    if further < to {
-        return true;
-    }
-    last && to < further
+    further < to || (last && to < further)
 }
 
 // 12 to 16 of a stage, of the lengths handed in.
@@ -83,33 +81,24 @@ pub fn check_stage(
     requires { (n ≤ 1000000) × (used ≤ 192000000) }
     ensures { result ≡ first (stage_checks n s last output field used further) }
 {
-    let vectors = combination::check_count(s.count);
-    let Checked::Sound = vectors else {
-        return vectors;
-    };
+    combination::check_count(s.count)?;
     let solver = s.solver;
-    let time = check_time_of(solver, s.tau);
-    let Checked::Sound = time else {
-        return time;
-    };
-    let lengths = vector_checks::check_lengths(output, n, field, n);
-    let Checked::Sound = lengths else {
-        return lengths;
-    };
+    check_time_of(solver, s.tau)?;
+    vector_checks::check_lengths(output, n, field, n)?;
     let need = (s.count - 1) * n;
     if wrong_slice(need, last, used, further) {
-        return Checked::Refused(16, float::count(further));
+        return Err(Refusal {
+            reason: Reason::VectorLength,
+            value: float::count(further),
+        });
     }
-    Checked::Sound
+    Ok(())
 }
 
 // 17 of w_0, which is the start field or the output's, and of the further vectors behind it.
 pub fn check_field(initial: bool, start: &[f64], out: &[f64], vectors: &[f64]) -> Checked
     ensures { result ≡ first (finite_checks (field_of initial start.now out.now ++ vectors.now)) }
 {
-    let behind = vector_checks::check_finite(vectors);
-    if initial {
-        return combination::and_then(vector_checks::check_finite(start), behind);
-    }
-    combination::and_then(vector_checks::check_finite(out), behind)
+    vector_checks::check_finite(vector_checks::field_of(initial, start, out))?;
+    vector_checks::check_finite(vectors)
 }

@@ -7,10 +7,12 @@ ghost use Rattle.checks.specs.First.{first};
 ghost use Rattle.combination.specs.Combination.{combination_start};
 ghost use Rattle.combination.specs.Call.{ends};
 ghost use Rattle.schedule_checks.specs.Schedule.{stage, settle};
-ghost use Rattle.schedule_checks.specs.Inner.{field_of, turn_at, Few, Counted, Moderate, counted_by};
+ghost use Rattle.schedule_checks.specs.Inner.{turn_at, Few, Counted, Moderate, counted_by};
+ghost use Rattle.combination.specs.Combination.{field_of};
 
-use phi_solver::PhiAnswer;
-use schedule_checks::{SoFar, StageTurn, StagedReport};
+use checks::Refusal;
+use phi_solver::PhiReport;
+use schedule_checks::{SoFar, StageRefusal, StagedReport};
 
 // The first field of a stage's run, from place `at` of the lent memory on.
 pub fn start_field(
@@ -61,21 +63,35 @@ fn counted(p: SoFar, need: usize, applications: u64, substeps: u64, rejected: u6
 }
 
 // A refusal ends the soak and names stage i + 1; Taylor has no substeps and rejects nothing.
-pub fn settle(i: usize, p: SoFar, n: usize, count: usize, answer: PhiAnswer) -> StageTurn
+pub fn settle(
+    i: usize,
+    p: SoFar,
+    n: usize,
+    count: usize,
+    answer: Result<PhiReport, Refusal>,
+) -> Result<SoFar, StageRefusal>
     requires { (i ≤ 63) × Counted i p × (n ≤ 1000000) × Few count answer }
     ensures memory_value { (output memory : List Float) → turn_at result output output memory ≡ settle i (p.used + (count - 1) * n) p.report (ends answer output memory) answer }
     ensures moderate { Moderate (i + 1) result }
 {
-    match answer {
-        PhiAnswer::Refusal(k, x) => StageTurn::Ended(k, x, i as u32 + 1),
-        PhiAnswer::Taylor(t) => {
-            let need = (count - 1) * n;
-            StageTurn::On(counted(p, need, t.applications, 0, 0))
+    let report = match answer {
+        Err(refusal) => {
+            return Err(StageRefusal {
+                refusal,
+                stage: i as u32 + 1,
+            });
         }
-        PhiAnswer::Krylov(t) => {
+        Ok(report) => report,
+    };
+    match report {
+        PhiReport::Taylor(t) => {
+            let need = (count - 1) * n;
+            Ok(counted(p, need, t.applications, 0, 0))
+        }
+        PhiReport::Krylov(t) => {
             let need = (count - 1) * n;
             let applications = t.matvecs as u64;
-            StageTurn::On(counted(p, need, applications, t.substeps as u64, t.rejected as u64))
+            Ok(counted(p, need, applications, t.substeps as u64, t.rejected as u64))
         }
     }
 }

@@ -8,8 +8,7 @@ use lib.ListN.{length}
 use lib.Ieee.{Float}
 use Rattle.lists.proofs.Bounds.{product_within}
 use Rattle.checks.specs.First.{first}
-use Rattle.checks.specs.declared.Checked.{Checked}
-use Rattle.checks.specs.declared.Checked.TheVariants.{Sound, Refused}
+use Rattle.checks.specs.First.{Checked}
 use Rattle.checks.proofs.First.{sound_append}
 use Rattle.general_operator.specs.Csr.{Csr, row_sum_norm}
 use Rattle.generator_action.specs.Mass.{Mass, generator_checks, quotients}
@@ -20,19 +19,17 @@ use Rattle.combination.specs.Call.{Call, unless_refused}
 use Rattle.combination.specs.Checks.{vector_checks_by}
 use Rattle.taylor_job.specs.Calls.{phi_combination}
 use Rattle.taylor_job.specs.declared.TaylorReport.{TaylorReport}
-use Rattle.taylor_job.specs.declared.TaylorAnswer.{TaylorAnswer}
-use Rattle.taylor_job.specs.declared.TaylorAnswer.TheVariants as taylor
+use Rattle.taylor_job.specs.Calls.{TaylorAnswer}
 use Rattle.krylov_advance.specs.Run.{clamp_m}
 use Rattle.krylov_advance.specs.declared.KrylovPhiReport.{KrylovPhiReport}
 use Rattle.krylov_job.specs.KrylovCall.{dimension, option_checks, krylov_checks_by, krylov_checks, phi_combination_krylov}
 use Rattle.phi_solver.specs.Combine.{of_taylor, of_krylov, answering, combine}
 use Rattle.krylov_job.specs.declared.KrylovPhiOptions.{KrylovPhiOptions}
-use Rattle.krylov_job.specs.declared.KrylovAnswer.{KrylovAnswer}
-use Rattle.krylov_job.specs.declared.KrylovAnswer.TheVariants as krylov
+use Rattle.krylov_job.specs.KrylovCall.{KrylovAnswer}
 use Rattle.phi_solver.specs.declared.PhiSolver.{PhiSolver}
 use Rattle.phi_solver.specs.declared.PhiSolver.TheVariants as solver
-use Rattle.phi_solver.specs.declared.PhiAnswer.{PhiAnswer}
-use Rattle.phi_solver.specs.declared.PhiAnswer.TheVariants as phi
+use Rattle.phi_solver.specs.Combine.{PhiAnswer}
+use Rattle.phi_solver.specs.declared.PhiReport.TheVariants as phi
 use Rattle.krylov_job.proofs.Calls.{options_known}
 use Rattle.demand_3.proofs.Demand3.{demand_3}
 use Rattle.schedule_checks.specs.declared.Stage.{Stage}
@@ -40,22 +37,24 @@ use Rattle.schedule_checks.specs.Schedule.{stage_checks}
 use Rattle.schedule_checks.specs.Inner.{Few}
 use Rattle.stage_calls.specs.Inner.{stage_end}
 use Rattle.schedule_checks.proofs.Checks.{stage_known}
+use Rattle.checks.specs.Reasons.{Sound, Refused}
+use Rattle.std.specs.Prelude.{Ok, Err}
 
 -- an accepted call has passed its checks
-krylov_passed : (x : Checked) (output memory : List Float) (end : Call KrylovAnswer) {r : KrylovPhiReport} → (unless_refused krylov.Refusal x output memory end).answer ≡ krylov.Result r → x ≡ Sound
+krylov_passed : (x : Checked) (output memory : List Float) (end : Call KrylovAnswer) {r : KrylovPhiReport} → (unless_refused Refused x output memory end).answer ≡ Ok r → x ≡ Sound
 unfolding unless_refused
-krylov_passed Sound output memory end e = refl
-krylov_passed (Refused k x) output memory end e = let z : zero ≡ 1 = cc in absurd (omega (arith, z))
+krylov_passed (Ok _) output memory end e = refl
+krylov_passed (Err r) output memory end e = let z : zero ≡ 1 = cc in absurd (omega (arith, z))
 
 module _ (a : Csr) (mass : Mass) (tau : Float) (count : ℕ) (w output memory : List Float) where
-  few_taylor : (cap : ℕ) {r : TaylorReport} → (phi_combination (forward a mass) tau cap count w output memory).answer ≡ taylor.Result r → r.applications ≤ 128849018850
+  few_taylor : (cap : ℕ) {r : TaylorReport} → (phi_combination (forward a mass) tau cap count w output memory).answer ≡ Ok r → r.applications ≤ 128849018850
   unfolding combination_operator
   few_taylor cap {r} e =
       let c = ((demand_3 a mass tau output memory).combination cap count w).accepted e in
       let b = plan_bounded cap tau (quotients a mass) (row_sum_norm (quotients a mass)) c.planned in
       omega (arith, c.counted, product_within 4294967295 30 b.s_most b.m_most)
 
-  few_options : (o : KrylovPhiOptions) {r : KrylovPhiReport} → (phi_combination_krylov (forward a mass) tau count w o output memory).answer ≡ krylov.Result r
+  few_options : (o : KrylovPhiOptions) {r : KrylovPhiReport} → (phi_combination_krylov (forward a mass) tau count w o output memory).answer ≡ Ok r
       → (dimension (quotients a mass).n (count - 1) o.m ≤ 128) × (o.max_substeps ≤ 1000000)
   unfolding phi_combination_krylov krylov_checks krylov_checks_by
   few_options o e =
@@ -64,7 +63,7 @@ module _ (a : Csr) (mass : Mass) (tau : Float) (count : ℕ) (w output memory : 
       let v = sound_append (vector_checks_by _ _ count w) _ c.1 in
       options_known o _ refl (sound_append (option_checks o (dimension (quotients a mass).n (count - 1) o.m)) _ v.1).0
 
-  few_krylov : (o : KrylovPhiOptions) {r : KrylovPhiReport} → (phi_combination_krylov (forward a mass) tau count w o output memory).answer ≡ krylov.Result r
+  few_krylov : (o : KrylovPhiOptions) {r : KrylovPhiReport} → (phi_combination_krylov (forward a mass) tau count w o output memory).answer ≡ Ok r
       → (r.matvecs ≤ 129000000) × (r.substeps ≤ 1000000) × (r.rejected ≤ 10000000)
   unfolding dimension clamp_m
   few_krylov o {r} e =
@@ -79,13 +78,13 @@ module _ (a : Csr) (mass : Mass) (tau : Float) (count : ℕ) (w output memory : 
   few_combined (solver.Taylor cap) l m = go (phi_combination (forward a mass) tau cap count w output memory).answer refl
     where
       go : (x : TaylorAnswer) → (phi_combination (forward a mass) tau cap count w output memory).answer ≡ x → Few count (of_taylor x)
-      go (taylor.Refusal k x) e = tt
-      go (taylor.Result r) e = (l, m, few_taylor cap e)
+      go (Err r) e = tt
+      go (Ok r) e = (l, m, few_taylor cap e)
   few_combined (solver.Krylov o) l m = go (phi_combination_krylov (forward a mass) tau count w o output memory).answer refl
     where
       go : (x : KrylovAnswer) → (phi_combination_krylov (forward a mass) tau count w o output memory).answer ≡ x → Few count (of_krylov x)
-      go (krylov.Refusal k x) e = tt
-      go (krylov.Result r) e = let f = few_krylov o e in (l, m, f.0, f.1, f.2)
+      go (Err r) e = tt
+      go (Ok r) e = let f = few_krylov o e in (l, m, f.0, f.1, f.2)
 
 -- of a stage that gave a result
 pub few_end : (a : Csr) (mass : Mass) (s : Stage) (last : Bool) (used : ℕ) (further field output memory : List Float) → Few s.count (stage_end (forward a mass) s last used further field output memory).answer
@@ -93,6 +92,6 @@ unfolding stage_end unless_refused
 few_end a mass s last used further field output memory = go (first (stage_checks (quotients a mass).n s last (length output) (length field) used (length further))) refl _ (λ l m. few_combined a mass s.tau s.count _ output memory s.solver l m)
   where
     go : (x : Checked) → first (stage_checks (quotients a mass).n s last (length output) (length field) used (length further)) ≡ x → (c : Call PhiAnswer) → (1 ≤ s.count → s.count ≤ 4 → Few s.count c.answer)
-        → Few s.count (unless_refused phi.Refusal x output memory c).answer
-    go (Refused k y) e c h = tt
-    go Sound e c h = let f = stage_known (quotients a mass).n s last (length output) (length field) used (length further) e refl in h f.some f.most
+        → Few s.count (unless_refused Refused x output memory c).answer
+    go (Err r) e c h = tt
+    go (Ok _) e c h = let f = stage_known (quotients a mass).n s last (length output) (length field) used (length further) e refl in h f.some f.most

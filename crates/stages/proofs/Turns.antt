@@ -1,39 +1,39 @@
 -- From stage to stage. Assumes nothing.
 use mathlib.Core.Path.{◌≡◌, refl, sym, ap, ◌∙◌}
 use mathlib.Core.List.{List, ◌++◌}
-use Prim.Native.Nat.{ℕ, ◌+◌, ◌-◌, ◌*◌, ◌≤◌}
+use Prim.Native.Nat.{ℕ, ◌+◌, ◌-◌, ◌*◌}
 use native.Mathlib.Omega.{arith}
 use lib.Dec.{eqb}
 use lib.ListN.{length}
 use lib.Ieee.{Float}
-use borrow.Author.Tests.{ne_eqb}
 use Rattle.lists.specs.Walk.{Turn, on, walk}
 use Rattle.lists.proofs.Walk.{Left, left_out}
 use Rattle.checks.specs.First.{first}
-use Rattle.checks.specs.declared.Checked.{Checked}
-use Rattle.checks.specs.declared.Checked.TheVariants.{Sound, Refused}
+use Rattle.checks.specs.First.{Checked}
 use Rattle.generator_action.specs.Generator.{Generator}
 use Rattle.combination.specs.Call.{Call, ends, unless_refused}
 use Rattle.combination.proofs.Ends.{refused_by, runs}
-use Rattle.phi_solver.specs.declared.PhiAnswer.{PhiAnswer}
-use Rattle.phi_solver.specs.declared.PhiAnswer.TheVariants as phi
+use Rattle.phi_solver.specs.Combine.{PhiAnswer}
+use Rattle.phi_solver.specs.declared.PhiReport.TheVariants as phi
 use Rattle.schedule_checks.specs.declared.Stage.{Stage}
-use Rattle.schedule_checks.specs.declared.StagedAnswer.{StagedAnswer}
-use Rattle.schedule_checks.specs.declared.StagedAnswer.TheVariants.{Refusal}
+use Rattle.schedule_checks.specs.declared.StageRefusal.{StageRefusal}
 use Rattle.schedule_checks.specs.declared.SoFar.{SoFar}
-use Rattle.schedule_checks.specs.declared.StageTurn.{StageTurn}
-use Rattle.schedule_checks.specs.declared.StageTurn.TheVariants.{On, Ended}
-use Rattle.schedule_checks.specs.Schedule.{Schedule, stage, stages_of, Progress, further_need, stage_checks, settle, schedule_checks}
+use Rattle.std.specs.Prelude.{Ok, Err}
+use Rattle.schedule_checks.specs.Schedule.{StagedAnswer, refused_at, Schedule, stage, stages_of, Progress, further_need, stage_checks, settle, schedule_checks}
 use Rattle.stage_calls.specs.Stages.{stage_call, unless_stage_refused, stage_step, concluded, begun, before_stages, staged}
-use Rattle.schedule_checks.specs.Inner.{field_of, turn_at}
+use Rattle.schedule_checks.specs.Inner.{StageTurn, turn_at}
+use Rattle.combination.specs.Combination.{field_of}
+use Rattle.combination.proofs.Further.{later_field}
 use Rattle.stage_calls.specs.Inner.{stage_end}
+use Rattle.checks.specs.Reasons.{refusal, Sound, Refused}
+use Rattle.checks.specs.declared.Reason.{Reason}
 
 -- ---- a refusal by a stage's own checks is told as one by its call
 by_checks : (i used : ℕ) (p : Progress) (c : Call PhiAnswer) (x : Checked)
-    → unless_stage_refused x i p (settle i used p.report c c.answer) ≡ settle i used p.report (unless_refused phi.Refusal x p.output p.memory c) (unless_refused phi.Refusal x p.output p.memory c).answer
+    → unless_stage_refused x i p (settle i used p.report c c.answer) ≡ settle i used p.report (unless_refused Refused x p.output p.memory c) (unless_refused Refused x p.output p.memory c).answer
 unfolding unless_stage_refused unless_refused settle
-by_checks i used p c (Refused k x) = refl
-by_checks i used p c Sound = refl
+by_checks i used p c (Err r) = refl
+by_checks i used p c (Ok _) = refl
 
 pub step_by : (g : Generator) (schedule : Schedule) (further : List Float) (i : ℕ) (p : Progress)
     → let s = stage schedule i in
@@ -45,9 +45,6 @@ step_by g schedule further i p =
     by_checks i (p.used + further_need g.matrix.n s) p (stage_call g s further p) (first (stage_checks g.matrix.n s (eqb (i + 1) (stages_of schedule)) (length p.output) (length p.field) p.used (length further)))
 
 -- ---- what one turn of the loop gives
-pub later_field : (i : ℕ) (start output : List Float) → 1 ≤ i → field_of (eqb i 0) start output ≡ output
-later_field i start output l = rw (ne_eqb i 0 (λ e. absurd (omega (arith, l, e)))) refl
-
 pub step_is : (g : Generator) (n : ℕ) → g.matrix.n ≡ n → (schedule : Schedule) (further start : List Float) (i : ℕ) (p : SoFar) (out₀ w₀ : List Float) {s : Stage} {answer : PhiAnswer} {out₁ w₁ : List Float} (t : StageTurn)
     → s ≡ stage schedule i
     → ends answer out₁ w₁ ≡ stage_end g s (eqb (i + 1) (stages_of schedule)) p.used further (field_of (eqb i 0) start out₀) out₀ w₀
@@ -65,11 +62,11 @@ step_is g n rows schedule further start i p out₀ w₀ {s} {answer} {out₁} {w
     ∙ sym (step_by g schedule further i P)
 
 -- ---- the ends of the loop
-pub turn_on : (t : StageTurn) (p : SoFar) (field output memory : List Float) → t ≡ On p → turn_at t field output memory ≡ on (record { field = field; output = output; memory = memory; used = p.used; report = p.report })
+pub turn_on : (t : StageTurn) (p : SoFar) (field output memory : List Float) → t ≡ Ok p → turn_at t field output memory ≡ on (record { field = field; output = output; memory = memory; used = p.used; report = p.report })
 unfolding turn_at
 turn_on t p field output memory e = ap (λ (x : StageTurn). turn_at x field output memory) e
 
-pub turn_ended : {step : ℕ → Progress → Turn Progress (Call StagedAnswer)} {n i : ℕ} {o₀ : Turn Progress (Call StagedAnswer)} (t : StageTurn) (field output memory : List Float) {k : ℕ} {x : Float} {j : ℕ} → t ≡ Ended k x j
+pub turn_ended : {step : ℕ → Progress → Turn Progress (Call StagedAnswer)} {n i : ℕ} {o₀ : Turn Progress (Call StagedAnswer)} (t : StageTurn) (field output memory : List Float) {e : StageRefusal} → t ≡ Err e
     → Left step n i o₀ (turn_at t field output memory)
     → turn_at t output output memory ≡ walk step n 0 o₀
 unfolding turn_at
@@ -77,7 +74,7 @@ turn_ended t field output memory e h = ap (λ (u : StageTurn). turn_at u output 
 
 -- ---- the whole
 module _ (g : Generator) (schedule : Schedule) (start further out₀ w₀ : List Float) {r : Checked} (told : r ≡ first (g.checks ++ schedule_checks schedule)) where
-  pub staged_refused : {k : ℕ} {x : Float} → r ≡ Refused k x → ends (Refusal k x 0) out₀ w₀ ≡ staged g schedule start further out₀ w₀
+  pub staged_refused : {k : Reason} {x : Float} → r ≡ Refused k x → ends (refused_at (refusal k x) 0) out₀ w₀ ≡ staged g schedule start further out₀ w₀
   unfolding staged
   staged_refused e = refused_by before_stages _ out₀ w₀ _ e told
 

@@ -4,7 +4,7 @@
 ghost use Rattle.std.specs.Prelude.{◌≡◌, List, ◌+◌, ◌-◌, length, Float};
 ghost use Rattle.lists.specs.Walk.{walk, on};
 ghost use Rattle.checks.specs.First.{first};
-ghost use Rattle.checks.specs.declared.Checked.TheVariants.{Sound};
+ghost use Rattle.checks.specs.Reasons.{Sound};
 ghost use Rattle.general_operator.specs.Csr.{csr};
 ghost use Rattle.generator_action.specs.Mass.{given, quotient_need, generator_checks};
 ghost use Rattle.generator_action.specs.Generator.{forward};
@@ -14,9 +14,8 @@ ghost use Rattle.schedule_checks.specs.Schedule.{schedule_checks};
 ghost use Rattle.stage_calls.specs.Stages.{stage_step, begun, concluded, staged};
 ghost use Rattle.schedule_checks.specs.Inner.{schedule_of, turn_at};
 
-use checks::Checked;
-use generator_action::{MatrixAnswer, Shape};
-use schedule_checks::{SoFar, StageTurn, StagedAnswer, StagedReport};
+use generator_action::Shape;
+use schedule_checks::{SoFar, StageRefusal, StagedReport};
 
 // The stages in order: the first starts from `start`, each other from what the one before it left in the output.
 fn run_stages(
@@ -36,7 +35,7 @@ fn run_stages(
     further: &[f64],
     out: &mut [f64],
     work: &mut [f64],
-) -> StageTurn
+) -> Result<SoFar, StageRefusal>
     requires passed { Passed (csr g.n starts.now cols.now vals.now) (given g.with_mass mass.now) g }
     requires value { (Sound ≡ first (generator_checks (csr g.n starts.now cols.now vals.now) (given g.with_mass mass.now))) × (g.stored ≡ quotient_need (csr g.n starts.now cols.now vals.now) (given g.with_mass mass.now)) }
     requires value_2 { Sound ≡ first (schedule_checks (schedule_of taus.now counts.now solvers.now degrees.now tols.now ms.now limits.now)) }
@@ -48,12 +47,13 @@ fn run_stages(
         substeps: 0,
         rejected: 0,
     };
-    let mut turn = StageTurn::On(SoFar {
+    let mut turn = Ok(SoFar {
         used: 0,
         report: none,
     });
+    // i is the stage's number: seven lists have a place for it, it tells the first and the last one, and stands in a refusal
     for i in 0..k {
-        let StageTurn::On(p) = turn else {
+        let Ok(p) = turn else {
             return turn;
         };
         let s = stage_checks::stage_at(i, taus, counts, solvers, degrees, tols, ms, limits);
@@ -77,16 +77,10 @@ fn run_stages(
     turn
 }
 
-fn conclude(turn: StageTurn) -> StagedAnswer
+fn conclude(turn: Result<SoFar, StageRefusal>) -> Result<StagedReport, StageRefusal>
     ensures { (field output memory : List Float) → ends result output memory ≡ concluded (turn_at turn field output memory) }
 {
-    match turn {
-        StageTurn::On(p) => {
-            let report = p.report;
-            StagedAnswer::Staged(report)
-        }
-        StageTurn::Ended(k, x, stage) => StagedAnswer::Refusal(k, x, stage),
-    }
+    Ok(turn?.report)
 }
 
 // A soak in stages over one matrix: `further` holds the further vectors of all stages in stage order, and the lists have one number for each stage.
@@ -108,23 +102,20 @@ pub fn stages(
     further: &[f64],
     out: &mut [f64],
     work: &mut [f64],
-) -> StagedAnswer
+) -> Result<StagedReport, StageRefusal>
     ensures { ends result out.new work.new ≡ staged (forward (csr n starts.now cols.now vals.now) (given with_mass mass.now)) (schedule_of taus.now counts.now solvers.now degrees.now tols.now ms.now limits.now) start.now further.now out.old work.old }
 {
     let matrix = generator_checks::check_generator(n, starts, cols, vals, with_mass, mass);
-    let MatrixAnswer::Norm(norm, _) = matrix else {
-        return StagedAnswer::Refusal(
-            generator_action::number(matrix),
-            generator_action::value(matrix),
-            0,
-        );
+    let norm = match matrix {
+        Err(refusal) => return Err(StageRefusal { refusal, stage: 0 }),
+        Ok(l) => l.norm,
     };
     let schedule = schedule_checks::check_schedule(
         taus, counts, solvers, degrees, tols, ms, limits,
     );
-    let Checked::Sound = schedule else {
-        return StagedAnswer::Refusal(checks::number(schedule), checks::reported(schedule), 0);
-    };
+    if let Err(refusal) = schedule {
+        return Err(StageRefusal { refusal, stage: 0 });
+    }
     let g = generator_action::generator_shape(n, with_mass, vals.len(), norm);
     conclude(run_stages(
         starts, cols, vals, mass, g, taus, counts, solvers, degrees, tols, ms, limits, start,

@@ -5,34 +5,33 @@ use Prim.Native.Nat.{ℕ}
 use lib.ListN.{length}
 use lib.Ieee.{Float}
 use Rattle.checks.specs.First.{Check, first}
-use Rattle.checks.specs.declared.Checked.{Checked}
-use Rattle.checks.specs.declared.Checked.TheVariants.{Sound, Refused}
+use Rattle.checks.specs.First.{Checked}
 use Rattle.checks.proofs.First.{sound_append}
 use Rattle.generator_action.specs.Generator.{Generator}
 use Rattle.combination.specs.Call.{Call, unless_refused}
 use Rattle.combination.specs.Checks.{count_checks, plan_checks, time_checks, vector_checks, vector_checks_by}
 use Rattle.taylor_schedule.proofs.Admitted.{Vectors, vectors_known}
 use Rattle.taylor_job.specs.Calls.{combination_checks, phi_combination}
-use Rattle.taylor_job.specs.declared.TaylorAnswer.{TaylorAnswer}
-use Rattle.taylor_job.specs.declared.TaylorAnswer.TheVariants as taylor
+use Rattle.taylor_job.specs.Calls.{TaylorAnswer}
 use Rattle.krylov_job.specs.KrylovCall.{krylov_checks, krylov_checks_by, phi_combination_krylov}
 use Rattle.phi_solver.specs.Combine.{of_taylor, of_krylov, answering, combine}
-use Rattle.krylov_job.specs.declared.KrylovAnswer.{KrylovAnswer}
-use Rattle.krylov_job.specs.declared.KrylovAnswer.TheVariants as krylov
+use Rattle.krylov_job.specs.KrylovCall.{KrylovAnswer}
 use Rattle.phi_solver.specs.declared.PhiSolver.{PhiSolver}
 use Rattle.phi_solver.specs.declared.PhiSolver.TheVariants as solver
 use Rattle.schedule_checks.specs.Schedule.{time_checks_of}
 use Rattle.stages_claims.specs.Ran.{Gave}
+use Rattle.checks.specs.Reasons.{Sound, Refused}
+use Rattle.std.specs.Prelude.{Ok, Err}
 
-taylor_passed : (x : Checked) (output memory : List Float) (end : Call TaylorAnswer) → Gave (of_taylor (unless_refused taylor.Refusal x output memory end).answer) → x ≡ Sound
+taylor_passed : (x : Checked) (output memory : List Float) (end : Call TaylorAnswer) → Gave (of_taylor (unless_refused Refused x output memory end).answer) → x ≡ Sound
 unfolding unless_refused of_taylor
-taylor_passed Sound output memory end h = refl
-taylor_passed (Refused k x) output memory end h = absurd h
+taylor_passed (Ok _) output memory end h = refl
+taylor_passed (Err r) output memory end h = absurd h
 
-krylov_passed : (x : Checked) (output memory : List Float) (end : Call KrylovAnswer) → Gave (of_krylov (unless_refused krylov.Refusal x output memory end).answer) → x ≡ Sound
+krylov_passed : (x : Checked) (output memory : List Float) (end : Call KrylovAnswer) → Gave (of_krylov (unless_refused Refused x output memory end).answer) → x ≡ Sound
 unfolding unless_refused of_krylov
-krylov_passed Sound output memory end h = refl
-krylov_passed (Refused k x) output memory end h = absurd h
+krylov_passed (Ok _) output memory end h = refl
+krylov_passed (Err r) output memory end h = absurd h
 
 -- 1 to 11, 12 to 16
 pub record Taken (s : PhiSolver) (g : Generator) (tau : Float) (count long output : ℕ) : Type 0 where

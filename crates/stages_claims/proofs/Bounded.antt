@@ -11,21 +11,20 @@ use Rattle.generator_action.specs.Mass.{Mass}
 use Rattle.generator_action.specs.Generator.{Generator, forward}
 use Rattle.combination.specs.Combination.{combination_operator}
 use Rattle.taylor_job.specs.Calls.{phi_combination}
-use Rattle.taylor_job.specs.declared.TaylorAnswer.{TaylorAnswer}
-use Rattle.taylor_job.specs.declared.TaylorAnswer.TheVariants as taylor
+use Rattle.taylor_job.specs.Calls.{TaylorAnswer}
 use Rattle.krylov_job.specs.KrylovCall.{phi_combination_krylov}
 use Rattle.phi_solver.specs.Combine.{of_taylor, of_krylov, answering, combine}
-use Rattle.krylov_job.specs.declared.KrylovAnswer.{KrylovAnswer}
-use Rattle.krylov_job.specs.declared.KrylovAnswer.TheVariants as krylov
+use Rattle.krylov_job.specs.KrylovCall.{KrylovAnswer}
 use Rattle.phi_solver.specs.declared.PhiSolver.{PhiSolver}
 use Rattle.phi_solver.specs.declared.PhiSolver.TheVariants as solver
-use Rattle.phi_solver.specs.declared.PhiAnswer.{PhiAnswer}
+use Rattle.phi_solver.specs.Combine.{PhiAnswer}
 use Rattle.demand_3.specs.Demand3.{Demand3}
 use Rattle.demand_3.proofs.Demand3.{demand_3}
 use Rattle.schedule_checks.specs.Schedule.{Schedule}
 use Rattle.stages_claims.specs.Ran.{solver_at, count_at, Gave, substeps_of, rejected_of, total, call_at, Ran}
 use Rattle.stages_claims.specs.Bounds.{BoundedBy, Bounds}
 use Rattle.stages_claims.proofs.Reached.{total_snoc}
+use Rattle.std.specs.Prelude.{Ok, Err}
 
 -- ---- one call, of a generator that demand 3 holds of
 module _ (g : Generator) (demand : (tau : Float) (output memory : List Float) → Demand3 g tau output memory) where
@@ -34,15 +33,15 @@ module _ (g : Generator) (demand : (tau : Float) (output memory : List Float) �
   call_bounded (solver.Taylor cap) tau count w output memory h = go (phi_combination g tau cap count w output memory).answer refl h
     where
       go : (x : TaylorAnswer) → (phi_combination g tau cap count w output memory).answer ≡ x → Gave (of_taylor x) → BoundedBy (solver.Taylor cap) g tau count (of_taylor x)
-      go (taylor.Refusal k x) e h = absurd h
-      go (taylor.Result r) e h =
+      go (Err r) e h = absurd h
+      go (Ok r) e h =
           let c = ((demand tau output memory).combination cap count w).accepted e in
           (refl, refl, λ j l f. le_trans (le_of_eq (c.counted ∙ one-mul (r.s * r.m))) (c.least j l f))
   call_bounded (solver.Krylov o) tau count w output memory h = go (phi_combination_krylov g tau count w o output memory).answer refl h
     where
       go : (x : KrylovAnswer) → (phi_combination_krylov g tau count w o output memory).answer ≡ x → Gave (of_krylov x) → BoundedBy (solver.Krylov o) g tau count (of_krylov x)
-      go (krylov.Refusal k x) e h = absurd h
-      go (krylov.Result r) e h = let c = ((demand tau output memory).krylov count w o e).counted in (c.few_substeps, c.few_applications, c.few_rejections)
+      go (Err r) e h = absurd h
+      go (Ok r) e h = let c = ((demand tau output memory).krylov count w o e).counted in (c.few_substeps, c.few_applications, c.few_rejections)
 
   -- ---- all stages
   module _ (s : Schedule) (start further output memory : List Float) where

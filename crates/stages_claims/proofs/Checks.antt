@@ -8,7 +8,6 @@ use lib.Dec.{eqb, ltb}
 use lib.Ieee.{Float, nan}
 use borrow.Author.Tests.{eq-eqb, ne_eqb, ltb-false, le-ltb}
 use Rattle.checks.specs.First.{refuse, first}
-use Rattle.checks.specs.declared.Checked.TheVariants.{Sound}
 use Rattle.checks.proofs.First.{sound_cons, sound_append, sound_on, passes, ends_sound}
 use Rattle.doubles.specs.F64.{nat}
 use Rattle.general_operator.proofs.Sound.{or_false}
@@ -21,6 +20,8 @@ use Rattle.schedule_checks.specs.Schedule.{Schedule, stages_of, schedule_checks,
 use Rattle.schedule_checks.specs.Inner.{Even}
 use Rattle.schedule_checks.proofs.Checks.{schedule_known, count_sound, lengths_sound, stage_known}
 use Rattle.stages_claims.specs.Passing.{Timed, Passing}
+use Rattle.checks.specs.Reasons.{Sound}
+use Rattle.checks.specs.declared.Reason.TheVariants.{TauRange, VectorLength, DegreeRange, StageCount}
 
 -- ---- 37 passes exactly where there are 1 to 64 stages and all seven lists have a number for each
 pub schedule_passes : (s : Schedule) → (Sound ≡ first (schedule_checks s) → Even s) × (Even s → Sound ≡ first (schedule_checks s))
@@ -28,7 +29,7 @@ unfolding schedule_checks
 schedule_passes s = (
   λ e. schedule_known s refl e,
   λ h. let k = stages_of s in
-      passes 37 nan []
+      passes StageCount nan []
       (rw (ne_eqb k 0 (λ z. absurd (omega (arith, h.some, z))), le-ltb 64 k h.most, eq-eqb _ k h.counts, eq-eqb _ k h.solvers, eq-eqb _ k h.degrees, eq-eqb _ k h.tols, eq-eqb _ k h.ms, eq-eqb _ k h.limits) refl) ends_sound,
 )
 
@@ -47,8 +48,8 @@ timed_known (Krylov o) tau e = (sound_cons _ _ _ _ e).0
 
 timed_sound : (s : PhiSolver) (tau : Float) → Timed s tau → Sound ≡ first (time_checks_of s tau)
 unfolding plan_checks time_checks degree_checks
-timed_sound (Taylor cap) tau h = passes 14 tau _ h.0 (passes 33 nan [] (rw (ne_eqb cap 0 (λ z. absurd (omega (arith, h.1, z))), le-ltb M_MAX cap h.2) refl) ends_sound)
-timed_sound (Krylov o) tau h = passes 14 tau [] h ends_sound
+timed_sound (Taylor cap) tau h = passes TauRange tau _ h.0 (passes DegreeRange nan [] (rw (ne_eqb cap 0 (λ z. absurd (omega (arith, h.1, z))), le-ltb M_MAX cap h.2) refl) ends_sound)
+timed_sound (Krylov o) tau h = passes TauRange tau [] h ends_sound
 
 pub slice_sound : (need : ℕ) (last : Bool) (used further : ℕ) → used + need ≤ further → (last ≡ true → used + need ≡ further) → wrong_slice need last used further ≡ false
 slice_sound need false used further h a = rw (le-ltb further (used + need) h) refl
@@ -66,7 +67,7 @@ stage_sound n s last output field used further h =
     sound_on (count_checks s.count) _ refl (count_sound h.some h.most)
     (sound_on (time_checks_of s.solver s.tau) _ refl (timed_sound s.solver s.tau h.timed)
     (sound_on (length_checks output n field n) _ refl (lengths_sound h.out h.fielded)
-    (passes 16 _ [] (slice_sound ((s.count - 1) * n) last used further h.within h.all) ends_sound)))
+    (passes VectorLength _ [] (slice_sound ((s.count - 1) * n) last used further h.within h.all) ends_sound)))
 
 pub stage_passing : (n : ℕ) (s : Stage) (last : Bool) (output field used further : ℕ) → Sound ≡ first (stage_checks n s last output field used further) → Passing n s last output field used further
 unfolding stage_checks
@@ -74,7 +75,7 @@ stage_passing n s last output field used further e =
     let k = stage_known n s last output field used further refl e in
     let c = sound_append (count_checks s.count) _ e in
     let t = sound_append (time_checks_of s.solver s.tau) _ c.1 in
-    let l = sound_append (length_checks output n field n) (refuse 16 (wrong_slice (further_need n s) last used further) (nat further) ∷ []) t.1 in
+    let l = sound_append (length_checks output n field n) (refuse VectorLength (wrong_slice (further_need n s) last used further) (nat further) ∷ []) t.1 in
     record {
       some = k.some;
       most = k.most;

@@ -11,14 +11,16 @@ use Rattle.generator_action.specs.Mass.{quotients}
 use Rattle.generator_action.specs.Generator.{forward}
 use Rattle.checks.specs.First.{first}
 use Rattle.combination.specs.Call.{Call, ends}
-use Rattle.phi_solver.specs.declared.PhiAnswer.{PhiAnswer}
-use Rattle.phi_solver.specs.declared.PhiAnswer.TheVariants as phi
+use Rattle.phi_solver.specs.Combine.{PhiAnswer}
+use Rattle.phi_solver.specs.declared.PhiReport.TheVariants as phi
 use Rattle.schedule_checks.specs.Inner.{schedule_of}
-use Rattle.schedule_checks.specs.Schedule.{Schedule, schedule_checks}
-use Rattle.schedule_checks.specs.declared.StagedAnswer.TheVariants.{Refusal, Staged}
+use Rattle.schedule_checks.specs.Schedule.{Schedule, schedule_checks, refused_at}
 use Rattle.stage_calls.specs.Stages.{staged, open_stages}
 use Rattle.stages_claims.specs.Ran.{vectors_before, Gave, total, call_at, Ran}
 use Rattle.stages_claims.proofs.Answers.{complete_result}
+use Rattle.checks.specs.Reasons.{refusal}
+use Rattle.checks.specs.declared.Reason.TheVariants.{RowStartsLength, VectorLength, SubstepLimit, StageCount}
+use Rattle.std.specs.Prelude.{Ok}
 
 abbrev empty : Csr
 empty = csr 1 (0 ∷ 0 ∷ []) [] []
@@ -28,22 +30,22 @@ abbrev three : Schedule
 three = schedule_of (replicate 3 1f) (replicate 3 2) (replicate 3 0) (replicate 3 30) (replicate 3 nan) (replicate 3 0) (replicate 3 0)
 
 -- a slice of one value is too short for stage 2: the field of stage 1, and its 3 + 2 doubles cleared; the sixth stays
-too_short : staged (forward empty none) three (1f ∷ []) (nat 2 ∷ []) (nat 7 ∷ []) (replicate 6 (nat 9)) ≡ ends (Refusal 16 (nat 1) 2) (nat 3 ∷ []) (replicate 5 +0 ++ (nat 9 ∷ []))
+too_short : staged (forward empty none) three (1f ∷ []) (nat 2 ∷ []) (nat 7 ∷ []) (replicate 6 (nat 9)) ≡ ends (refused_at (refusal VectorLength (nat 1)) 2) (nat 3 ∷ []) (replicate 5 +0 ++ (nat 9 ∷ []))
 unfolding open_stages
 too_short = refl
 
 -- a slice of four is too long for the three, told at the last
-too_long : staged (forward empty none) three (1f ∷ []) (nat 2 ∷ nat 3 ∷ nat 4 ∷ nat 5 ∷ []) (nat 7 ∷ []) (replicate 6 (nat 9)) ≡ ends (Refusal 16 (nat 4) 3) (nat 6 ∷ []) (replicate 5 +0 ++ (nat 9 ∷ []))
+too_long : staged (forward empty none) three (1f ∷ []) (nat 2 ∷ nat 3 ∷ nat 4 ∷ nat 5 ∷ []) (nat 7 ∷ []) (replicate 6 (nat 9)) ≡ ends (refused_at (refusal VectorLength (nat 4)) 3) (nat 6 ∷ []) (replicate 5 +0 ++ (nat 9 ∷ []))
 unfolding open_stages
 too_long = refl
 
 -- a matrix of no rows: refused before any stage
-no_rows : staged (forward (csr 0 (0 ∷ []) [] []) none) three (1f ∷ []) (nat 2 ∷ []) (nat 7 ∷ []) (replicate 6 (nat 9)) ≡ ends (Refusal 1 (nat 1) 0) (nat 7 ∷ []) (replicate 6 (nat 9))
+no_rows : staged (forward (csr 0 (0 ∷ []) [] []) none) three (1f ∷ []) (nat 2 ∷ []) (nat 7 ∷ []) (replicate 6 (nat 9)) ≡ ends (refused_at (refusal RowStartsLength (nat 1)) 0) (nat 7 ∷ []) (replicate 6 (nat 9))
 unfolding open_stages
 no_rows = refl
 
 -- no stages: 37, before any
-no_stages : staged (forward empty none) (schedule_of [] [] [] [] [] [] []) (1f ∷ []) [] (nat 7 ∷ []) (replicate 6 (nat 9)) ≡ ends (Refusal 37 nan 0) (nat 7 ∷ []) (replicate 6 (nat 9))
+no_stages : staged (forward empty none) (schedule_of [] [] [] [] [] [] []) (1f ∷ []) [] (nat 7 ∷ []) (replicate 6 (nat 9)) ≡ ends (refused_at (refusal StageCount nan) 0) (nat 7 ∷ []) (replicate 6 (nat 9))
 unfolding open_stages
 no_stages = refl
 
@@ -66,7 +68,7 @@ small = bits 0x3f70000000000000
 
 -- the second stage is refused during its run: 27, with its first substep's field, and what it needed cleared
 limited : staged (forward four none) (schedule_of (+0 ∷ 1f ∷ []) (1 ∷ 2 ∷ []) (0 ∷ 1 ∷ []) (30 ∷ 0 ∷ []) (nan ∷ hundredth ∷ []) (0 ∷ 3 ∷ []) (0 ∷ 1 ∷ [])) start heating (replicate 4 +0) (replicate 60 (nat 9))
-    ≡ ends (Refusal 27 (bits 0x3e620310ebf08c7b) 2) (bits 0xc001b9196788d1dc ∷ bits 0x3fff7a32475dbb61 ∷ bits 0x3fe02723fdd5eb38 ∷ bits 0xc004a90a6aa9d7d8 ∷ []) (replicate 59 +0 ++ (nat 9 ∷ []))
+    ≡ ends (refused_at (refusal SubstepLimit (bits 0x3e620310ebf08c7b)) 2) (bits 0xc001b9196788d1dc ∷ bits 0x3fff7a32475dbb61 ∷ bits 0x3fe02723fdd5eb38 ∷ bits 0xc004a90a6aa9d7d8 ∷ []) (replicate 59 +0 ++ (nat 9 ∷ []))
 unfolding open_stages
 limited = refl
 
@@ -88,10 +90,10 @@ abbrev after_both : List Float
 after_both = replicate 59 +0 ++ (nat 9 ∷ [])
 
 abbrev warmed : PhiAnswer
-warmed = phi.Krylov (record { matvecs = 12; substeps = 3; rejected = 1; est_error = bits 0x3f78892100e98bcf; shortest = bits 0x3f9fbe76c8b43958; last = bits 0x3fdb74bc6a7ef9da })
+warmed = Ok (phi.Krylov (record { matvecs = 12; substeps = 3; rejected = 1; est_error = bits 0x3f78892100e98bcf; shortest = bits 0x3f9fbe76c8b43958; last = bits 0x3fdb74bc6a7ef9da }))
 
 abbrev cooled : PhiAnswer
-cooled = phi.Taylor (record { s = 3; m = 20; mu = +0; applications = 60 })
+cooled = Ok (phi.Taylor (record { s = 3; m = 20; mu = +0; applications = 60 }))
 
 warm_up : call_at (forward four none) both start (heating ++ cooling) (replicate 4 +0) (replicate 60 (nat 9)) 0 start (replicate 4 +0) (replicate 60 (nat 9)) ≡ ends warmed warm after_both
 unfolding vectors_before open_stages
@@ -102,7 +104,7 @@ unfolding vectors_before open_stages
 cool_down = refl
 
 -- 12 and 60 products, 3 substeps and 1 rejection
-two_solvers : staged (forward four none) both start (heating ++ cooling) (replicate 4 +0) (replicate 60 (nat 9)) ≡ ends (Staged (record { applications = 72; substeps = 3; rejected = 1 })) cool after_both
+two_solvers : staged (forward four none) both start (heating ++ cooling) (replicate 4 +0) (replicate 60 (nat 9)) ≡ ends (Ok (record { applications = 72; substeps = 3; rejected = 1 })) cool after_both
 unfolding Ran vectors_before total quotients
 two_solvers =
     complete_result (forward four none) both start (heating ++ cooling) (replicate 4 +0) (replicate 60 (nat 9)) _ cool after_both

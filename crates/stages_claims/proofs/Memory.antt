@@ -11,26 +11,25 @@ use lib.ListN.{get_or}
 use lib.Ieee.{Float, nan}
 use borrow.Author.Tests.{ltb-true, ltb-false}
 use Rattle.lists.proofs.Window.{splice_nil}
-use Rattle.checks.specs.declared.Checked.{Checked}
-use Rattle.checks.specs.declared.Checked.TheVariants.{Sound, Refused}
+use Rattle.checks.specs.First.{Checked}
 use Rattle.generator_action.specs.Generator.{Generator}
 use Rattle.phi_action_helpers.specs.declared.SweepPlan.{SweepPlan}
 use Rattle.combination.specs.Call.{Call, unless_refused, cleared}
 use Rattle.combination.proofs.Cleared.{cleared_less, cleared_more}
 use Rattle.taylor_job.specs.Calls.{Fields, after_plan, combination_run, phi_combination}
-use Rattle.taylor_job.specs.declared.TaylorAnswer.{TaylorAnswer}
-use Rattle.taylor_job.specs.declared.TaylorAnswer.TheVariants as taylor
+use Rattle.taylor_job.specs.Calls.{TaylorAnswer}
 use Rattle.krylov_advance.specs.Run.{End, finished, refused}
 use Rattle.krylov_job.specs.KrylovCall.{after_run, combination_run_krylov, phi_combination_krylov}
 use Rattle.phi_solver.specs.Combine.{of_taylor, of_krylov, answering, combine}
-use Rattle.krylov_job.specs.declared.KrylovAnswer.{KrylovAnswer}
-use Rattle.krylov_job.specs.declared.KrylovAnswer.TheVariants as krylov
+use Rattle.krylov_job.specs.KrylovCall.{KrylovAnswer}
 use Rattle.phi_solver.specs.declared.PhiSolver.{PhiSolver}
 use Rattle.phi_solver.specs.declared.PhiSolver.TheVariants as solver
-use Rattle.phi_solver.specs.declared.PhiAnswer.{PhiAnswer}
+use Rattle.phi_solver.specs.Combine.{PhiAnswer}
 use Rattle.schedule_checks.specs.Schedule.{Schedule}
 use Rattle.stages_claims.specs.Passing.{need_of, larger, largest_need}
 use Rattle.stages_claims.specs.Ran.{solver_at, count_at, Gave, Ran}
+use Rattle.checks.specs.Reasons.{Refused}
+use Rattle.std.specs.Prelude.{Ok, Err}
 
 -- ---- cleared twice
 cleared_both : (a b : ℕ) (w : List Float) → cleared b (cleared a w) ≡ cleared (larger a b) w
@@ -53,16 +52,16 @@ module _ (g : Generator) (tau : Float) (count : ℕ) (w output memory : List Flo
   after_run_cleared n need (refused k x s) = refl
 
   by_taylor : (x : Checked) (need : ℕ) (c : Call TaylorAnswer) → (Gave (of_taylor c.answer) → c.memory ≡ cleared need memory)
-      → Gave (of_taylor (unless_refused taylor.Refusal x output memory c).answer) → (unless_refused taylor.Refusal x output memory c).memory ≡ cleared need memory
+      → Gave (of_taylor (unless_refused Refused x output memory c).answer) → (unless_refused Refused x output memory c).memory ≡ cleared need memory
   unfolding unless_refused of_taylor
-  by_taylor (Refused k y) need c f h = absurd h
-  by_taylor Sound need c f h = f h
+  by_taylor (Err r) need c f h = absurd h
+  by_taylor (Ok _) need c f h = f h
 
   by_krylov : (x : Checked) (need : ℕ) (c : Call KrylovAnswer) → c.memory ≡ cleared need memory
-      → Gave (of_krylov (unless_refused krylov.Refusal x output memory c).answer) → (unless_refused krylov.Refusal x output memory c).memory ≡ cleared need memory
+      → Gave (of_krylov (unless_refused Refused x output memory c).answer) → (unless_refused Refused x output memory c).memory ≡ cleared need memory
   unfolding unless_refused of_krylov
-  by_krylov (Refused k y) need c f h = absurd h
-  by_krylov Sound need c f h = f
+  by_krylov (Err r) need c f h = absurd h
+  by_krylov (Ok _) need c f h = f
 
   pub call_cleared : (s : PhiSolver) → Gave (combine s g tau count w output memory).answer → (combine s g tau count w output memory).memory ≡ cleared (need_of s g count) memory
   unfolding combine answering phi_combination combination_run phi_combination_krylov combination_run_krylov

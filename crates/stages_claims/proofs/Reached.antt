@@ -15,22 +15,22 @@ use Rattle.lists.specs.Window.{window}
 use Rattle.lists.proofs.Window.{length_window}
 use Rattle.doubles.specs.F64.{at}
 use Rattle.checks.specs.First.{Check, first}
-use Rattle.checks.specs.declared.Checked.{Checked}
-use Rattle.checks.specs.declared.Checked.TheVariants.{Sound, Refused}
+use Rattle.checks.specs.First.{Checked}
 use Rattle.generator_action.specs.Generator.{Generator}
 use Rattle.combination.specs.Call.{Call, ends}
 use Rattle.phi_solver.specs.Combine.{combine}
-use Rattle.phi_solver.specs.declared.PhiAnswer.{PhiAnswer}
-use Rattle.phi_solver.specs.declared.PhiAnswer.TheVariants as phi
-use Rattle.schedule_checks.specs.Schedule.{Schedule, solver_of, stage, stages_of, further_need, stage_checks, Progress, counted, settle}
+use Rattle.phi_solver.specs.Combine.{PhiAnswer}
+use Rattle.phi_solver.specs.declared.PhiReport.TheVariants as phi
+use Rattle.schedule_checks.specs.Schedule.{StagedAnswer, refused_at, Schedule, solver_of, stage, stages_of, further_need, stage_checks, Progress, counted, settle}
 use Rattle.schedule_checks.specs.declared.StagedReport.{StagedReport}
-use Rattle.schedule_checks.specs.declared.StagedAnswer.{StagedAnswer}
-use Rattle.schedule_checks.specs.declared.StagedAnswer.TheVariants.{Refusal}
 use Rattle.stage_calls.specs.Stages.{unless_stage_refused, stage_call, stage_step, begun}
 use Rattle.stages_claims.specs.Ran.{count_at, vectors_before, Gave, applications_of, substeps_of, rejected_of, total, sums, call_at, Next, Ran}
 use Rattle.stages_claims.proofs.Walks.{next, walk_next}
 use Rattle.stages_claims.proofs.Checks.{stage_sound, stage_passing, timed_known}
 use Rattle.stages_claims.proofs.Accepted.{taken}
+use Rattle.checks.specs.Reasons.{refusal, Sound, Refused}
+use Rattle.std.specs.Prelude.{Ok, Err}
+use Rattle.checks.specs.declared.Reason.{Reason}
 
 -- ---- sums
 pub total_snoc : (f : PhiAnswer → ℕ) (xs : List PhiAnswer) (a : PhiAnswer) → total f (xs ++ (a ∷ [])) ≡ total f xs + f a
@@ -40,16 +40,16 @@ total_snoc f (b ∷ bs) a = omega (arith, total_snoc f bs a)
 
 counted_sums : (xs : List PhiAnswer) (a : PhiAnswer) → Gave a → counted (sums xs) a ≡ sums (xs ++ (a ∷ []))
 unfolding counted
-counted_sums xs (phi.Refusal k x) h = absurd h
-counted_sums xs (phi.Taylor t) h =
-    let a = sym (total_snoc applications_of xs (phi.Taylor t)) in
-    let b : total substeps_of xs ≡ total substeps_of (xs ++ (phi.Taylor t ∷ [])) = omega (arith, total_snoc substeps_of xs (phi.Taylor t)) in
-    let c : total rejected_of xs ≡ total rejected_of (xs ++ (phi.Taylor t ∷ [])) = omega (arith, total_snoc rejected_of xs (phi.Taylor t)) in
+counted_sums xs (Err r) h = absurd h
+counted_sums xs (Ok (phi.Taylor t)) h =
+    let a = sym (total_snoc applications_of xs (Ok (phi.Taylor t))) in
+    let b : total substeps_of xs ≡ total substeps_of (xs ++ (Ok (phi.Taylor t) ∷ [])) = omega (arith, total_snoc substeps_of xs (Ok (phi.Taylor t))) in
+    let c : total rejected_of xs ≡ total rejected_of (xs ++ (Ok (phi.Taylor t) ∷ [])) = omega (arith, total_snoc rejected_of xs (Ok (phi.Taylor t))) in
     λ i. record { applications = a i; substeps = b i; rejected = c i }
-counted_sums xs (phi.Krylov t) h =
-    let a = sym (total_snoc applications_of xs (phi.Krylov t)) in
-    let b = sym (total_snoc substeps_of xs (phi.Krylov t)) in
-    let c = sym (total_snoc rejected_of xs (phi.Krylov t)) in
+counted_sums xs (Ok (phi.Krylov t)) h =
+    let a = sym (total_snoc applications_of xs (Ok (phi.Krylov t))) in
+    let b = sym (total_snoc substeps_of xs (Ok (phi.Krylov t))) in
+    let c = sym (total_snoc rejected_of xs (Ok (phi.Krylov t))) in
     λ i. record { applications = a i; substeps = b i; rejected = c i }
 
 solver_same : (b : Bool) (degree : ℕ) (tol : Float) (m limit : ℕ) → solver_of b degree tol m limit ≡ (if b then solver_of true degree tol m limit else solver_of false degree tol m limit)
@@ -87,12 +87,12 @@ module _ (g : Generator) (s : Schedule) (start further output memory : List Floa
       }
 
   -- a refusal by the stage's own list, and one by its call
-  pub early_step : (i : ℕ) (p : Progress) {k : ℕ} {x : Float} → first (checks_at i p) ≡ Refused k x → stage_step g s further i p ≡ out (ends (Refusal k x (i + 1)) p.output p.memory)
+  pub early_step : (i : ℕ) (p : Progress) {k : Reason} {x : Float} → first (checks_at i p) ≡ Refused k x → stage_step g s further i p ≡ out (ends (refused_at (refusal k x) (i + 1)) p.output p.memory)
   unfolding stage_step unless_stage_refused
   early_step i p e = ap (λ (c : Checked). unless_stage_refused c i p (settle i (p.used + further_need n (stage s i)) p.report (made_at i p) (made_at i p).answer)) e
 
-  pub late_step : (i : ℕ) (p : Progress) {k : ℕ} {x : Float} → Sound ≡ first (checks_at i p) → (made_at i p).answer ≡ phi.Refusal k x
-      → stage_step g s further i p ≡ out (ends (Refusal k x (i + 1)) (made_at i p).output (made_at i p).memory)
+  pub late_step : (i : ℕ) (p : Progress) {k : Reason} {x : Float} → Sound ≡ first (checks_at i p) → (made_at i p).answer ≡ Refused k x
+      → stage_step g s further i p ≡ out (ends (refused_at (refusal k x) (i + 1)) (made_at i p).output (made_at i p).memory)
   unfolding stage_step unless_stage_refused settle
   late_step i p e ea =
       ap (λ (c : Checked). unless_stage_refused c i p (settle i (p.used + further_need n (stage s i)) p.report (made_at i p) (made_at i p).answer)) (sym e)
@@ -100,8 +100,8 @@ module _ (g : Generator) (s : Schedule) (start further output memory : List Floa
 
   -- ---- what stage i + 1 comes to
   pub data Outcome (i : ℕ) (p : Progress) : Type 0 where
-    early : (k : ℕ) (x : Float) → first (checks_at i p) ≡ Refused k x → stage_step g s further i p ≡ out (ends (Refusal k x (i + 1)) p.output p.memory) → Outcome i p
-    late : (k : ℕ) (x : Float) → Sound ≡ first (checks_at i p) → (made_at i p).answer ≡ phi.Refusal k x → stage_step g s further i p ≡ out (ends (Refusal k x (i + 1)) (made_at i p).output (made_at i p).memory) → Outcome i p
+    early : (k : Reason) (x : Float) → first (checks_at i p) ≡ Refused k x → stage_step g s further i p ≡ out (ends (refused_at (refusal k x) (i + 1)) p.output p.memory) → Outcome i p
+    late : (k : Reason) (x : Float) → Sound ≡ first (checks_at i p) → (made_at i p).answer ≡ Refused k x → stage_step g s further i p ≡ out (ends (refused_at (refusal k x) (i + 1)) (made_at i p).output (made_at i p).memory) → Outcome i p
     result : Sound ≡ first (checks_at i p) → Gave (made_at i p).answer → stage_step g s further i p ≡ on (after i p) → Outcome i p
 
   pub outcome : (i : ℕ) (p : Progress) → Outcome i p
@@ -112,21 +112,21 @@ module _ (g : Generator) (s : Schedule) (start further output memory : List Floa
       settled = settle i (p.used + further_need n (stage s i)) p.report (made_at i p) (made_at i p).answer
 
       by_answer : Sound ≡ first (checks_at i p) → (a : PhiAnswer) → (made_at i p).answer ≡ a → Outcome i p
-      by_answer e (phi.Refusal k x) ea = late k x e ea (late_step i p e ea)
-      by_answer e (phi.Taylor t) ea =
+      by_answer e (Err r) ea = late r.reason r.value e ea (late_step i p e ea)
+      by_answer e (Ok (phi.Taylor t)) ea =
           result e (subst Gave (sym ea) tt)
           (ap (λ (c : Checked). unless_stage_refused c i p settled) (sym e)
           ∙ ap (settle i (p.used + further_need n (stage s i)) p.report (made_at i p)) ea
           ∙ ap (λ (a : PhiAnswer). on (record { field = (made_at i p).output; output = (made_at i p).output; memory = (made_at i p).memory; used = p.used + further_need n (stage s i); report = counted p.report a })) (sym ea))
-      by_answer e (phi.Krylov t) ea =
+      by_answer e (Ok (phi.Krylov t)) ea =
           result e (subst Gave (sym ea) tt)
           (ap (λ (c : Checked). unless_stage_refused c i p settled) (sym e)
           ∙ ap (settle i (p.used + further_need n (stage s i)) p.report (made_at i p)) ea
           ∙ ap (λ (a : PhiAnswer). on (record { field = (made_at i p).output; output = (made_at i p).output; memory = (made_at i p).memory; used = p.used + further_need n (stage s i); report = counted p.report a })) (sym ea))
 
       by_checks : (c : Checked) → first (checks_at i p) ≡ c → Outcome i p
-      by_checks (Refused k x) e = early k x e (early_step i p e)
-      by_checks Sound e = by_answer (sym e) (made_at i p).answer refl
+      by_checks (Err r) e = early r.reason r.value e (early_step i p e)
+      by_checks (Ok _) e = by_answer (sym e) (made_at i p).answer refl
 
   -- ---- the call of a stage, by the numbers of the lists
   pub call_is : (i : ℕ) (p : Progress) → p.used ≡ vectors_before s i * n → made_at i p ≡ call_at g s start further output memory i p.field p.output p.memory
@@ -259,7 +259,7 @@ module _ (g : Generator) (s : Schedule) (start further output memory : List Floa
         ok : Sound ≡ first (checks_at i here)
         ok = checks_pass i here refl r.lies all gave_here
 
-        refused_not : {k : ℕ} {x : Float} → Sound ≡ Refused k x → zero ≡ 1
+        refused_not : {k : Reason} {x : Float} → Sound ≡ Refused k x → zero ≡ 1
         refused_not e = cc
 
         by_outcome : Outcome i here → stage_step g s further i here ≡ on (standing (suc i) f o m xs)

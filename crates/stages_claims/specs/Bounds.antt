@@ -8,7 +8,7 @@ use Rattle.demand_3.specs.Taylor.{asked, row_fits}
 use Rattle.demand_3.specs.Demand3.{clamped}
 use Rattle.phi_solver.specs.declared.PhiSolver.{PhiSolver}
 use Rattle.phi_solver.specs.declared.PhiSolver.TheVariants as solver
-use Rattle.phi_solver.specs.declared.PhiAnswer.{PhiAnswer}
+use Rattle.phi_solver.specs.Combine.{PhiAnswer}
 use Rattle.schedule_checks.specs.Schedule.{Schedule}
 use Rattle.stages_claims.specs.Ran.{solver_at, count_at, applications_of, substeps_of, rejected_of}
 

@@ -7,10 +7,11 @@ use Rattle.combination.specs.Call.{Call}
 use Rattle.phi_solver.specs.Combine.{combine}
 use Rattle.phi_solver.specs.declared.PhiSolver.{PhiSolver}
 use Rattle.phi_solver.specs.declared.PhiSolver.TheVariants as solver
-use Rattle.phi_solver.specs.declared.PhiAnswer.{PhiAnswer}
-use Rattle.phi_solver.specs.declared.PhiAnswer.TheVariants.{Refusal, Taylor, Krylov}
+use Rattle.phi_solver.specs.Combine.{PhiAnswer}
+use Rattle.phi_solver.specs.declared.PhiReport.TheVariants.{Taylor, Krylov}
 use Rattle.schedule_checks.specs.Schedule.{Schedule}
 use Rattle.schedule_checks.specs.declared.StagedReport.{StagedReport}
+use Rattle.std.specs.Prelude.{Ok, Err}
 
 -- ---- stage i + 1, by its numbers
 abbrev pub solver_at : Schedule → ℕ → PhiSolver
@@ -29,25 +30,25 @@ vectors_before s (suc i) = vectors_before s i + (count_at s i - 1)
 
 -- a call that gave a result
 abbrev pub Gave : PhiAnswer → Type 0
-Gave (Refusal k x) = ⊥
-Gave (Taylor t) = Unit {0}
-Gave (Krylov t) = Unit {0}
+Gave (Err r) = ⊥
+Gave (Ok (Taylor t)) = Unit {0}
+Gave (Ok (Krylov t)) = Unit {0}
 
 -- ---- what was counted
 abbrev pub applications_of : PhiAnswer → ℕ
-applications_of (Refusal k x) = 0
-applications_of (Taylor t) = t.applications
-applications_of (Krylov t) = t.matvecs
+applications_of (Err r) = 0
+applications_of (Ok (Taylor t)) = t.applications
+applications_of (Ok (Krylov t)) = t.matvecs
 
 abbrev pub substeps_of : PhiAnswer → ℕ
-substeps_of (Refusal k x) = 0
-substeps_of (Taylor t) = 0
-substeps_of (Krylov t) = t.substeps
+substeps_of (Err r) = 0
+substeps_of (Ok (Taylor t)) = 0
+substeps_of (Ok (Krylov t)) = t.substeps
 
 abbrev pub rejected_of : PhiAnswer → ℕ
-rejected_of (Refusal k x) = 0
-rejected_of (Taylor t) = 0
-rejected_of (Krylov t) = t.rejected
+rejected_of (Err r) = 0
+rejected_of (Ok (Taylor t)) = 0
+rejected_of (Ok (Krylov t)) = t.rejected
 
 unfoldable pub total : (PhiAnswer → ℕ) → List PhiAnswer → ℕ
 total f [] = 0

@@ -20,8 +20,9 @@ use Rattle.csr_shift.specs.declared.Shifted.{Shifted}
 use Rattle.phi_shift.specs.Plan.{argument, shifted_bound, open_plan}
 use Rattle.krylov_job.specs.KrylovCall.{phi_combination_krylov, open_krylov_call}
 use Rattle.krylov_job.specs.declared.KrylovPhiOptions.{KrylovPhiOptions}
-use Rattle.krylov_job.specs.declared.KrylovAnswer.{KrylovAnswer}
-use Rattle.krylov_job.specs.declared.KrylovAnswer.TheVariants.{Refusal, Result}
+use Rattle.krylov_job.specs.KrylovCall.{KrylovAnswer}
+use Rattle.std.specs.Prelude.{Ok, Err}
+use Rattle.checks.specs.Reasons.{number}
 
 -- a / b as a double
 unfoldable ratio : ℕ → ℕ → Float
@@ -63,8 +64,8 @@ options = record { tol = ratio 1 10000000000; m = 30; max_substeps = 100000 }
 
 -- substeps, applications, rejections, estimate; of a refusal its number and double
 abbrev told : KrylovAnswer → List Float
-told (Result r) = nat r.substeps ∷ nat r.matvecs ∷ nat r.rejected ∷ r.est_error ∷ []
-told (Refusal k x) = nat k ∷ x ∷ []
+told (Ok r) = nat r.substeps ∷ nat r.matvecs ∷ nat r.rejected ∷ r.est_error ∷ []
+told (Err r) = nat (number r.reason) ∷ r.value ∷ []
 
 data Job : Type 0 where
   Eta : Float → Job

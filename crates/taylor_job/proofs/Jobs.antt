@@ -18,7 +18,7 @@ use Rattle.expmv.specs.Select.{Bounds}
 use Rattle.phi_action_helpers.specs.declared.SweepPlan.{SweepPlan}
 use Rattle.phi_action_helpers.specs.declared.Layout.{Layout}
 use Rattle.phi_action_helpers.specs.Augmented.{Augmented}
-use Rattle.phi_action_helpers.specs.Laid.{Ready, Lined, matrix_at, operator_at}
+use Rattle.phi_action_helpers.specs.Laid.{ReadyAt, Lined, matrix_at, operator_at}
 use Rattle.phi_action_helpers.proofs.Counts.{run_long}
 use Rattle.phi_shift.specs.Plan.{with_shift, sweep_plan}
 use Rattle.phi_shift.proofs.Chosen.{plan_bounded}
@@ -32,7 +32,7 @@ use Rattle.taylor_schedule.proofs.Stored.{Held, long₁, matrix_is, front_is, cl
 use Rattle.taylor_schedule.proofs.Stored as stored_laws
 use Rattle.taylor_job.specs.Calls.{Fields, after_plan, report, swept_fields}
 use Rattle.taylor_job.specs.Inner.{layout, Allowed, plan_by, operator_by, job_end}
-use Rattle.taylor_job.specs.declared.TaylorAnswer.{TaylorAnswer}
+use Rattle.taylor_job.specs.Calls.{TaylorAnswer}
 
 -- ---- the output
 pub soak_long : (b : Augmented) (tau : Float) (y : List Float) (p : SweepPlan) → length y ≡ b.matrix.n + b.d → length (swept_fields b tau y p).fields ≡ b.matrix.n
@@ -93,7 +93,7 @@ module _ {starts cols : List ℕ} {vals mass w₀ : List Float} {j : Job} (h : A
       plan_is e f = f ∙ rw (e, matrix_is held e₁) refl
 
       module _ (vectors : List Float) (cp : Coupled j.b j.g.n j.d (length vectors)) where
-        pub ready : Ready l j.b starts cols vals vectors w₁
+        pub ready : ReadyAt l j.b starts cols vals vectors w₁
         ready = stored_laws.ready held e₁ vectors cp lined
 
         field_is : window 0 (l.n + l.d) w₁ ≡ window 0 (j.g.n + j.d) w₀

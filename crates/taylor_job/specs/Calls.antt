@@ -12,11 +12,19 @@ use Rattle.phi_action_helpers.specs.Augmented.{Augmented}
 use Rattle.phi_action_helpers.specs.Sweeps.{run_sweeps}
 use Rattle.phi_action_helpers.specs.declared.SweepPlan.{SweepPlan}
 use Rattle.phi_shift.specs.Plan.{argument, sweep_plan}
-use Rattle.taylor_job.specs.declared.TaylorAnswer.{TaylorAnswer}
-use Rattle.taylor_job.specs.declared.TaylorAnswer.TheVariants.{Refusal, Result}
 use Rattle.combination.specs.Combination.{further, eta_of, combination_operator, combination_start, action_operator, init_aug_vector}
 use Rattle.combination.specs.Call.{Call, ends, unless_refused, cleared, open_call}
 use Rattle.combination.specs.Checks.{plan_checks, vector_checks, sweep_checks, job_checks, taylor_need, open_checks}
+use Rattle.checks.specs.Reasons.{Refused}
+use Rattle.std.specs.Prelude.{Ok}
+use Rattle.checks.specs.declared.Reason.TheVariants.{NoAdmissibleRow}
+use Rattle.std.specs.Prelude.{Result}
+use Rattle.checks.specs.declared.Refusal.{Refusal}
+use Rattle.taylor_job.specs.declared.TaylorReport.{TaylorReport}
+
+-- a refusal, or a report
+abbrev pub TaylorAnswer : Type 0
+TaylorAnswer = Result TaylorReport Refusal
 
 -- the fields made, and the products with the generator
 pub record Fields : Type 0 where
@@ -24,11 +32,11 @@ pub record Fields : Type 0 where
   pub applied : ℕ
 
 abbrev pub report : SweepPlan → ℕ → TaylorAnswer
-report p applied = Result (record { s = p.s; m = p.m; mu = p.mu; applications = applied })
+report p applied = Ok (record { s = p.s; m = p.m; mu = p.mu; applications = applied })
 
 -- an accepted job leaves its fields and clears what it needed; that there is no plan is refusal 25 of the list already
 unfoldable pub after_plan : ℕ → Float → Float → List Float → List Float → Option SweepPlan → (SweepPlan → Fields) → Call TaylorAnswer
-after_plan need tau norm output memory None run = ends (Refusal 25 (argument tau norm)) output memory
+after_plan need tau norm output memory None run = ends (Refused NoAdmissibleRow (argument tau norm)) output memory
 after_plan need tau norm output memory (Some p) run = ends (report p (run p).applied) (run p).fields (cleared need memory)
 
 -- the n values of the field after the sweeps
@@ -53,7 +61,7 @@ combination_run g tau cap d v f output memory =
 
 unfoldable pub phi_combination : Generator → Float → ℕ → ℕ → List Float → List Float → List Float → Call TaylorAnswer
 phi_combination g tau cap count w output memory =
-    unless_refused Refusal (first (combination_checks g tau cap count w (length output) (length memory))) output memory
+    unless_refused Refused (first (combination_checks g tau cap count w (length output) (length memory))) output memory
     (combination_run g tau cap (count - 1) w (further g.matrix.n w) output memory)
 
 -- ---- `phi_action` of index k, `phi_action_batched` of the indices 0 to p
@@ -66,7 +74,7 @@ unfoldable pub phi_action : Generator → Float → ℕ → ℕ → List Float �
 phi_action g tau cap k v output memory =
     let q = g.matrix in
     let eta = eta_scaling (sup v) in
-    unless_refused Refusal (first (action_checks g tau cap k v (length output) q.n (length memory))) output memory
+    unless_refused Refused (first (action_checks g tau cap k v (length output) q.n (length memory))) output memory
     (after_plan (taylor_need q.n 3 g.stored) tau (row_sum_norm q) output memory (sweep_plan cap tau q (row_sum_norm q))
     (swept_fields (action_operator q v eta.eta) tau (init_aug_vector q.n v eta.inv k)))
 
@@ -83,7 +91,7 @@ unfoldable pub phi_action_batched : Generator → Float → ℕ → ℕ → List
 phi_action_batched g tau cap p v output memory =
     let q = g.matrix in
     let eta = eta_scaling (sup v) in
-    unless_refused Refusal (first (action_checks g tau cap p v (length output) (suc p * q.n) (length memory))) output memory
+    unless_refused Refused (first (action_checks g tau cap p v (length output) (suc p * q.n) (length memory))) output memory
     (after_plan (taylor_need q.n 3 g.stored) tau (row_sum_norm q) output memory (sweep_plan cap tau q (row_sum_norm q))
     (batched (action_operator q v eta.eta) tau v eta.inv (suc p)))
 

@@ -13,7 +13,7 @@ use Rattle.combination.specs.Call.{Call, ends, cleared}
 use Rattle.combination.specs.Checks.{taylor_need}
 use Rattle.taylor_schedule.specs.declared.Job.{Job}
 use Rattle.taylor_job.specs.Calls.{Fields, report}
-use Rattle.taylor_job.specs.declared.TaylorAnswer.{TaylorAnswer}
+use Rattle.taylor_job.specs.Calls.{TaylorAnswer}
 
 -- where the operands lie in the lent memory: the field of n + d values, a term as long, a product of n values, and with a mass the quotients
 -- (document 01, 'What must change shape')

@@ -9,14 +9,16 @@ ghost use Rattle.checks.specs.First.{first};
 ghost use Rattle.general_operator.specs.Csr.{csr, Valid};
 ghost use Rattle.generator_action.specs.Mass.{given, stored};
 ghost use Rattle.csr_shift.specs.Shift.{negated_csr_shift};
-ghost use Rattle.phi_action_helpers.specs.Laid.{matrix_at, operator_at, Ready, Lined};
+ghost use Rattle.phi_action_helpers.specs.Laid.{matrix_at, operator_in, Ready, Lined};
 ghost use Rattle.combination.specs.Call.{ends, cleared};
 ghost use Rattle.taylor_schedule.specs.Inner.{Coupled, matrix_of};
 ghost use Rattle.taylor_job.specs.Inner.{layout, plan_by, operator_by, job_end, Allowed};
 ghost use Rattle.taylor_job.specs.Calls.{report, swept_fields};
 
+use checks::Refusal;
 use csr_shift::Shifted;
-use phi_action_helpers::{Layout, SweepArgs, SweepPlan};
+use general_operator::CsrMatrix;
+use phi_action_helpers::{AugmentedOperator, Layout, SweepArgs, SweepPlan};
 use taylor_schedule::Job;
 
 // Of an accepted job: the plan, and the products with the generator made, over all sweeps of a batch.
@@ -26,13 +28,6 @@ pub struct TaylorReport {
     pub m: u32,
     pub mu: f64,
     pub applications: u64,
-}
-
-// A refusal's number and double, or a report.
-#[derive(Clone, Copy)]
-pub enum TaylorAnswer {
-    Refusal(u32, f64),
-    Result(TaylorReport),
 }
 
 pub fn layout(n: usize, d: usize, mass: bool) -> Layout
@@ -66,9 +61,21 @@ pub fn shift_at(
     if l.mass {
         let from = l.q;
         let to = from + vals.len();
-        return csr_shift::negated_csr_shift(n, starts, cols, &work[from..to], norm);
+        let quotients = CsrMatrix {
+            n,
+            starts,
+            cols,
+            vals: &work[from..to],
+        };
+        return csr_shift::negated_csr_shift(quotients, norm);
     }
-    csr_shift::negated_csr_shift(n, starts, cols, vals, norm)
+    let entries = CsrMatrix {
+        n,
+        starts,
+        cols,
+        vals,
+    };
+    csr_shift::negated_csr_shift(entries, norm)
 }
 
 // The quotients in their place, and the plan from the row that the checks found.
@@ -86,43 +93,44 @@ pub fn prepare(
 {
     let g = j.g;
     let l = layout(g.n, j.d, g.with_mass);
-    let q = l.q;
-    stored_quotients::store_quotients(g.n, starts, cols, vals, g.with_mass, mass, work, q);
+    let matrix = CsrMatrix {
+        n: g.n,
+        starts,
+        cols,
+        vals,
+    };
+    stored_quotients::store_quotients(matrix, g.with_mass, mass, work, l.q);
     let shift = shift_at(starts, cols, vals, work, l, g.norm);
     phi_shift::with_shift(j.cap, j.tau, j.row, shift)
 }
 
 // The sweeps, and their n values from `place` of the output on.
-pub fn swept_out(
-    starts: &[u32],
-    cols: &[u32],
-    vals: &[f64],
-    vectors: &[f64],
-    out: &mut [f64],
-    place: usize,
-    work: &mut [f64],
-    x: SweepArgs,
-) -> u64
-    requires ready { Ready x.l x.b starts.now cols.now vals.now vectors.now work.old }
-    requires lined { Lined x.l × (x.p.m ≤ 30) × (place + x.l.n ≤ length out.old) }
-    ensures value { result ≡ (swept_fields (operator_at x.l x.b starts.now cols.now vals.now vectors.now work.old) x.tau (window 0 (x.l.n + x.l.d) work.old) x.p).applied }
-    ensures out_after { out.new ≡ splice place (swept_fields (operator_at x.l x.b starts.now cols.now vals.now vectors.now work.old) x.tau (window 0 (x.l.n + x.l.d) work.old) x.p).fields out.old }
-    ensures kept { Kept 0 x.l.q +0 work.old work.new }
+pub fn swept_out(out: &mut [f64], place: usize, work: &mut [f64], x: SweepArgs) -> u64
+    requires ready { Ready x.o work.old }
+    requires lined { Lined x.o.l × (x.p.m ≤ 30) × (place + x.o.l.n ≤ length out.old) }
+    ensures value { result ≡ (swept_fields (operator_in x.entry.o work.old) x.entry.tau (window 0 (x.entry.o.l.n + x.entry.o.l.d) work.old) x.entry.p).applied }
+    ensures out_after { out.new ≡ splice place (swept_fields (operator_in x.entry.o work.old) x.entry.tau (window 0 (x.entry.o.l.n + x.entry.o.l.d) work.old) x.entry.p).fields out.old }
+    ensures kept { Kept 0 x.entry.o.l.q +0 work.old work.new }
 {
-    let n = x.l.n;
-    let applied = taylor_sweeps::run_sweeps(starts, cols, vals, vectors, work, x);
+    let n = x.o.l.n;
+    let applied = taylor_sweeps::run_sweeps(work, x);
     vectors::copy_from(out, place, work, 0, n);
     applied
 }
 
 // The report; what was needed is cleared.
-pub fn finish(work: &mut [f64], need: usize, p: SweepPlan, applied: u64) -> TaylorAnswer
+pub fn finish(
+    work: &mut [f64],
+    need: usize,
+    p: SweepPlan,
+    applied: u64,
+) -> Result<TaylorReport, Refusal>
     requires { need ≤ length work.old }
     ensures value { result ≡ report p applied }
     ensures work_after { work.new ≡ cleared need work.old }
 {
     vectors::clear_in(work, 0, need);
-    TaylorAnswer::Result(TaylorReport {
+    Ok(TaylorReport {
         s: p.s,
         m: p.m,
         mu: p.mu,
@@ -140,21 +148,23 @@ pub fn run_job(
     out: &mut [f64],
     work: &mut [f64],
     j: Job,
-) -> TaylorAnswer
+) -> Result<TaylorReport, Refusal>
     requires allowed { Allowed starts.now cols.now vals.now mass.now work.old j }
     requires coupled { Coupled j.b j.g.n j.d (length vectors.now) × (length out.old ≡ j.g.n) }
     ensures { ends result out.new work.new ≡ job_end j (matrix_of j.g starts.now cols.now vals.now mass.now) (swept_fields (operator_by j (matrix_of j.g starts.now cols.now vals.now mass.now) vectors.now) j.tau (window 0 (j.g.n + j.d) work.old)) work.old }
 {
     let g = j.g;
     let l = layout(g.n, j.d, g.with_mass);
-    let b = j.b;
     let p = prepare(starts, cols, vals, mass, work, j);
-    let x = SweepArgs {
+    let o = AugmentedOperator {
+        starts,
+        cols,
+        vals,
+        vectors,
         l,
-        b,
-        tau: j.tau,
-        p,
+        b: j.b,
     };
-    let applied = swept_out(starts, cols, vals, vectors, out, 0, work, x);
+    let x = SweepArgs { o, tau: j.tau, p };
+    let applied = swept_out(out, 0, work, x);
     finish(work, j.need, p, applied)
 }

@@ -1,6 +1,5 @@
 -- What the plan alone tells of a run. Assumes nothing.
-use Rattle.std.specs.Prelude.{Option, Some, None}
-use mathlib.Core.Path.{◌≡◌, refl, sym, ◌∙◌, subst}
+use mathlib.Core.Path.{◌≡◌, refl, sym, ap, ◌∙◌, subst}
 use mathlib.Core.Bool.{false}
 use mathlib.Core.List.{List, [], ◌++◌}
 use Prim.Native.Nat.{ℕ, zero, suc, ◌-◌, ◌*◌, ◌≤◌}
@@ -11,9 +10,8 @@ use lib.ListN.{length}
 use lib.Ieee.{Float}
 use borrow.Author.Tests.{le-ltb}
 use Rattle.checks.specs.First.{Check, first, before}
-use Rattle.checks.specs.declared.Checked.{Checked}
-use Rattle.checks.specs.declared.Checked.TheVariants.{Sound, Refused}
-use Rattle.checks.proofs.First.{and_then, first_append, sound_append, sound_cons, sound_on, passes, ends_sound}
+use Rattle.checks.specs.First.{Checked}
+use Rattle.checks.proofs.First.{err_is, ok_is, and_then, first_append, sound_append, sound_cons, sound_on, passes, ends_sound}
 use Rattle.checks.proofs.Numbers.{not_by}
 use Rattle.general_operator.specs.Csr.{row_sum_norm}
 use Rattle.general_operator.proofs.Sound.{or_false}
@@ -26,35 +24,38 @@ use Rattle.combination.specs.Call.{Call, unless_refused}
 use Rattle.combination.specs.Combination.{further, eta_of}
 use Rattle.combination.specs.Checks.{no_row, count_checks, index_checks, time_checks, degree_checks, plan_checks, length_checks, finite_checks, magnitude_checks, schedule_checks, memory_checks, vector_checks_by, vector_checks, sweep_checks, job_checks, taylor_need}
 use Rattle.taylor_job.specs.declared.TaylorReport.{TaylorReport}
-use Rattle.taylor_job.specs.declared.TaylorAnswer.{TaylorAnswer}
-use Rattle.taylor_job.specs.declared.TaylorAnswer.TheVariants.{Refusal, Result}
+use Rattle.taylor_job.specs.Calls.{TaylorAnswer}
 use Rattle.taylor_job.specs.Calls.{Fields, after_plan, combination_checks, combination_run, phi_combination, action_checks, phi_action, phi_action_batched}
 use Rattle.phi_batch.proofs.Batch.{soak_counted, batch_counted}
 use Rattle.taylor_plan.specs.TaylorPlan.{taylor_plan_checks, cost_alone, taylor_plan}
 use Rattle.taylor_plan.specs.Ahead.{own, combination_own, action_own, Foretold, PlanAhead}
+use Rattle.checks.specs.Reasons.{number, Sound, Refused}
+use Rattle.std.specs.Prelude.{Ok, Err, Option, Some, None}
+use Rattle.checks.specs.declared.Reason.TheVariants.{WorkLength}
+use Rattle.checks.specs.declared.Reason.{Reason}
 
 -- ---- lists of checks: gs, xs, ps, ys, ss, ws of a run; gs, ps, ss, ws₂ of its plan
-module _ (k : ℕ) (x : Float) where
+module _ (k : Reason) (x : Float) where
   abbrev NotBy : Checked → Type 0
   NotBy r = (y : Float) → Refused k y ≡ r → ⊥
 
   up : (g x₁ p y s w w₂ : Checked) → NotBy x₁ → NotBy y → NotBy w → Refused k x ≡ and_then g (and_then x₁ (and_then p (and_then y (and_then s w))))
       → Refused k x ≡ and_then g (and_then p (and_then s w₂))
   unfolding and_then
-  up (Refused i z) x₁ p y s w w₂ nx ny nw e = e
-  up Sound (Refused i z) p y s w w₂ nx ny nw e = absurd (nx x e)
-  up Sound Sound (Refused i z) y s w w₂ nx ny nw e = e
-  up Sound Sound Sound (Refused i z) s w w₂ nx ny nw e = absurd (ny x e)
-  up Sound Sound Sound Sound (Refused i z) w w₂ nx ny nw e = e
-  up Sound Sound Sound Sound Sound w w₂ nx ny nw e = absurd (nw x e)
+  up (Err r) x₁ p y s w w₂ nx ny nw e = e
+  up (Ok _) (Err r) p y s w w₂ nx ny nw e = absurd (nx x e)
+  up (Ok _) (Ok _) (Err r) y s w w₂ nx ny nw e = e
+  up (Ok _) (Ok _) (Ok _) (Err r) s w w₂ nx ny nw e = absurd (ny x e)
+  up (Ok _) (Ok _) (Ok _) (Ok _) (Err r) w w₂ nx ny nw e = e
+  up (Ok _) (Ok _) (Ok _) (Ok _) (Ok _) w w₂ nx ny nw e = absurd (nw x e)
 
   down : (g x₁ p y s w w₂ : Checked) → Sound ≡ x₁ → Sound ≡ y → NotBy w₂ → Refused k x ≡ and_then g (and_then p (and_then s w₂))
       → Refused k x ≡ and_then g (and_then x₁ (and_then p (and_then y (and_then s w))))
   unfolding and_then
-  down (Refused i z) x₁ p y s w w₂ hx hy n e = e
-  down Sound x₁ (Refused i z) y s w w₂ hx hy n e = rw (← hx) e
-  down Sound x₁ Sound y (Refused i z) w w₂ hx hy n e = rw (← hx, ← hy) e
-  down Sound x₁ Sound y Sound w w₂ hx hy n e = absurd (n x e)
+  down (Err r) x₁ p y s w w₂ hx hy n e = e
+  down (Ok _) x₁ (Err r) y s w w₂ hx hy n e = rw (← hx) e
+  down (Ok _) x₁ (Ok _) y (Err r) w w₂ hx hy n e = rw (← hx, ← hy) e
+  down (Ok _) x₁ (Ok _) y (Ok _) w w₂ hx hy n e = absurd (n x e)
 
 module _ (gs xs ps ys ss ws : List Check) where
   abbrev of_run : List Check
@@ -77,7 +78,7 @@ module _ (gs xs ps ys ss ws : List Check) where
         let s = sound_append ss ws (sound_append ys _ p.1).1 in
         sound_on gs _ refl g.0 (sound_on ps _ refl p.0 (sound_on ss _ refl s.0 h))
 
-    module _ {k : ℕ} {x : Float} where
+    module _ {k : Reason} {x : Float} where
       to_plan : before k xs ≡ xs → before k ys ≡ ys → before k ws ≡ ws → Refused k x ≡ first of_run → Refused k x ≡ first of_plan
       to_plan nx ny nw e = up k x _ _ _ _ _ _ (first ws₂) (λ y. not_by k xs nx) (λ y. not_by k ys ny) (λ y. not_by k ws nw) (e ∙ run_chain) ∙ sym plan_chain
 
@@ -93,7 +94,7 @@ module _ (g : Generator) (tau : Float) (cap : ℕ) where
   listed xs ys memory need = of_run g.checks xs (plan_checks tau cap) ys (schedule_checks cap norm tau) (memory_checks memory need)
 
   abbrev call : List Check → ℕ → List Float → List Float → (SweepPlan → Fields) → Call TaylorAnswer
-  call cs need output memory run = unless_refused Refusal (first cs) output memory (after_plan need tau norm output memory (sweep_plan cap tau g.matrix norm) run)
+  call cs need output memory run = unless_refused Refused (first cs) output memory (after_plan need tau norm output memory (sweep_plan cap tau g.matrix norm) run)
 
   -- where 25 passes there is a plan
   row_planned : Sound ≡ first (schedule_checks cap norm tau) → sweep_plan cap tau g.matrix norm ≡ None → zero ≡ 1
@@ -108,7 +109,7 @@ module _ (g : Generator) (tau : Float) (cap : ℕ) where
     abbrev cs : List Check
     cs = listed xs ys (length memory) need
 
-    no_refusal : (p : Option SweepPlan) {k : ℕ} {x : Float} → (p ≡ None → zero ≡ 1) → (after_plan need tau norm output memory p run).answer ≡ Refusal k x → ⊥
+    no_refusal : (p : Option SweepPlan) {k : Reason} {x : Float} → (p ≡ None → zero ≡ 1) → (after_plan need tau norm output memory p run).answer ≡ Refused k x → ⊥
     unfolding after_plan
     no_refusal None h e = absurd (omega (arith, h refl))
     no_refusal (Some p) h e = let z : zero ≡ 1 = cc in absurd (omega (arith, z))
@@ -119,18 +120,18 @@ module _ (g : Generator) (tau : Float) (cap : ℕ) where
         (sound_append (schedule_checks cap norm tau) _ (sound_append ys _ p.1).1).0
 
     -- its refusals are those of the list
-    refusal_listed : {k : ℕ} {x : Float} → (call cs need output memory run).answer ≡ Refusal k x → Refused k x ≡ first cs
+    refusal_listed : {k : Reason} {x : Float} → (call cs need output memory run).answer ≡ Refused k x → Refused k x ≡ first cs
     unfolding unless_refused
     refusal_listed {k} {x} f = go (first cs) refl f
       where
-        same : {i j : ℕ} {y z : Float} → Refusal i y ≡ Refusal j z → Refused j z ≡ Refused i y
-        same h = cc
+        same : {i j : Reason} {y z : Float} → Refused {A = TaylorReport} i y ≡ Refused j z → Refused {A = Unit} j z ≡ Refused i y
+        same h = ap Err (sym (err_is h))
 
-        go : (c : Checked) → c ≡ first cs → (unless_refused Refusal c output memory (after_plan need tau norm output memory (sweep_plan cap tau g.matrix norm) run)).answer ≡ Refusal k x → Refused k x ≡ first cs
-        go Sound e h = absurd (no_refusal _ (row_planned (schedule_sound e)) h)
-        go (Refused i y) e h = same h ∙ e
+        go : (c : Checked) → c ≡ first cs → (unless_refused Refused c output memory (after_plan need tau norm output memory (sweep_plan cap tau g.matrix norm) run)).answer ≡ Refused k x → Refused k x ≡ first cs
+        go (Ok _) e h = absurd (no_refusal _ (row_planned (schedule_sound e)) h)
+        go (Err r) e h = same h ∙ e
 
-    listed_refusal : {k : ℕ} {x : Float} → Refused k x ≡ first cs → (call cs need output memory run).answer ≡ Refusal k x
+    listed_refusal : {k : Reason} {x : Float} → Refused k x ≡ first cs → (call cs need output memory run).answer ≡ Refused k x
     unfolding unless_refused
     listed_refusal e = rw (← e) refl
 
@@ -139,49 +140,49 @@ module _ (g : Generator) (tau : Float) (cap : ℕ) where
       pub sound : Sound ≡ first cs
       pub plan : SweepPlan
       pub has_plan : sweep_plan cap tau g.matrix norm ≡ Some plan
-      pub is : Result (record { s = plan.s; m = plan.m; mu = plan.mu; applications = (run plan).applied }) ≡ Result r
+      pub is : record { s = plan.s; m = plan.m; mu = plan.mu; applications = (run plan).applied } ≡ r
 
-    result_planned : {r : TaylorReport} → (call cs need output memory run).answer ≡ Result r → Planned r
+    result_planned : {r : TaylorReport} → (call cs need output memory run).answer ≡ Ok r → Planned r
     unfolding unless_refused after_plan
     result_planned {r} f = go (first cs) refl f
       where
-        of_plan_answer : Sound ≡ first cs → (p : Option SweepPlan) → sweep_plan cap tau g.matrix norm ≡ p → (after_plan need tau norm output memory p run).answer ≡ Result r → Planned r
+        of_plan_answer : Sound ≡ first cs → (p : Option SweepPlan) → sweep_plan cap tau g.matrix norm ≡ p → (after_plan need tau norm output memory p run).answer ≡ Ok r → Planned r
         of_plan_answer e None h i = let z : zero ≡ 1 = cc in absurd (omega (arith, z))
-        of_plan_answer e (Some p) h i = record { sound = e; plan = p; has_plan = h; is = i }
+        of_plan_answer e (Some p) h i = record { sound = e; plan = p; has_plan = h; is = ok_is i }
 
-        go : (c : Checked) → c ≡ first cs → (unless_refused Refusal c output memory (after_plan need tau norm output memory (sweep_plan cap tau g.matrix norm) run)).answer ≡ Result r → Planned r
-        go Sound e h = of_plan_answer e _ refl h
-        go (Refused i y) e h = let z : zero ≡ 1 = cc in absurd (omega (arith, z))
+        go : (c : Checked) → c ≡ first cs → (unless_refused Refused c output memory (after_plan need tau norm output memory (sweep_plan cap tau g.matrix norm) run)).answer ≡ Ok r → Planned r
+        go (Ok _) e h = of_plan_answer e _ refl h
+        go (Err r) e h = let z : zero ≡ 1 = cc in absurd (omega (arith, z))
 
 -- ---- numbers that are not a run's own
-record Other (k : ℕ) : Type 0 where
-  pub not_12 : eqb 12 k ≡ false
-  pub not_13 : eqb 13 k ≡ false
-  pub not_15 : eqb 15 k ≡ false
-  pub not_16 : eqb 16 k ≡ false
-  pub not_17 : eqb 17 k ≡ false
-  pub not_21 : eqb 21 k ≡ false
-  pub not_22 : eqb 22 k ≡ false
-  pub not_26 : eqb 26 k ≡ false
+record Other (k : Reason) : Type 0 where
+  pub not_12 : eqb 12 (number k) ≡ false
+  pub not_13 : eqb 13 (number k) ≡ false
+  pub not_15 : eqb 15 (number k) ≡ false
+  pub not_16 : eqb 16 (number k) ≡ false
+  pub not_17 : eqb 17 (number k) ≡ false
+  pub not_21 : eqb 21 (number k) ≡ false
+  pub not_22 : eqb 22 (number k) ≡ false
+  pub not_26 : eqb 26 (number k) ≡ false
 
-other : (k : ℕ) → own k ≡ false → Other k
+other : (k : Reason) → own (number k) ≡ false → Other k
 other k e =
-    let a = or_false (eqb 12 k) _ e in
-    let b = or_false (eqb 13 k) _ a.1 in
-    let c = or_false (eqb 15 k) _ b.1 in
-    let d = or_false (eqb 16 k) _ c.1 in
-    let f = or_false (eqb 17 k) _ d.1 in
-    let h = or_false (eqb 21 k) _ f.1 in
-    let i = or_false (eqb 22 k) _ h.1 in
+    let a = or_false (eqb 12 (number k)) _ e in
+    let b = or_false (eqb 13 (number k)) _ a.1 in
+    let c = or_false (eqb 15 (number k)) _ b.1 in
+    let d = or_false (eqb 16 (number k)) _ c.1 in
+    let f = or_false (eqb 17 (number k)) _ d.1 in
+    let h = or_false (eqb 21 (number k)) _ f.1 in
+    let i = or_false (eqb 22 (number k)) _ h.1 in
     record { not_12 = a.0; not_13 = b.0; not_15 = c.0; not_16 = d.0; not_17 = f.0; not_21 = h.0; not_22 = i.0; not_26 = i.1 }
 
-memory_other : (k memory need : ℕ) → Other k → before k (memory_checks memory need) ≡ memory_checks memory need
+memory_other : (k : Reason) (memory need : ℕ) → Other k → before k (memory_checks memory need) ≡ memory_checks memory need
 unfolding before memory_checks
 memory_other k memory need o = rw o.not_26 refl
 
 enough : (memory need : ℕ) → need ≤ memory → Sound ≡ first (memory_checks memory need)
 unfolding memory_checks
-enough memory need h = passes 26 _ _ (le-ltb memory need h) ends_sound
+enough memory need h = passes WorkLength _ _ (le-ltb memory need h) ends_sound
 
 module _ (g : Generator) (tau : Float) (cap : ℕ) (lent : List Float) where
   -- the plan is such a call too
@@ -191,26 +192,23 @@ module _ (g : Generator) (tau : Float) (cap : ℕ) (lent : List Float) where
 
   module _ (xs ys : List Check) (need : ℕ) (output memory : List Float) (run : SweepPlan → Fields) (runs : ℕ)
       (counted : (p : SweepPlan) → (run p).applied ≡ runs * (p.s * p.m))
-      (others : (k : ℕ) → Other k → (before k xs ≡ xs) × (before k ys ≡ ys)) where
+      (others : (k : Reason) → Other k → (before k xs ≡ xs) × (before k ys ≡ ys)) where
     abbrev checks : List Check
     checks = listed g tau cap xs ys (length memory) need
 
     abbrev ran : Call TaylorAnswer
     ran = call g tau cap checks need output memory run
 
-    told : {r : TaylorReport} → ran.answer ≡ Result r → g.stored ≤ length lent
-        → (cost : ℕ) × ((taylor_plan g tau cap lent).answer ≡ Result (record { s = r.s; m = r.m; mu = r.mu; applications = cost })) × (r.applications ≡ runs * cost)
+    told : {r : TaylorReport} → ran.answer ≡ Ok r → g.stored ≤ length lent
+        → (cost : ℕ) × ((taylor_plan g tau cap lent).answer ≡ Ok (record { s = r.s; m = r.m; mu = r.mu; applications = cost })) × (r.applications ≡ runs * cost)
     unfolding unless_refused after_plan cost_alone
     told {r} e room =
         let h = result_planned g tau cap xs ys need output memory run e in
         let s = sound_plan g.checks xs (plan_checks tau cap) ys (schedule_checks cap (norm g tau cap) tau) _ _ h.sound (enough (length lent) g.stored room) in
         subst
-        (λ (r : TaylorReport). (cost : ℕ) × ((taylor_plan g tau cap lent).answer ≡ Result (record { s = r.s; m = r.m; mu = r.mu; applications = cost })) × (r.applications ≡ runs * cost))
-        (reported h.is)
+        (λ (r : TaylorReport). (cost : ℕ) × ((taylor_plan g tau cap lent).answer ≡ Ok (record { s = r.s; m = r.m; mu = r.mu; applications = cost })) × (r.applications ≡ runs * cost))
+        h.is
         (h.plan.s * h.plan.m, rw (plan_is, ← s, h.has_plan) refl, counted h.plan)
-      where
-        reported : {a b : TaylorReport} → Result a ≡ Result b → a ≡ b
-        reported e = cc
 
     foretold : Foretold g tau cap lent runs (xs ++ ys) ran
     foretold =
@@ -235,7 +233,7 @@ module _ (g : Generator) (tau : Float) (cap : ℕ) (lent : List Float) where
         let f = further n w in
         length_checks (length output) n (length w) (count * n) ++ (finite_checks w ++ magnitude_checks n f tau (count - 1) (eta_of n f tau (count - 1)).eta)
 
-    combination_others : (k : ℕ) → Other k → (before k (count_checks count) ≡ count_checks count) × (before k rest ≡ rest)
+    combination_others : (k : Reason) → Other k → (before k (count_checks count) ≡ count_checks count) × (before k rest ≡ rest)
     unfolding before count_checks length_checks finite_checks magnitude_checks
     combination_others k o = (rw o.not_12 refl, rw (o.not_15, o.not_16, o.not_17, o.not_21, o.not_22) refl)
 
@@ -252,7 +250,7 @@ module _ (g : Generator) (tau : Float) (cap : ℕ) (lent : List Float) where
       abbrev of_field : List Check
       of_field = length_checks (length output) wanted (length v) g.matrix.n ++ finite_checks v
 
-      action_others : (i : ℕ) → Other i → (before i (index_checks k) ≡ index_checks k) × (before i of_field ≡ of_field)
+      action_others : (i : Reason) → Other i → (before i (index_checks k) ≡ index_checks k) × (before i of_field ≡ of_field)
       unfolding before index_checks length_checks finite_checks
       action_others i o = (rw o.not_13 refl, rw (o.not_15, o.not_16, o.not_17) refl)
 

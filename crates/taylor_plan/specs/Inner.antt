@@ -1,19 +1,13 @@
--- What the parts of `taylor_plan` answer: cited by their contracts alone. Definitions only.
-use Rattle.std.specs.Prelude.{Bool, ◌++◌, ℕ, Float}
-use Rattle.checks.specs.First.{first}
+-- What the parts of `taylor_plan` check and lay out: cited by their contracts alone. Definitions only.
+use Rattle.std.specs.Prelude.{Bool, List, ◌++◌, ℕ, Float}
+use Rattle.checks.specs.First.{Check}
 use Rattle.generator_action.specs.declared.Shape.{Shape}
 use Rattle.phi_action_helpers.specs.declared.Layout.{Layout}
 use Rattle.combination.specs.Checks.{plan_checks, schedule_checks, memory_checks}
-use Rattle.taylor_schedule.specs.Inner.{schedule}
-use Rattle.taylor_schedule.specs.declared.Schedule.{Schedule}
 
--- 14, 33 and 24 to 26, and the row that the schedule found
-abbrev pub admitted : Shape → Float → ℕ → ℕ → Schedule
-admitted g tau cap memory =
-    record {
-      checked = first (plan_checks tau cap ++ (schedule_checks cap g.norm tau ++ memory_checks memory g.stored));
-      row = (schedule cap g.norm tau).row;
-    }
+-- 14, 33 and 24 to 26
+abbrev pub plan_refusals : Shape → Float → ℕ → ℕ → List Check
+plan_refusals g tau cap memory = plan_checks tau cap ++ (schedule_checks cap g.norm tau ++ memory_checks memory g.stored)
 
 -- the lent memory holds the quotients, from its first place on
 abbrev pub quotients_alone : ℕ → Bool → Layout

@@ -7,9 +7,9 @@ use Rattle.phi_action_helpers.specs.declared.SweepPlan.{SweepPlan}
 use Rattle.phi_shift.specs.Plan.{sweep_plan}
 use Rattle.combination.specs.Call.{Call, unless_refused}
 use Rattle.combination.specs.Checks.{plan_checks, schedule_checks, memory_checks}
-use Rattle.taylor_job.specs.declared.TaylorAnswer.{TaylorAnswer}
-use Rattle.taylor_job.specs.declared.TaylorAnswer.TheVariants.{Refusal}
+use Rattle.taylor_job.specs.Calls.{TaylorAnswer}
 use Rattle.taylor_job.specs.Calls.{Fields, after_plan, open_calls}
+use Rattle.checks.specs.Reasons.{Refused}
 
 -- those of a Taylor job that its matrix, mass, time and highest degree decide, in the order of its run (1 to 11, 14, 33, 24, 25); then 26 for memory that is too
 -- short for the quotients, which is all that a plan needs
@@ -25,7 +25,7 @@ cost_alone p = record { fields = []; applied = p.s * p.m }
 unfoldable pub taylor_plan : Generator → Float → ℕ → List Float → Call TaylorAnswer
 taylor_plan g tau cap memory =
     let norm = row_sum_norm g.matrix in
-    unless_refused Refusal (first (taylor_plan_checks g tau cap (length memory))) [] memory
+    unless_refused Refused (first (taylor_plan_checks g tau cap (length memory))) [] memory
     (after_plan g.stored tau norm [] memory (sweep_plan cap tau g.matrix norm) cost_alone)
 
 -- to compute: a line `unfolding open_taylor_plan` opens every definition of this file and of those below it

@@ -3,8 +3,8 @@
 
 ghost use Rattle.std.specs.Prelude.{◌≡◌, List, [], ◌≤◌, length};
 ghost use Rattle.lists.specs.Window.{splice};
-ghost use Rattle.checks.specs.First.{Check, first};
-ghost use Rattle.checks.specs.declared.Checked.TheVariants.{Sound};
+ghost use Rattle.checks.specs.First.{Check, first, or_first};
+ghost use Rattle.checks.specs.Reasons.{Sound};
 ghost use Rattle.general_operator.specs.Csr.{csr};
 ghost use Rattle.generator_action.specs.Mass.{given, stored};
 ghost use Rattle.generator_action.specs.Generator.{forward};
@@ -12,28 +12,25 @@ ghost use Rattle.generator_action.specs.Known.{Passed};
 ghost use Rattle.csr_shift.specs.Shift.{negated_csr_shift};
 ghost use Rattle.phi_shift.specs.Plan.{with_shift};
 ghost use Rattle.combination.specs.Call.{ends};
-ghost use Rattle.taylor_schedule.specs.Inner.{matrix_of, after_checks};
-ghost use Rattle.taylor_plan.specs.Inner.{quotients_alone, admitted};
+ghost use Rattle.taylor_schedule.specs.Inner.{scheduled, matrix_of, after_checks};
+ghost use Rattle.taylor_plan.specs.Inner.{quotients_alone, plan_refusals};
 ghost use Rattle.taylor_plan.specs.TaylorPlan.{taylor_plan};
 
-use checks::Checked;
+use checks::Refusal;
 use expmv::Row;
-use generator_action::{MatrixAnswer, Shape};
+use general_operator::CsrMatrix;
+use generator_action::Shape;
 use phi_action_helpers::{Layout, SweepPlan};
-use taylor_job::TaylorAnswer;
-use taylor_schedule::Schedule;
+use taylor_job::TaylorReport;
 
-// 14, 33 and 24 to 26, with the row of the schedule.
-fn admit_plan(g: Shape, tau: f64, cap: u32, memory: usize) -> Schedule
-    ensures { result ≡ admitted g tau cap memory }
+// 14, 33 and 24 to 26: the row of the schedule.
+fn admit_plan(g: Shape, tau: f64, cap: u32, memory: usize) -> Result<Row, Refusal>
+    ensures { result ≡ or_first (plan_refusals g tau cap memory) (scheduled cap g.norm tau) }
 {
-    let schedule = taylor_schedule::check_schedule(cap, g.norm, tau);
-    let planned = schedule.checked;
-    let host = combination::and_then(planned, combination::check_memory(memory, g.stored));
-    Schedule {
-        checked: combination::and_then(combination::check_plan(tau, cap), host),
-        row: schedule.row,
-    }
+    combination::check_plan(tau, cap)?;
+    let row = taylor_schedule::check_schedule(cap, g.norm, tau)?;
+    combination::check_memory(memory, g.stored)?;
+    Ok(row)
 }
 
 // The quotients stand at the front of the lent memory, and nothing behind them.
@@ -68,7 +65,13 @@ fn from_row(
     ensures work_after { work.new ≡ splice 0 (stored (csr g.n starts.now cols.now vals.now) (given g.with_mass mass.now)) work.old }
 {
     let l = quotients_alone(g.n, g.with_mass);
-    stored_quotients::store_quotients(g.n, starts, cols, vals, g.with_mass, mass, work, 0);
+    let q = CsrMatrix {
+        n: g.n,
+        starts,
+        cols,
+        vals,
+    };
+    stored_quotients::store_quotients(q, g.with_mass, mass, work, 0);
     let shift = taylor_job::shift_at(starts, cols, vals, work, l, g.norm);
     phi_shift::with_shift(cap, tau, row, shift)
 }
@@ -83,14 +86,11 @@ fn planned(
     tau: f64,
     cap: u32,
     work: &mut [f64],
-) -> TaylorAnswer
+) -> Result<TaylorReport, Refusal>
     requires { Passed (csr g.n starts.now cols.now vals.now) (given g.with_mass mass.now) g }
     ensures { (gs : List Check) → Sound ≡ first gs → ends result [] work.new ≡ taylor_plan (after_checks gs (csr g.n starts.now cols.now vals.now) (given g.with_mass mass.now) g) tau cap work.old }
 {
-    let Schedule { checked, row } = admit_plan(g, tau, cap, work.len());
-    let Checked::Sound = checked else {
-        return TaylorAnswer::Refusal(checks::number(checked), checks::reported(checked));
-    };
+    let row = admit_plan(g, tau, cap, work.len())?;
     let p = from_row(starts, cols, vals, mass, work, g, tau, cap, row);
     let cost = Row { s: p.s, m: p.m }.cost();
     taylor_job::finish(work, g.stored, p, cost)
@@ -107,16 +107,10 @@ pub fn taylor_plan(
     tau: f64,
     cap: u32,
     work: &mut [f64],
-) -> TaylorAnswer
+) -> Result<TaylorReport, Refusal>
     ensures { ends result [] work.new ≡ taylor_plan (forward (csr n starts.now cols.now vals.now) (given with_mass mass.now)) tau cap work.old }
 {
-    let matrix = generator_checks::check_generator(n, starts, cols, vals, with_mass, mass);
-    let MatrixAnswer::Norm(norm, _) = matrix else {
-        return TaylorAnswer::Refusal(
-            generator_action::number(matrix),
-            generator_action::value(matrix),
-        );
-    };
-    let g = generator_action::generator_shape(n, with_mass, vals.len(), norm);
+    let matrix = generator_checks::check_generator(n, starts, cols, vals, with_mass, mass)?;
+    let g = generator_action::generator_shape(n, with_mass, vals.len(), matrix.norm);
     planned(starts, cols, vals, mass, g, tau, cap, work)
 }

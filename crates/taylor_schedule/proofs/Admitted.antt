@@ -17,8 +17,7 @@ use Rattle.lists.proofs.Window.{length_window}
 use Rattle.doubles.specs.F64.{+0}
 use Rattle.checks.specs.First.{Check, first}
 use Rattle.checks.proofs.First.{sound_cons, sound_append}
-use Rattle.checks.specs.declared.Checked.{Checked}
-use Rattle.checks.specs.declared.Checked.TheVariants.{Sound}
+use Rattle.checks.specs.First.{Checked}
 use Rattle.general_operator.proofs.Sound.{or_false}
 use Rattle.expmv.specs.Select.{select_s_m}
 use Rattle.expmv.specs.declared.Row.{Row}
@@ -26,6 +25,7 @@ use Rattle.phi_shift.specs.Plan.{argument}
 use Rattle.combination.specs.Combination.{vector, eta_of, column_places, combination_start, init_aug_vector}
 use Rattle.combination.specs.Checks.{no_row, count_checks, index_checks, plan_checks, length_checks, finite_checks, magnitude_checks, schedule_checks, memory_checks, vector_checks_by, vector_checks, sweep_checks, job_checks}
 use Rattle.taylor_schedule.specs.Inner.{row_of, one_column, Coupled}
+use Rattle.checks.specs.Reasons.{Sound}
 
 -- ---- 12 to 17
 pub record Vectors (n count long output : ℕ) : Type 0 where

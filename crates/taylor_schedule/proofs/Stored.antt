@@ -22,7 +22,7 @@ use Rattle.generator_action.proofs.Quotients.{length_normalise}
 use Rattle.phi_action_helpers.specs.declared.Coupling.{Coupling}
 use Rattle.phi_action_helpers.specs.declared.Layout.{Layout}
 use Rattle.phi_action_helpers.specs.Augmented.{augmented}
-use Rattle.phi_action_helpers.specs.Laid.{Ready, Lined, matrix_at, operator_at}
+use Rattle.phi_action_helpers.specs.Laid.{ReadyAt, Lined, matrix_at, operator_at}
 use Rattle.phi_action_helpers.proofs.Sweeps.{laid}
 use Rattle.combination.specs.Call.{cleared}
 use Rattle.taylor_schedule.specs.Inner.{Coupled, after_checks}
@@ -104,6 +104,6 @@ module _ {starts cols : List ℕ} {vals mass : List Float} {g : Shape} {d need :
       pub operator_is : operator_at l c starts cols vals vectors w₁ ≡ augmented (matrix_of g starts cols vals mass) d vectors c.places c.gains c.count
       operator_is = rw (matrix_is, h.chain) refl
 
-      pub ready : Lined l → Ready l c starts cols vals vectors w₁
+      pub ready : Lined l → ReadyAt l c starts cols vals vectors w₁
       ready o =
           laid o matrix_valid cp.few (rw h.chain cp.chained) (rw h.rows cp.columns) (rw long₁ (omega (arith, o.then_product, h.behind, h.enough))) stored_in

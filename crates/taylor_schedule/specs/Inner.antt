@@ -1,7 +1,7 @@
--- What the checks of a job hand back beside their answer: cited by contracts of inner functions, and by no definition of a call. Definitions only.
-use Rattle.std.specs.Prelude.{Bool, not, List, [], ◌∷◌, ◌++◌, ℕ, ◌+◌, ◌≤◌, ◌<◌, get_or, Float, Option, Some, None}
-use Rattle.doubles.specs.F64.{1f, is_finite}
-use Rattle.checks.specs.First.{Check, refuse, first}
+-- What the checks of a job guard: cited by contracts of inner functions, and by no definition of a call. Definitions only.
+use Rattle.std.specs.Prelude.{List, [], ◌∷◌, ◌++◌, ℕ, ◌+◌, ◌≤◌, ◌<◌, get_or, Float, Option, Some, None}
+use Rattle.doubles.specs.F64.{1f}
+use Rattle.checks.specs.First.{Check}
 use Rattle.general_operator.specs.Csr.{Csr, csr}
 use Rattle.generator_action.specs.Mass.{Mass, given, quotients}
 use Rattle.generator_action.specs.Generator.{Generator}
@@ -12,32 +12,26 @@ use Rattle.expmv.specs.declared.Row.{Row}
 use Rattle.phi_shift.specs.Plan.{argument}
 use Rattle.phi_action_helpers.specs.declared.Coupling.{Coupling}
 use Rattle.weighted_columns.specs.Inner.{coupling_of}
-use Rattle.taylor_schedule.specs.declared.Schedule.{Schedule}
 use Rattle.taylor_schedule.specs.declared.Job.{Job}
 use Rattle.combination.specs.Combination.{eta_of}
 use Rattle.combination.specs.Checks.{schedule_checks, memory_checks, taylor_need, sweep_checks, job_checks}
 
 -- ---- 24 and 25
-abbrev pub argument_checks : Float → Bool → List Check
-argument_checks arg none = refuse 24 (not (is_finite arg)) arg ∷ refuse 25 none arg ∷ []
-
 -- the row found, of no sweep where there is none
 abbrev pub row_of : Option Row → Row
 row_of None = row 0 0
 row_of (Some r) = r
 
-abbrev pub schedule : ℕ → Float → Float → Schedule
-schedule m_max norm tau =
-    record { checked = first (schedule_checks m_max norm tau); row = row_of (select_s_m m_max (argument tau norm)) }
+abbrev pub scheduled : ℕ → Float → Float → Row
+scheduled m_max norm tau = row_of (select_s_m m_max (argument tau norm))
 
 abbrev pub host_checks : Shape → Float → ℕ → ℕ → ℕ → List Check
 host_checks g tau cap d memory = schedule_checks cap g.norm tau ++ memory_checks memory (taylor_need g.n d g.stored)
 
--- ---- 21, 22 and 24 to 26 of a combination, 13 to 17, 33 and 24 to 26 of an action: the answer, and what was found, of a generator with the numbers g
-abbrev pub job_of : Shape → Float → ℕ → ℕ → List Check → Float → Coupling → Job
-job_of g tau cap d checks inv b =
+-- ---- a job over a generator with the numbers g: what it takes of a combination and of an action, and what refuses it
+abbrev pub job_of : Shape → Float → ℕ → ℕ → Float → Coupling → Job
+job_of g tau cap d inv b =
     record {
-      checked = first checks;
       g = g;
       tau = tau;
       cap = cap;
@@ -45,20 +39,26 @@ job_of g tau cap d checks inv b =
       need = taylor_need g.n d g.stored;
       inv = inv;
       b = b;
-      row = (schedule cap g.norm tau).row;
+      row = scheduled cap g.norm tau;
     }
 
-abbrev pub combination_job : Shape → Float → ℕ → ℕ → List Float → ℕ → Job
-combination_job g tau cap d f memory =
-    job_of g tau cap d (sweep_checks g.n tau cap d f g.norm memory (taylor_need g.n d g.stored)) (eta_of g.n f tau d).inv (coupling_of g.n f tau d)
+abbrev pub combination_job : Shape → Float → ℕ → ℕ → List Float → Job
+combination_job g tau cap d f = job_of g tau cap d (eta_of g.n f tau d).inv (coupling_of g.n f tau d)
+
+-- 21, 22 and 24 to 26 of a combination, with `memory` doubles lent
+abbrev pub combination_refusals : Shape → Float → ℕ → ℕ → List Float → ℕ → List Check
+combination_refusals g tau cap d f memory = sweep_checks g.n tau cap d f g.norm memory (taylor_need g.n d g.stored)
 
 -- an action has one column, v
 abbrev pub one_column : Float → Coupling
 one_column eta = record { places = 0 ∷ 0 ∷ 0 ∷ []; gains = eta ∷ 1f ∷ 1f ∷ []; count = 1 }
 
-abbrev pub action_job : Shape → Float → ℕ → ℕ → List Float → ℕ → ℕ → ℕ → Job
-action_job g tau cap k v output wanted memory =
-    job_of g tau cap 3 (job_checks k tau cap output wanted v g.n g.norm memory (taylor_need g.n 3 g.stored)) (eta_scaling (sup v)).inv (one_column (eta_scaling (sup v)).eta)
+abbrev pub action_job : Shape → Float → ℕ → List Float → Job
+action_job g tau cap v = job_of g tau cap 3 (eta_scaling (sup v)).inv (one_column (eta_scaling (sup v)).eta)
+
+-- 13 to 17, 33 and 24 to 26 of an action
+abbrev pub action_refusals : Shape → Float → ℕ → ℕ → List Float → ℕ → ℕ → ℕ → List Check
+action_refusals g tau cap k v output wanted memory = job_checks k tau cap output wanted v g.n g.norm memory (taylor_need g.n 3 g.stored)
 
 -- ---- what a run takes from them
 -- the columns of W lie within the vectors and the chain

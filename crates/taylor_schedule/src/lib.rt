@@ -1,56 +1,36 @@
 // A Taylor job as its checks leave it: the row of the schedule, and the need of memory.
 #![tactic(auto)]
 
-ghost use Rattle.std.specs.Prelude.{◌≡◌, List, ◌++◌, ◌+◌, ◌*◌, ◌≤◌};
-ghost use Rattle.checks.specs.First.{Check, first};
-ghost use Rattle.combination.specs.Checks.{taylor_need};
-ghost use Rattle.taylor_schedule.specs.Inner.{argument_checks, schedule, host_checks, job_of};
+ghost use Rattle.std.specs.Prelude.{◌≡◌, ◌+◌, ◌*◌, ◌≤◌};
+ghost use Rattle.checks.specs.First.{or_first};
+ghost use Rattle.combination.specs.Checks.{schedule_checks, taylor_need};
+ghost use Rattle.taylor_schedule.specs.Inner.{scheduled, host_checks, job_of};
 
-use checks::Checked;
+use checks::{Reason, Refusal};
 use expmv::Row;
 use generator_action::Shape;
 use phi_action_helpers::Coupling;
 
-// 24 and 25. 23, a norm out of range, never occurs, and its number is not used again.
-fn check_argument(arg: f64, no_row: bool) -> Checked
-    ensures { result ≡ first (argument_checks arg no_row) }
-{
-    if !float::is_finite(arg) {
-        return Checked::Refused(24, arg);
-    }
-    if no_row {
-        return Checked::Refused(25, arg);
-    }
-    Checked::Sound
-}
-
-// What 24 and 25 find: the row of the schedule.
-#[derive(Clone, Copy)]
-pub struct Schedule {
-    pub checked: Checked,
-    pub row: Row,
-}
-
-pub fn check_schedule(m_max: u32, norm: f64, tau: f64) -> Schedule
-    ensures { result ≡ schedule m_max norm tau }
+// 24 and 25: the row of the schedule. 23, a norm out of range, never occurs, and its number is not used again.
+pub fn check_schedule(m_max: u32, norm: f64, tau: f64) -> Result<Row, Refusal>
+    ensures { result ≡ or_first (schedule_checks m_max norm tau) (scheduled m_max norm tau) }
 {
     let arg = phi_shift::argument(tau, norm);
-    let Some(row) = expmv::select_s_m(m_max, arg) else {
-        return Schedule {
-            checked: check_argument(arg, true),
-            row: Row { s: 0, m: 0 },
-        };
-    };
-    Schedule {
-        checked: check_argument(arg, false),
-        row,
+    if !float::is_finite(arg) {
+        return Err(Refusal {
+            reason: Reason::ArgumentNotFinite,
+            value: arg,
+        });
     }
+    expmv::select_s_m(m_max, arg).ok_or(Refusal {
+        reason: Reason::NoAdmissibleRow,
+        value: arg,
+    })
 }
 
 // A Taylor job as its checks leave it: what they found, with the numbers of its generator.
 #[derive(Clone, Copy)]
 pub struct Job {
-    pub checked: Checked,
     pub g: Shape,
     pub tau: f64,
     pub cap: u32,
@@ -69,9 +49,8 @@ fn taylor_need(n: usize, d: usize, stored: usize) -> usize
     3 * n + 2 * d + stored
 }
 
-// 24 to 26, after some checks.
+// 24 to 26.
 pub fn plan_job(
-    before: Checked,
     g: Shape,
     tau: f64,
     cap: u32,
@@ -79,16 +58,14 @@ pub fn plan_job(
     inv: f64,
     b: Coupling,
     memory: usize,
-) -> Job
+) -> Result<Job, Refusal>
     requires { (g.n ≤ 1000000) × (d ≤ 3) × (g.stored ≤ 16777216) }
-    ensures { (xs : List Check) → before ≡ first xs → result ≡ job_of g tau cap d (xs ++ host_checks g tau cap d memory) inv b }
+    ensures { result ≡ or_first (host_checks g tau cap d memory) (job_of g tau cap d inv b) }
 {
-    let schedule = check_schedule(cap, g.norm, tau);
-    let planned = schedule.checked;
+    let row = check_schedule(cap, g.norm, tau)?;
     let need = taylor_need(g.n, d, g.stored);
-    let host = combination::and_then(planned, combination::check_memory(memory, need));
-    Job {
-        checked: combination::and_then(before, host),
+    combination::check_memory(memory, need)?;
+    Ok(Job {
         g,
         tau,
         cap,
@@ -96,6 +73,6 @@ pub fn plan_job(
         need,
         inv,
         b,
-        row: schedule.row,
-    }
+        row,
+    })
 }

@@ -8,50 +8,37 @@ ghost use Rattle.lists.specs.Frame.{Kept};
 ghost use Rattle.doubles.specs.F64.{+0};
 ghost use Rattle.vectors.specs.Vectors.{scale};
 ghost use Rattle.phi_action_helpers.specs.Sweeps.{shifted, horner_step, aug_horner_outer, rescale, sweep, run_sweeps};
-ghost use Rattle.phi_action_helpers.specs.Laid.{operator_at, Ready, Lined, added, horner_at, swept_at};
+ghost use Rattle.phi_action_helpers.specs.Laid.{Ready, Lined, added, horner_at, swept_at, operator_in};
 
 use phi_action_helpers::{SweepArgs, SweepPlan};
 
 // The m terms.
-fn terms(
-    starts: &[u32],
-    cols: &[u32],
-    vals: &[f64],
-    vectors: &[f64],
-    work: &mut [f64],
-    x: SweepArgs,
-) -> u64
-    requires ready { Ready x.l x.b starts.now cols.now vals.now vectors.now work.old }
-    requires lined { Lined x.l }
-    ensures work_after { horner_at x.l result work.new ≡ iter (horner_step (operator_at x.l x.b starts.now cols.now vals.now vectors.now work.old) x.tau x.p) x.p.m (horner_at x.l 0 work.old) }
-    ensures kept { Kept 0 x.l.q +0 work.old work.new }
+fn terms(work: &mut [f64], x: SweepArgs) -> u64
+    requires ready { Ready x.o work.old }
+    requires lined { Lined x.o.l }
+    ensures work_after { horner_at x.entry.o.l result work.new ≡ iter (horner_step (operator_in x.entry.o work.old) x.entry.tau x.entry.p) x.entry.p.m (horner_at x.entry.o.l 0 work.old) }
+    ensures kept { Kept 0 x.entry.o.l.q +0 work.old work.new }
 {
     let m = x.p.m;
     let mut applied = 0u64;
+    // k is the term's number, by which it is divided
     for k in 0..m {
-        applied = taylor_terms::horner_step(starts, cols, vals, vectors, work, x, k, applied);
+        applied = taylor_terms::horner_step(work, x, k, applied);
     }
     applied
 }
 
 // One sweep: the field is the first term, and m terms are added to it.
-fn aug_horner_outer(
-    starts: &[u32],
-    cols: &[u32],
-    vals: &[f64],
-    vectors: &[f64],
-    work: &mut [f64],
-    x: SweepArgs,
-) -> u64
-    requires ready { Ready x.l x.b starts.now cols.now vals.now vectors.now work.old }
-    requires lined { Lined x.l }
-    ensures work_after { horner_at x.l result work.new ≡ aug_horner_outer (operator_at x.l x.b starts.now cols.now vals.now vectors.now work.old) x.tau x.p (window 0 (x.l.n + x.l.d) work.old) }
-    ensures kept { Kept 0 x.l.q +0 work.old work.new }
+fn aug_horner_outer(work: &mut [f64], x: SweepArgs) -> u64
+    requires ready { Ready x.o work.old }
+    requires lined { Lined x.o.l }
+    ensures work_after { horner_at x.entry.o.l result work.new ≡ aug_horner_outer (operator_in x.entry.o work.old) x.entry.tau x.entry.p (window 0 (x.entry.o.l.n + x.entry.o.l.d) work.old) }
+    ensures kept { Kept 0 x.entry.o.l.q +0 work.old work.new }
 {
-    let w = x.l.w;
-    let len = x.l.n + x.l.d;
+    let w = x.o.l.w;
+    let len = x.o.l.n + x.o.l.d;
     vectors::copy_in(work, w, 0, len);
-    terms(starts, cols, vals, vectors, work, x)
+    terms(work, x)
 }
 
 // With a shift, work[y + i] = work[y + i] * f.
@@ -66,47 +53,31 @@ fn rescale_in(work: &mut [f64], y: usize, len: usize, p: SweepPlan, f: f64)
 }
 
 // One sweep and its rescale by f. The products with the generator are added to those made before.
-fn sweep(
-    starts: &[u32],
-    cols: &[u32],
-    vals: &[f64],
-    vectors: &[f64],
-    work: &mut [f64],
-    x: SweepArgs,
-    f: f64,
-    applied: u64,
-) -> u64
-    requires ready { Ready x.l x.b starts.now cols.now vals.now vectors.now work.old }
-    requires lined { Lined x.l × (f ≡ rescale x.p) × (applied + x.p.m ≤ 18446744073709551615) }
-    ensures work_after { swept_at x.l result work.new ≡ sweep (operator_at x.l x.b starts.now cols.now vals.now vectors.now work.old) x.tau x.p (swept_at x.l applied work.old) }
-    ensures kept { Kept 0 x.l.q +0 work.old work.new }
+fn sweep(work: &mut [f64], x: SweepArgs, f: f64, applied: u64) -> u64
+    requires ready { Ready x.o work.old }
+    requires lined { Lined x.o.l × (f ≡ rescale x.p) × (applied + x.p.m ≤ 18446744073709551615) }
+    ensures work_after { swept_at x.entry.o.l result work.new ≡ sweep (operator_in x.entry.o work.old) x.entry.tau x.entry.p (swept_at x.entry.o.l applied work.old) }
+    ensures kept { Kept 0 x.entry.o.l.q +0 work.old work.new }
 {
-    let made = aug_horner_outer(starts, cols, vals, vectors, work, x);
-    let len = x.l.n + x.l.d;
+    let made = aug_horner_outer(work, x);
+    let len = x.o.l.n + x.o.l.d;
     let p = x.p;
     rescale_in(work, 0, len, p, f);
     applied + made
 }
 
 // s sweeps.
-pub fn run_sweeps(
-    starts: &[u32],
-    cols: &[u32],
-    vals: &[f64],
-    vectors: &[f64],
-    work: &mut [f64],
-    x: SweepArgs,
-) -> u64
-    requires ready { Ready x.l x.b starts.now cols.now vals.now vectors.now work.old }
-    requires lined { Lined x.l × (x.p.m ≤ 30) }
-    ensures work_after { swept_at x.l result work.new ≡ run_sweeps (operator_at x.l x.b starts.now cols.now vals.now vectors.now work.old) x.tau x.p (window 0 (x.l.n + x.l.d) work.old) }
-    ensures kept { Kept 0 x.l.q +0 work.old work.new }
+pub fn run_sweeps(work: &mut [f64], x: SweepArgs) -> u64
+    requires ready { Ready x.o work.old }
+    requires lined { Lined x.o.l × (x.p.m ≤ 30) }
+    ensures work_after { swept_at x.entry.o.l result work.new ≡ run_sweeps (operator_in x.entry.o work.old) x.entry.tau x.entry.p (window 0 (x.entry.o.l.n + x.entry.o.l.d) work.old) }
+    ensures kept { Kept 0 x.entry.o.l.q +0 work.old work.new }
 {
     let s = x.p.s;
     let f = dense_la::dense_exp(x.p.mu / (s as f64));
     let mut applied = 0u64;
-    for i in 0..s {
-        applied = sweep(starts, cols, vals, vectors, work, x, f, applied);
+    for _ in 0..s {
+        applied = sweep(work, x, f, applied);
     }
     applied
 }

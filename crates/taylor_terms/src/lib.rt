@@ -2,7 +2,7 @@
 // 1,000 places.
 #![tactic(auto)]
 
-ghost use Rattle.std.specs.Prelude.{◌≡◌, false, ◌+◌, ◌≤◌, ◌<◌, length};
+ghost use Rattle.std.specs.Prelude.{◌≡◌, false, ◌+◌, ◌≤◌, ◌<◌, length, get_or};
 ghost use Rattle.lists.specs.Loop.{tabulate, zip_with};
 ghost use Rattle.lists.specs.Window.{window, splice};
 ghost use Rattle.lists.specs.Frame.{Kept};
@@ -10,9 +10,10 @@ ghost use Rattle.lists.specs.Bounds.{Apart};
 ghost use Rattle.doubles.specs.F64.{◌⊕◌, ◌⊗◌, +0, at};
 ghost use Rattle.phi_action_helpers.specs.Augmented.{scalars, generator_term};
 ghost use Rattle.phi_action_helpers.specs.Sweeps.{shifted, scales, horner_step};
-ghost use Rattle.phi_action_helpers.specs.Laid.{operator_at, Ready, Lined, termed, added, horner_at};
+ghost use Rattle.phi_action_helpers.specs.Laid.{Ready, Lined, termed, added, horner_at, operator_in};
 
-use phi_action_helpers::{Coupling, Layout, Scales, SweepArgs, SweepPlan};
+use general_operator::CsrMatrix;
+use phi_action_helpers::{AugmentedOperator, Scales, SweepArgs, SweepPlan};
 
 // The scalars of term j.
 fn scales_of(tau: f64, p: SweepPlan, j: u32) -> Scales
@@ -41,20 +42,16 @@ fn add_in(work: &mut [f64], y: usize, w: usize, len: usize)
 }
 
 // Where W has one column, work[w + i] becomes row i of the next term, and is added to the field: what `top_in` and `add_in` do, in one loop.
-fn term_rows_in(
-    k: Scales,
-    vectors: &[f64],
-    p: usize,
-    s: f64,
-    work: &mut [f64],
-    w: usize,
-    av: usize,
-    n: usize,
-)
-    requires n_in_bounds { p + n ≤ length vectors.now }
-    requires n_le_w { (n ≤ w) × (w + n ≤ av) × (av + n ≤ length work.old) }
-    ensures { work.new ≡ splice 0 (tabulate n (λ i. at work.old i ⊕ (generator_term k (at work.old (av + i)) (at work.old (w + i)) ⊕ s ⊗ at vectors.now (p + i)))) (splice w (tabulate n (λ i. generator_term k (at work.old (av + i)) (at work.old (w + i)) ⊕ s ⊗ at vectors.now (p + i))) work.old) }
+fn term_rows_in(o: AugmentedOperator, k: Scales, s: f64, work: &mut [f64])
+    requires n_in_bounds { get_or o.b.places 0 0 + o.l.n ≤ length o.vectors.now }
+    requires n_le_w { (o.l.n ≤ o.l.w) × (o.l.w + o.l.n ≤ o.l.av) × (o.l.av + o.l.n ≤ length work.old) }
+    ensures { work.new ≡ splice 0 (tabulate o.entry.l.n (λ i. at work.old i ⊕ (generator_term k (at work.old (o.entry.l.av + i)) (at work.old (o.entry.l.w + i)) ⊕ s ⊗ at o.entry.vectors.now (get_or o.entry.b.places 0 0 + i)))) (splice o.entry.l.w (tabulate o.entry.l.n (λ i. generator_term k (at work.old (o.entry.l.av + i)) (at work.old (o.entry.l.w + i)) ⊕ s ⊗ at o.entry.vectors.now (get_or o.entry.b.places 0 0 + i))) work.old) }
 {
+    let n = o.l.n;
+    let w = o.l.w;
+    let av = o.l.av;
+    let p = o.b.places[0];
+    let vectors = o.vectors;
     for i in 0..n {
         let t = phi_action_helpers::generator_term(k, work[av + i], work[w + i])
             + s * vectors[p + i];
@@ -65,80 +62,51 @@ fn term_rows_in(
 }
 
 // The next term and the field, where W has one column.
-fn single_term_in(
-    starts: &[u32],
-    cols: &[u32],
-    vals: &[f64],
-    vectors: &[f64],
-    work: &mut [f64],
-    l: Layout,
-    b: Coupling,
-    k: Scales,
-)
-    requires ready { Ready l b starts.now cols.now vals.now vectors.now work.old }
-    requires lined { Lined l × (b.count ≡ 1) }
-    ensures { work.new ≡ added l (termed l (operator_at l b starts.now cols.now vals.now vectors.now work.old) k work.old) }
+fn single_term_in(o: AugmentedOperator, work: &mut [f64], k: Scales)
+    requires ready { Ready o work.old }
+    requires lined { Lined o.l × (o.b.count ≡ 1) }
+    ensures { work.new ≡ added o.entry.l (termed o.entry.l (operator_in o.entry work.old) k work.old) }
 {
+    let l = o.l;
     let n = l.n;
     let d = l.d;
-    let w = l.w;
-    let av = l.av;
-    let chain = w + n;
+    let chain = l.w + n;
     let end = chain + d;
-    let p = b.places[0];
-    let gains = b.gains;
-    csr_matvec::apply_generator(
-        starts, cols, vals, l.mass, work, l.q, w, av, n, false, k.tau,
-    );
-    let sc = phi_action_helpers::scalars(gains, 1, k.one, &work[chain..end]);
-    term_rows_in(k, vectors, p, sc[0], work, w, av, n);
+    let q = CsrMatrix {
+        n: l.n,
+        starts: o.starts,
+        cols: o.cols,
+        vals: o.vals,
+    };
+    csr_matvec::apply_generator(q, l.mass, work, l.q, l.w, l.av, false, k.tau);
+    let sc = phi_action_helpers::scalars(o.b.gains, 1, k.one, &work[chain..end]);
+    term_rows_in(o, k, sc[0], work);
     phi_action_helpers::chain_in(work, chain, d, k);
     add_in(work, n, chain, d);
 }
 
 // The next term, and the field with it added.
-fn term_in(
-    starts: &[u32],
-    cols: &[u32],
-    vals: &[f64],
-    vectors: &[f64],
-    work: &mut [f64],
-    l: Layout,
-    b: Coupling,
-    k: Scales,
-)
-    requires ready { Ready l b starts.now cols.now vals.now vectors.now work.old }
-    requires lined { Lined l }
-    ensures { work.new ≡ added l (termed l (operator_at l b starts.now cols.now vals.now vectors.now work.old) k work.old) }
+fn term_in(o: AugmentedOperator, work: &mut [f64], k: Scales)
+    requires ready { Ready o work.old }
+    requires lined { Lined o.l }
+    ensures { work.new ≡ added o.entry.l (termed o.entry.l (operator_in o.entry work.old) k work.old) }
 {
-    if b.count == 1 {
-        single_term_in(starts, cols, vals, vectors, work, l, b, k);
+    if o.b.count == 1 {
+        single_term_in(o, work, k);
     } else {
-        phi_action_helpers::aug_matvec(starts, cols, vals, vectors, work, l, b, k);
-        add_in(work, 0, l.w, l.n + l.d);
+        phi_action_helpers::aug_matvec(o, work, k);
+        add_in(work, 0, o.l.w, o.l.n + o.l.d);
     }
 }
 
 // Term k + 1: it takes the place of the last one and is added to the field. The products with the generator are counted.
-pub fn horner_step(
-    starts: &[u32],
-    cols: &[u32],
-    vals: &[f64],
-    vectors: &[f64],
-    work: &mut [f64],
-    x: SweepArgs,
-    k: u32,
-    applied: u64,
-) -> u64
-    requires ready { Ready x.l x.b starts.now cols.now vals.now vectors.now work.old }
-    requires lined { Lined x.l × (k < x.p.m) × (applied ≤ k) }
-    ensures work_after { horner_at x.l result work.new ≡ horner_step (operator_at x.l x.b starts.now cols.now vals.now vectors.now work.old) x.tau x.p k (horner_at x.l applied work.old) }
-    ensures kept { Kept 0 x.l.q +0 work.old work.new }
+pub fn horner_step(work: &mut [f64], x: SweepArgs, k: u32, applied: u64) -> u64
+    requires ready { Ready x.o work.old }
+    requires lined { Lined x.o.l × (k < x.p.m) × (applied ≤ k) }
+    ensures work_after { horner_at x.entry.o.l result work.new ≡ horner_step (operator_in x.entry.o work.old) x.entry.tau x.entry.p k (horner_at x.entry.o.l applied work.old) }
+    ensures kept { Kept 0 x.entry.o.l.q +0 work.old work.new }
 {
-    let l = x.l;
-    let b = x.b;
-    let p = x.p;
-    let s = scales_of(x.tau, p, k + 1);
-    term_in(starts, cols, vals, vectors, work, l, b, s);
+    let s = scales_of(x.tau, x.p, k + 1);
+    term_in(x.o, work, s);
     applied + 1
 }

@@ -9,16 +9,16 @@ use lib.Ieee.{Float}
 use Rattle.lists.specs.Window.{window, splice}
 use Rattle.lists.proofs.Window.{length_splice, window_splice_same}
 use Rattle.checks.specs.First.{first}
-use Rattle.checks.specs.declared.Checked.{Checked}
-use Rattle.checks.specs.declared.Checked.TheVariants.{Sound, Refused}
+use Rattle.checks.specs.First.{Checked}
 use Rattle.general_operator.specs.Csr.{Csr, csr, Valid}
 use Rattle.generator_action.specs.Mass.{Mass, normalise, quotients, norm_checks}
 use Rattle.generator_action.specs.Known.{Finite, Answered}
-use Rattle.generator_action.specs.declared.MatrixAnswer.{MatrixAnswer}
-use Rattle.generator_action.specs.declared.MatrixAnswer.TheVariants.{Refusal}
+use Rattle.generator_action.specs.Answer.{MatrixAnswer}
 use Rattle.generator_action.proofs.Ways.{answered_up, answered_on}
 use Rattle.transpose.specs.Transpose.{Buffers, buffers, lengths, transpose, before_transposing, transposed_checks, filled, buffers_after, transposed_answer}
 use Rattle.transpose.proofs.Passed.{Transposable, transposable, transposed_valid, transposed_finite, transposed_length}
+use Rattle.checks.specs.Reasons.{Sound, Refused}
+use Rattle.checks.specs.declared.Reason.{Reason}
 
 take_written : {A : Type 0} (n : ℕ) (vs w : List A) → length vs ≡ n → n ≤ length w → take n (splice 0 vs w) ≡ vs
 unfolding window
@@ -31,11 +31,11 @@ same_rows a (some m) = refl
 
 module _ (a : Csr) (mass : Mass) (b : Buffers) where
   -- up to 30: nothing is written
-  pub refused_answer : {s : Checked} {k : ℕ} {x : Float} → s ≡ Refused k x → s ≡ first (before_transposing a mass (lengths b)) → Refusal k x ≡ transposed_answer a mass (lengths b)
+  pub refused_answer : {s : Checked} {k : Reason} {x : Float} → s ≡ Refused k x → s ≡ first (before_transposing a mass (lengths b)) → Refused k x ≡ transposed_answer a mass (lengths b)
   unfolding transposed_answer transposed_checks
   refused_answer e d = (answered_up {q = transpose (quotients a mass)} (before_transposing a mass (lengths b)) (norm_checks (transpose (quotients a mass))) e d).is
 
-  pub refused_buffers : {s : Checked} {k : ℕ} {x : Float} → s ≡ Refused k x → s ≡ first (before_transposing a mass (lengths b)) → b ≡ buffers_after a mass b
+  pub refused_buffers : {s : Checked} {k : Reason} {x : Float} → s ≡ Refused k x → s ≡ first (before_transposing a mass (lengths b)) → b ≡ buffers_after a mass b
   unfolding buffers_after filled
   refused_buffers e d = rw (← d, e) refl
 

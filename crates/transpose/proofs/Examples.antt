@@ -7,8 +7,10 @@ use Rattle.doubles.specs.F64.{bits, +0, 1f, 2f, 1/2f, +∞}
 use Rattle.general_operator.specs.Csr.{Csr, csr}
 use Rattle.generator_action.specs.Mass.{quotients}
 use Rattle.generator_action.specs.Answer.{matrix_answer}
-use Rattle.generator_action.specs.declared.MatrixAnswer.TheVariants.{Refusal, Norm}
 use Rattle.transpose.specs.Transpose.{transpose, ordered, lent, buffers, buffers_after, transposed_answer, open_transpose}
+use Rattle.checks.specs.Reasons.{Refused}
+use Rattle.generator_action.specs.Answer.{Norm}
+use Rattle.checks.specs.declared.Reason.TheVariants.{FirstRowStart, NormNotFinite, TransposedLength}
 
 abbrev 4f : Float
 4f = bits 0x4010_0000_0000_0000
@@ -72,21 +74,21 @@ unfolding open_transpose
 mass_norm = refl
 
 -- ---- refusals
--- the first row starts at 1: 9 without a mass, before 11
-late_and_huge : transposed_answer (csr 1 (1 ∷ 3 ∷ []) (0 ∷ 0 ∷ 0 ∷ []) (1f ∷ bits 0x7fef_ffff_ffff_ffff ∷ bits 0x7fef_ffff_ffff_ffff ∷ [])) none (lent 0 0 0) ≡ Refusal 9 nan
+-- the first row starts at 1: 9 without a mass, before NormNotFinite
+late_and_huge : transposed_answer (csr 1 (1 ∷ 3 ∷ []) (0 ∷ 0 ∷ 0 ∷ []) (1f ∷ bits 0x7fef_ffff_ffff_ffff ∷ bits 0x7fef_ffff_ffff_ffff ∷ [])) none (lent 0 0 0) ≡ Refused FirstRowStart nan
 unfolding open_transpose
 late_and_huge = refl
 
 -- one place short, in each buffer
-short_starts : transposed_answer b none (lent 2 3 3) ≡ Refusal 30 nan
+short_starts : transposed_answer b none (lent 2 3 3) ≡ Refused TransposedLength nan
 unfolding open_transpose
 short_starts = refl
 
-short_columns : transposed_answer b none (lent 3 2 3) ≡ Refusal 30 nan
+short_columns : transposed_answer b none (lent 3 2 3) ≡ Refused TransposedLength nan
 unfolding open_transpose
 short_columns = refl
 
-short_values : transposed_answer b none (lent 3 3 2) ≡ Refusal 30 nan
+short_values : transposed_answer b none (lent 3 3 2) ≡ Refused TransposedLength nan
 unfolding open_transpose
 short_values = refl
 
@@ -94,15 +96,15 @@ short_values = refl
 abbrev huge : Csr
 huge = csr 2 (0 ∷ 1 ∷ 2 ∷ []) (0 ∷ 0 ∷ []) (bits 0x7fef_ffff_ffff_ffff ∷ bits 0x7fef_ffff_ffff_ffff ∷ [])
 
-column_sum : transposed_answer huge none (lent 3 2 2) ≡ Refusal 11 +∞
+column_sum : transposed_answer huge none (lent 3 2 2) ≡ Refused NormNotFinite +∞
 unfolding open_transpose
 column_sum = refl
 
-column_sum_mass : transposed_answer huge (some (1f ∷ 1f ∷ [])) (lent 3 2 2) ≡ Refusal 11 +∞
+column_sum_mass : transposed_answer huge (some (1f ∷ 1f ∷ [])) (lent 3 2 2) ≡ Refused NormNotFinite +∞
 unfolding open_transpose
 column_sum_mass = refl
 
-column_sum_short : transposed_answer huge (some (1f ∷ 1f ∷ [])) (lent 3 2 1) ≡ Refusal 30 nan
+column_sum_short : transposed_answer huge (some (1f ∷ 1f ∷ [])) (lent 3 2 1) ≡ Refused TransposedLength nan
 unfolding open_transpose
 column_sum_short = refl
 

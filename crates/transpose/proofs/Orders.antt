@@ -5,11 +5,12 @@ use mathlib.Core.Option.{none, some}
 use Prim.Native.Nat.{ℕ}
 use lib.Ieee.{Float}
 use Rattle.checks.specs.First.{Check}
+use Rattle.checks.specs.Reasons.{number}
 use Rattle.general_operator.specs.Csr.{Csr}
 use Rattle.transpose.specs.Transpose.{Lent, before_transposing, transposed_checks, open_transpose}
 
 abbrev numbers : List Check → List ℕ
-numbers cs = map (λ (c : Check). c.number) cs
+numbers cs = map (λ (c : Check). number c.reason) cs
 
 module _ (a : Csr) (mass : List Float) (l : Lent) where
   checked : numbers (transposed_checks a none l) ≡ 1 ∷ 2 ∷ 3 ∷ 4 ∷ 5 ∷ 6 ∷ 9 ∷ 11 ∷ 30 ∷ 11 ∷ []

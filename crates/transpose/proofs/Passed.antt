@@ -9,33 +9,31 @@ use native.Mathlib.Nat.{add-sub_of_le}
 use native.Mathlib.Omega.{arith}
 use lib.Dec.{T}
 use lib.ListN.{length}
-use lib.Ieee.{Float, is_nan}
+use lib.Ieee.{Float}
 use borrow.Author.Tests.{eqb-true, not-false}
 use Rattle.lists.proofs.Find.{none_below}
 use Rattle.doubles.specs.F64.{at, abs, is_finite, nonneg}
-use Rattle.doubles.proofs.Monotone.{div_number}
-use Rattle.doubles.proofs.Sizes.{abs_nonneg}
 use Rattle.checks.specs.First.{first}
-use Rattle.checks.specs.declared.Checked.TheVariants.{Sound, Refused}
 use Rattle.checks.proofs.First.{sound_cons, sound_append}
 use Rattle.general_operator.specs.Csr.{Csr, start, size_sum, row_sum, row_sum_norm, Valid}
 use Rattle.general_operator.specs.Checks.{matrix_checks}
-use Rattle.general_operator.proofs.Rows.{row_within}
 use Rattle.general_operator.proofs.Sound.{sound_valid, sound_finite}
 use Rattle.doubles.proofs.Finite.{terms_finite, size_finite}
 use Rattle.generator_action.specs.Mass.{Mass, row_of, normalise, quotients, quotient_need, mass_checks, bad_sum, sum_checks, norm_checks}
-use Rattle.generator_action.specs.declared.MatrixAnswer.{MatrixAnswer}
-use Rattle.generator_action.specs.declared.MatrixAnswer.TheVariants.{Refusal, Norm}
+use Rattle.generator_action.specs.Answer.{MatrixAnswer}
 use Rattle.generator_action.specs.declared.Shape.{Shape}
 use Rattle.generator_action.specs.Known.{Finite, Dividing, Divided, Passed}
 use Rattle.generator_action.proofs.Ways.{mass_sound, entries_nonneg}
-use Rattle.generator_action.proofs.Quotients.{quotient_at, quotients_valid, normalise_valid, length_quotients, length_normalise}
+use Rattle.generator_action.proofs.Quotients.{quotients_valid, normalise_valid, length_quotients}
 use Rattle.generator_action.proofs.Norm.{norm_nonneg}
 use Rattle.generator_action.proofs.Answered.{refusal_of, norm_of, norm_finite, need_light}
 use Rattle.generator_action.proofs.LargestRow.{FirstLargest, first_largest}
 use Rattle.transpose.specs.Transpose.{Lent, transpose, start_checks, forward_checks, before_transposing, transposed_checks, transposed_answer}
 use Rattle.transpose.proofs.Twice.{stands, transpose_valid, order_below, length_transposed, value_transposed}
 use Rattle.transpose.proofs.Ways.{Room, room}
+use Rattle.checks.specs.Reasons.{Sound, Refused}
+use Rattle.generator_action.specs.Answer.{Norm}
+use Rattle.checks.specs.declared.Reason.{Reason}
 
 -- ---- what the checks up to 30 leave
 pub record Transposable (a : Csr) (mass : Mass) (l : Lent) : Type 0 where
@@ -153,7 +151,7 @@ module _ (a : Csr) (mass : Mass) (l : Lent) (e : Sound ≡ first (transposed_che
 
 -- what the answer tells
 module _ (a : Csr) (mass : Mass) (l : Lent) {r : MatrixAnswer} (e : r ≡ transposed_answer a mass l) where
-  pub transposed_refusal_told : {k : ℕ} {x : Float} → r ≡ Refusal k x → Refused k x ≡ first (transposed_checks a mass l)
+  pub transposed_refusal_told : {k : Reason} {x : Float} → r ≡ Refused k x → Refused k x ≡ first (transposed_checks a mass l)
   unfolding transposed_answer
   transposed_refusal_told d = refusal_of _ _ (sym d ∙ e)
 

@@ -9,28 +9,30 @@ use lib.ListN.{length}
 use lib.Ieee.{Float, nan}
 use borrow.Author.Tests.{lt-ltb, le-ltb, ltb-false}
 use Rattle.checks.specs.First.{first}
-use Rattle.checks.specs.declared.Checked.{Checked}
-use Rattle.checks.specs.declared.Checked.TheVariants.{Sound, Refused}
+use Rattle.checks.specs.First.{Checked}
 use Rattle.checks.proofs.First.{stops, passes, ends_sound, not_eq, not_ne, sound_cons, refused_up, sound_on}
 use Rattle.general_operator.specs.Csr.{Csr, start}
 use Rattle.general_operator.specs.Checks.{matrix_checks}
 use Rattle.general_operator.proofs.Sound.{or_false}
 use Rattle.generator_action.specs.Mass.{Mass, quotients}
 use Rattle.generator_action.specs.Known.{Answered}
-use Rattle.generator_action.specs.declared.MatrixAnswer.{MatrixAnswer}
-use Rattle.generator_action.specs.declared.MatrixAnswer.TheVariants.{Refusal, Norm}
+use Rattle.generator_action.specs.Answer.{MatrixAnswer}
 use Rattle.generator_action.proofs.Answered.{refusal_of, norm_of}
 use Rattle.transpose.specs.Transpose.{Lent, start_checks, forward_checks, short, lent_checks, before_transposing}
+use Rattle.checks.specs.Reasons.{Sound, Refused}
+use Rattle.generator_action.specs.Answer.{Norm}
+use Rattle.checks.specs.declared.Reason.TheVariants.{FirstRowStart, TransposedLength}
+use Rattle.checks.specs.declared.Reason.{Reason}
 
 -- ---- 9
 module _ (a : Csr) where
-  pub refused_start : {y : Float} → y ≡ nan → 0 < start a 0 → Refused 9 y ≡ first (start_checks a)
+  pub refused_start : {y : Float} → y ≡ nan → 0 < start a 0 → Refused FirstRowStart y ≡ first (start_checks a)
   unfolding start_checks
   refused_start d h = stops [] (not_ne (λ (e : start a 0 ≡ 0). absurd (omega arith))) d
 
   pub sound_start : start a 0 ≡ 0 → Sound ≡ first (start_checks a)
   unfolding start_checks
-  sound_start e = passes 9 nan [] (not_eq e) ends_sound
+  sound_start e = passes FirstRowStart nan [] (not_eq e) ends_sound
 
 -- ---- 30
 module _ (a : Csr) (l : Lent) where
@@ -43,15 +45,15 @@ module _ (a : Csr) (l : Lent) where
   abbrev few_values : Bool
   few_values = ltb l.values (length a.entries)
 
-  refused_short : {y : Float} → y ≡ nan → short a l ≡ true → Refused 30 y ≡ first (lent_checks a l)
+  refused_short : {y : Float} → y ≡ nan → short a l ≡ true → Refused TransposedLength y ≡ first (lent_checks a l)
   unfolding lent_checks
   refused_short d e = stops [] e d
 
-  pub short_starts : {y : Float} → y ≡ nan → l.starts ≤ a.n → Refused 30 y ≡ first (lent_checks a l)
+  pub short_starts : {y : Float} → y ≡ nan → l.starts ≤ a.n → Refused TransposedLength y ≡ first (lent_checks a l)
   unfolding short
   short_starts d h = refused_short d (rw (lt-ltb l.starts (a.n + 1) (omega arith)) refl)
 
-  pub short_columns : {y : Float} → y ≡ nan → l.columns < length a.entries → Refused 30 y ≡ first (lent_checks a l)
+  pub short_columns : {y : Float} → y ≡ nan → l.columns < length a.entries → Refused TransposedLength y ≡ first (lent_checks a l)
   unfolding short
   short_columns d h = refused_short d (rw (lt-ltb l.columns (length a.entries) h) (second few_starts))
     where
@@ -59,7 +61,7 @@ module _ (a : Csr) (l : Lent) where
       second true = refl
       second false = refl
 
-  pub short_values : {y : Float} → y ≡ nan → l.values < length a.entries → Refused 30 y ≡ first (lent_checks a l)
+  pub short_values : {y : Float} → y ≡ nan → l.values < length a.entries → Refused TransposedLength y ≡ first (lent_checks a l)
   unfolding short
   short_values d h = refused_short d (rw (lt-ltb l.values (length a.entries) h) (third few_starts few_columns))
     where
@@ -70,7 +72,7 @@ module _ (a : Csr) (l : Lent) where
 
   pub long_enough : a.n < l.starts → length a.entries ≤ l.columns → length a.entries ≤ l.values → Sound ≡ first (lent_checks a l)
   unfolding lent_checks short
-  long_enough s c v = passes 30 nan [] (rw (le-ltb l.starts (a.n + 1) (omega arith), le-ltb l.columns (length a.entries) c, le-ltb l.values (length a.entries) v) refl) ends_sound
+  long_enough s c v = passes TransposedLength nan [] (rw (le-ltb l.starts (a.n + 1) (omega arith), le-ltb l.columns (length a.entries) c, le-ltb l.values (length a.entries) v) refl) ends_sound
 
   -- what 30 leaves
   pub record Room : Type 0 where
@@ -92,7 +94,7 @@ module _ (a : Csr) (mass : Mass) (l : Lent) where
   grouped = append_assoc (matrix_checks a) (forward_checks a mass) (lent_checks a l)
 
   module _ {r : MatrixAnswer} (h : Answered (quotients a mass) (matrix_checks a ++ forward_checks a mass) r) where
-    pub forward_refused : {k : ℕ} {x : Float} → r ≡ Refusal k x → Refused k x ≡ first (before_transposing a mass l)
+    pub forward_refused : {k : Reason} {x : Float} → r ≡ Refused k x → Refused k x ≡ first (before_transposing a mass l)
     forward_refused e = refused_up _ (lent_checks a l) refl (refusal_of _ _ (sym e ∙ h.is)) ∙ ap first grouped
 
     pub forward_passed : {x : Float} {i : ℕ} {s : Checked} → r ≡ Norm x i → s ≡ first (lent_checks a l) → s ≡ first (before_transposing a mass l)

@@ -6,7 +6,6 @@ use Prim.Native.Nat.{ℕ, ◌+◌, ◌≤◌}
 use lib.ListN.{length, take}
 use lib.Ieee.{Float}
 use Rattle.checks.specs.First.{first}
-use Rattle.checks.specs.declared.Checked.TheVariants.{Sound, Refused}
 use Rattle.general_operator.specs.Csr.{Csr, csr}
 use Rattle.generator_action.specs.Mass.{Mass, given, quotients, quotient_need}
 use Rattle.generator_action.specs.Generator.{Generator}
@@ -19,13 +18,15 @@ use Rattle.combination.specs.Call.{Call}
 use Rattle.taylor_schedule.specs.Inner.{after_checks}
 use Rattle.transposed.specs.Transposed.{lends}
 use Rattle.transposed_shape.specs.Inner.{shape_answer}
-use Rattle.transposed_shape.specs.declared.ShapeAnswer.{ShapeAnswer}
-use Rattle.transposed_shape.specs.declared.ShapeAnswer.TheVariants.{Refusal, Passed as Shaped}
+use Rattle.transposed_shape.specs.Inner.{ShapeAnswer}
 use Rattle.transposed_shape.proofs.Answers.{refused_told, passed_told}
+use Rattle.checks.specs.Reasons.{Sound, Refused}
+use Rattle.std.specs.Prelude.{Ok}
+use Rattle.checks.specs.declared.Reason.{Reason}
 
 -- a call that passes the refusal up
-pub over_refusal : (a : Csr) (mass : Mass) (b : Buffers) {bs : Buffers} {A : Type 0} {r : ShapeAnswer} {k : ℕ} {x : Float} {c d : Call A}
-    → (r ≡ shape_answer a mass (first (transposed_checks a mass (lengths b)))) × (bs ≡ buffers_after a mass b) → r ≡ Refusal k x → (Refused k x ≡ first (transposed_checks a mass (lengths b)) → c ≡ d)
+pub over_refusal : (a : Csr) (mass : Mass) (b : Buffers) {bs : Buffers} {A : Type 0} {r : ShapeAnswer} {k : Reason} {x : Float} {c d : Call A}
+    → (r ≡ shape_answer a mass (first (transposed_checks a mass (lengths b)))) × (bs ≡ buffers_after a mass b) → r ≡ Refused k x → (Refused k x ≡ first (transposed_checks a mass (lengths b)) → c ≡ d)
     → lends c bs ≡ lends d (buffers_after a mass b)
 over_refusal a mass b e taken f = λ i. lends (f (refused_told a mass _ (sym taken ∙ e.0)) i) (e.1 i)
 
@@ -35,7 +36,7 @@ pub record Handed (a : Csr) (mass : Mass) (b : Buffers) (ss cs : List ℕ) (vs :
   pub shape : g ≡ transposed_shape a mass
   pub after : buffers ss cs vs ≡ buffers_after a mass b
 
-pub handed : (a : Csr) (mass : Mass) (b : Buffers) {ss cs : List ℕ} {vs : List Float} {r : ShapeAnswer} {g : Shape} → (r ≡ shape_answer a mass (first (transposed_checks a mass (lengths b)))) × (buffers ss cs vs ≡ buffers_after a mass b) → r ≡ Shaped g
+pub handed : (a : Csr) (mass : Mass) (b : Buffers) {ss cs : List ℕ} {vs : List Float} {r : ShapeAnswer} {g : Shape} → (r ≡ shape_answer a mass (first (transposed_checks a mass (lengths b)))) × (buffers ss cs vs ≡ buffers_after a mass b) → r ≡ Ok g
     → Handed a mass b ss cs vs g
 handed a mass b e taken = let p = passed_told a mass _ (sym taken ∙ e.0) in record { sound = p.0; shape = p.1; after = e.1 }
 

@@ -4,10 +4,10 @@ use Rattle.general_operator.specs.Csr.{Csr}
 use Rattle.generator_action.specs.Mass.{Mass}
 use Rattle.transpose.specs.Transpose.{Buffers, lengths, buffers_after, transposed, open_transpose}
 use Rattle.combination.specs.Call.{Call}
-use Rattle.taylor_job.specs.declared.TaylorAnswer.{TaylorAnswer}
+use Rattle.taylor_job.specs.Calls.{TaylorAnswer}
 use Rattle.taylor_job.specs.Calls.{phi_combination, phi_action, phi_action_batched, open_calls}
 use Rattle.krylov_job.specs.declared.KrylovPhiOptions.{KrylovPhiOptions}
-use Rattle.krylov_job.specs.declared.KrylovAnswer.{KrylovAnswer}
+use Rattle.krylov_job.specs.KrylovCall.{KrylovAnswer}
 use Rattle.krylov_job.specs.KrylovCall.{phi_combination_krylov, open_krylov_call}
 
 -- what a call leaves, and what the lent buffers hold at the end

@@ -14,7 +14,8 @@ ghost use Rattle.transposed_byte_calls.specs.Replies.{lent, unpacked, replies, p
 ghost use Rattle.transposed_byte_calls.specs.Inner.{called_transposed, checked_transposed};
 
 use byte_calls::{PhiCall, Told};
-use generator_action::MatrixAnswer;
+use checks::Refusal;
+use generator_action::Largest;
 use krylov_job::KrylovPhiOptions;
 
 fn solve(
@@ -122,11 +123,11 @@ fn run(
         out_array,
         work_array,
     );
-    pack_bytes::pack_numbers(starts_array, t_starts);
-    pack_bytes::pack_numbers(cols_array, t_cols);
-    pack_bytes::pack_doubles(vals_array, t_vals);
-    pack_bytes::pack_doubles(out_array, out);
-    pack_bytes::pack_doubles(work_array, work);
+    pack_bytes::pack(starts_array, t_starts);
+    pack_bytes::pack(cols_array, t_cols);
+    pack_bytes::pack(vals_array, t_vals);
+    pack_bytes::pack(out_array, out);
+    pack_bytes::pack(work_array, work);
     t
 }
 
@@ -151,11 +152,11 @@ fn in_lent_arrays(
     requires { (length t_starts.old / 4 ≤ 512) × (length t_cols.old / 4 ≤ 512) × (length t_vals.old / 8 ≤ 512) × (length out.old / 8 ≤ 512) × (length work.old / 8 ≤ 4096) }
     ensures { replies (told call result) out.new work.new (lent t_starts.new t_cols.new t_vals.new) ≡ packs (called_transposed call (csr n starts.now cols.now vals.now) (given with_mass mass.now) (unpacked (lent t_starts.old t_cols.old t_vals.old)) tau k v.now (doubles_of out.old) (doubles_of work.old)) out.old work.old (lent t_starts.old t_cols.old t_vals.old) }
 {
-    let mut starts_array = byte_arrays::numbers_in(t_starts);
-    let mut cols_array = byte_arrays::numbers_in(t_cols);
-    let mut vals_array = byte_arrays::doubles_in(t_vals);
-    let mut out_array = byte_arrays::doubles_in(out);
-    let mut work_array = byte_arrays::memory_in(work);
+    let mut starts_array: [u32; 513] = byte_arrays::array(t_starts);
+    let mut cols_array: [u32; 513] = byte_arrays::array(t_cols);
+    let mut vals_array: [f64; 512] = byte_arrays::array(t_vals);
+    let mut out_array: [f64; 512] = byte_arrays::array(out);
+    let mut work_array: [f64; 4096] = byte_arrays::array(work);
     let starts_count = t_starts.len() / 4;
     let cols_count = t_cols.len() / 4;
     let vals_count = t_vals.len() / 8;
@@ -207,11 +208,11 @@ pub fn in_arrays(
     requires t_starts_len_bound { (length t_starts.old / 4 ≤ 512) × (length t_cols.old / 4 ≤ 512) × (length t_vals.old / 8 ≤ 512) × (length out.old / 8 ≤ 512) × (length work.old / 8 ≤ 4096) }
     ensures { replies (told call result) out.new work.new (lent t_starts.new t_cols.new t_vals.new) ≡ packs (called_transposed call (csr n (numbers_of starts.now) (numbers_of cols.now) (doubles_of vals.now)) (given with_mass (doubles_of mass.now)) (unpacked (lent t_starts.old t_cols.old t_vals.old)) tau k (doubles_of v.now) (doubles_of out.old) (doubles_of work.old)) out.old work.old (lent t_starts.old t_cols.old t_vals.old) }
 {
-    let starts_array = byte_arrays::numbers_in(starts);
-    let cols_array = byte_arrays::numbers_in(cols);
-    let vals_array = byte_arrays::doubles_in(vals);
-    let mass_array = byte_arrays::doubles_in(mass);
-    let v_array = byte_arrays::doubles_in(v);
+    let starts_array: [u32; 513] = byte_arrays::array(starts);
+    let cols_array: [u32; 513] = byte_arrays::array(cols);
+    let vals_array: [f64; 512] = byte_arrays::array(vals);
+    let mass_array: [f64; 512] = byte_arrays::array(mass);
+    let v_array: [f64; 512] = byte_arrays::array(v);
     let starts_count = starts.len() / 4;
     let cols_count = cols.len() / 4;
     let vals_count = vals.len() / 8;
@@ -250,7 +251,7 @@ fn run_check(
     starts_array: &mut [u32],
     cols_array: &mut [u32],
     vals_array: &mut [f64],
-) -> MatrixAnswer
+) -> Result<Largest, Refusal>
     requires { (4 * length starts_array.old ≤ length t_starts.old) × (4 * length cols_array.old ≤ length t_cols.old) × (8 * length vals_array.old ≤ length t_vals.old) }
     ensures { matrix_replies (matrix_numbers result) (lent t_starts.new t_cols.new t_vals.new) ≡ matrix_packs (checked_transposed (csr n starts.now cols.now vals.now) (given with_mass mass.now) (buffers starts_array.old cols_array.old vals_array.old)) (lent t_starts.old t_cols.old t_vals.old) }
 {
@@ -265,9 +266,9 @@ fn run_check(
         cols_array,
         vals_array,
     );
-    pack_bytes::pack_numbers(starts_array, t_starts);
-    pack_bytes::pack_numbers(cols_array, t_cols);
-    pack_bytes::pack_doubles(vals_array, t_vals);
+    pack_bytes::pack(starts_array, t_starts);
+    pack_bytes::pack(cols_array, t_cols);
+    pack_bytes::pack(vals_array, t_vals);
     answer
 }
 
@@ -282,17 +283,17 @@ pub fn check_in_arrays(
     t_starts: &mut [u8],
     t_cols: &mut [u8],
     t_vals: &mut [u8],
-) -> MatrixAnswer
+) -> Result<Largest, Refusal>
     requires { (length starts.now / 4 ≤ 512) × (length cols.now / 4 ≤ 513) × (length vals.now / 8 ≤ 512) × (length mass.now / 8 ≤ 512) × (length t_starts.old / 4 ≤ 512) × (length t_cols.old / 4 ≤ 512) × (length t_vals.old / 8 ≤ 512) }
     ensures { matrix_replies (matrix_numbers result) (lent t_starts.new t_cols.new t_vals.new) ≡ matrix_packs (checked_transposed (csr n (numbers_of starts.now) (numbers_of cols.now) (doubles_of vals.now)) (given with_mass (doubles_of mass.now)) (unpacked (lent t_starts.old t_cols.old t_vals.old))) (lent t_starts.old t_cols.old t_vals.old) }
 {
-    let starts_read = byte_arrays::numbers_in(starts);
-    let cols_read = byte_arrays::numbers_in(cols);
-    let vals_read = byte_arrays::doubles_in(vals);
-    let mass_read = byte_arrays::doubles_in(mass);
-    let mut starts_array = byte_arrays::numbers_in(t_starts);
-    let mut cols_array = byte_arrays::numbers_in(t_cols);
-    let mut vals_array = byte_arrays::doubles_in(t_vals);
+    let starts_read: [u32; 513] = byte_arrays::array(starts);
+    let cols_read: [u32; 513] = byte_arrays::array(cols);
+    let vals_read: [f64; 512] = byte_arrays::array(vals);
+    let mass_read: [f64; 512] = byte_arrays::array(mass);
+    let mut starts_array: [u32; 513] = byte_arrays::array(t_starts);
+    let mut cols_array: [u32; 513] = byte_arrays::array(t_cols);
+    let mut vals_array: [f64; 512] = byte_arrays::array(t_vals);
     let starts_count = starts.len() / 4;
     let cols_count = cols.len() / 4;
     let vals_count = vals.len() / 8;

@@ -9,8 +9,8 @@ ghost use Rattle.generator_action.specs.Mass.{given, quotients};
 ghost use Rattle.generator_action.specs.Known.{Answered};
 ghost use Rattle.transpose.specs.Transpose.{lent, start_checks, forward_checks, lent_checks, before_transposing, buffers, lengths, buffers_after, transposed_answer};
 
-use checks::Checked;
-use generator_action::MatrixAnswer;
+use checks::{Checked, Reason, Refusal};
+use generator_action::Largest;
 
 // 9.
 fn check_start(n: usize, starts: &[u32]) -> Checked
@@ -18,9 +18,12 @@ fn check_start(n: usize, starts: &[u32]) -> Checked
     ensures { (columns : List ℕ) (entries : List Float) → result ≡ first (start_checks (csr n starts.now columns entries)) }
 {
     if starts[0] != 0 {
-        return Checked::Refused(9, float::not_a_number());
+        return Err(Refusal {
+            reason: Reason::FirstRowStart,
+            value: float::not_a_number(),
+        });
     }
-    Checked::Sound
+    Ok(())
 }
 
 // 1 to 11 of the matrix that is transposed: 9 is tested without a mass too.
@@ -31,24 +34,15 @@ fn check_forward(
     vals: &[f64],
     with_mass: bool,
     mass: &[f64],
-) -> MatrixAnswer
+) -> Result<Largest, Refusal>
     ensures { Answered (quotients (csr n starts.now cols.now vals.now) (given with_mass mass.now)) (matrix_checks (csr n starts.now cols.now vals.now) ++ forward_checks (csr n starts.now cols.now vals.now) (given with_mass mass.now)) result }
 {
-    let matrix = general_operator::validate_csr(n, starts, cols, vals);
-    let Checked::Sound = matrix else {
-        return MatrixAnswer::Refusal(checks::number(matrix), checks::reported(matrix));
-    };
+    general_operator::validate_csr(n, starts, cols, vals)?;
     if with_mass {
-        let masses = generator_checks::check_mass(n, starts, mass);
-        let Checked::Sound = masses else {
-            return MatrixAnswer::Refusal(checks::number(masses), checks::reported(masses));
-        };
+        generator_checks::check_mass(n, starts, mass)?;
         return generator_checks::quotient_norm(n, starts, cols, vals, mass);
     }
-    let first = check_start(n, starts);
-    let Checked::Sound = first else {
-        return MatrixAnswer::Refusal(checks::number(first), checks::reported(first));
-    };
+    check_start(n, starts)?;
     generator_checks::entry_norm(n, starts, cols, vals)
 }
 
@@ -57,15 +51,24 @@ fn check_lent(n: usize, entries: usize, t_starts: usize, t_cols: usize, t_vals: 
     ensures { (starts columns : List ℕ) (vals : List Float) → length vals ≡ entries → result ≡ first (lent_checks (csr n starts columns vals) (lent t_starts t_cols t_vals)) }
 {
     if t_starts <= n {
-        return Checked::Refused(30, float::not_a_number());
+        return Err(Refusal {
+            reason: Reason::TransposedLength,
+            value: float::not_a_number(),
+        });
     }
     if t_cols < entries {
-        return Checked::Refused(30, float::not_a_number());
+        return Err(Refusal {
+            reason: Reason::TransposedLength,
+            value: float::not_a_number(),
+        });
     }
     if t_vals < entries {
-        return Checked::Refused(30, float::not_a_number());
+        return Err(Refusal {
+            reason: Reason::TransposedLength,
+            value: float::not_a_number(),
+        });
     }
-    Checked::Sound
+    Ok(())
 }
 
 // All that is checked before the buffers are written.
@@ -82,13 +85,7 @@ fn check_before(
 ) -> Checked
     ensures { result ≡ first (before_transposing (csr n starts.now cols.now vals.now) (given with_mass mass.now) (lent t_starts t_cols t_vals)) }
 {
-    let forward = check_forward(n, starts, cols, vals, with_mass, mass);
-    let MatrixAnswer::Norm(_, _) = forward else {
-        return Checked::Refused(
-            generator_action::number(forward),
-            generator_action::value(forward),
-        );
-    };
+    check_forward(n, starts, cols, vals, with_mass, mass)?;
     check_lent(n, vals.len(), t_starts, t_cols, t_vals)
 }
 
@@ -104,12 +101,12 @@ pub fn check_transposed(
     t_starts: &mut [u32],
     t_cols: &mut [u32],
     t_vals: &mut [f64],
-) -> MatrixAnswer
+) -> Result<Largest, Refusal>
     ensures value { result ≡ transposed_answer (csr n starts.now cols.now vals.now) (given with_mass mass.now) (lengths (buffers t_starts.old t_cols.old t_vals.old)) }
     ensures t_vals_after { buffers t_starts.new t_cols.new t_vals.new ≡ buffers_after (csr n starts.now cols.now vals.now) (given with_mass mass.now) (buffers t_starts.old t_cols.old t_vals.old) }
 {
     let entries = vals.len();
-    let before = check_before(
+    check_before(
         n,
         starts,
         cols,
@@ -119,10 +116,7 @@ pub fn check_transposed(
         t_starts.len(),
         t_cols.len(),
         t_vals.len(),
-    );
-    let Checked::Sound = before else {
-        return MatrixAnswer::Refusal(checks::number(before), checks::reported(before));
-    };
+    )?;
     transpose_csr::transpose_csr(
         n, starts, cols, vals, with_mass, mass, t_starts, t_cols, t_vals,
     );

@@ -8,8 +8,8 @@ ghost use Rattle.transpose.specs.Transpose.{buffers};
 ghost use Rattle.combination.specs.Call.{ends};
 ghost use Rattle.transposed.specs.Transposed.{lends, phi_combination_transposed};
 
-use taylor_job::TaylorAnswer;
-use transposed_shape::ShapeAnswer;
+use checks::Refusal;
+use taylor_job::TaylorReport;
 
 // `phi_combination` on the transposed quotients, which stay in the buffers.
 pub fn phi_combination_transposed(
@@ -28,22 +28,25 @@ pub fn phi_combination_transposed(
     w: &[f64],
     out: &mut [f64],
     work: &mut [f64],
-) -> TaylorAnswer
+) -> Result<TaylorReport, Refusal>
     ensures { lends (ends result out.new work.new) (buffers t_starts.new t_cols.new t_vals.new) ≡ phi_combination_transposed (csr n starts.now cols.now vals.now) (given with_mass mass.now) (buffers t_starts.old t_cols.old t_vals.old) tau cap count w.now out.old work.old }
 {
-    let shape = transposed_shape::transposed_shape(
-        n, starts, cols, vals, with_mass, mass, t_starts, t_cols, t_vals,
-    );
-    match shape {
-        ShapeAnswer::Refusal(k, x) => TaylorAnswer::Refusal(k, x),
-        ShapeAnswer::Passed(g) => {
-            let q_rows = &t_starts[..n + 1];
-            let q_cols = &t_cols[..vals.len()];
-            let q_vals = &t_vals[..vals.len()];
-            let none = &mass[..0];
+    transposed::on_transposed(
+        n,
+        starts,
+        cols,
+        vals,
+        with_mass,
+        mass,
+        t_starts,
+        t_cols,
+        t_vals,
+        out,
+        work,
+        |q_rows, q_cols, q_vals, none, g, out, work| {
             phi_combination::combined(
                 q_rows, q_cols, q_vals, none, g, tau, cap, count, w, out, work,
             )
-        }
-    }
+        },
+    )
 }

@@ -8,8 +8,9 @@ ghost use Rattle.transpose.specs.Transpose.{buffers};
 ghost use Rattle.combination.specs.Call.{ends};
 ghost use Rattle.transposed.specs.Transposed.{lends, phi_combination_krylov_transposed};
 
-use krylov_job::{KrylovAnswer, KrylovPhiOptions};
-use transposed_shape::ShapeAnswer;
+use checks::Refusal;
+use krylov_advance::KrylovPhiReport;
+use krylov_job::KrylovPhiOptions;
 
 // `phi_combination_krylov` on them.
 pub fn phi_combination_krylov_transposed(
@@ -28,20 +29,23 @@ pub fn phi_combination_krylov_transposed(
     o: KrylovPhiOptions,
     out: &mut [f64],
     work: &mut [f64],
-) -> KrylovAnswer
+) -> Result<KrylovPhiReport, Refusal>
     ensures { lends (ends result out.new work.new) (buffers t_starts.new t_cols.new t_vals.new) ≡ phi_combination_krylov_transposed (csr n starts.now cols.now vals.now) (given with_mass mass.now) (buffers t_starts.old t_cols.old t_vals.old) tau count w.now o out.old work.old }
 {
-    let shape = transposed_shape::transposed_shape(
-        n, starts, cols, vals, with_mass, mass, t_starts, t_cols, t_vals,
-    );
-    match shape {
-        ShapeAnswer::Refusal(k, x) => KrylovAnswer::Refusal(k, x),
-        ShapeAnswer::Passed(g) => {
-            let q_rows = &t_starts[..n + 1];
-            let q_cols = &t_cols[..vals.len()];
-            let q_vals = &t_vals[..vals.len()];
-            let none = &mass[..0];
+    transposed::on_transposed(
+        n,
+        starts,
+        cols,
+        vals,
+        with_mass,
+        mass,
+        t_starts,
+        t_cols,
+        t_vals,
+        out,
+        work,
+        |q_rows, q_cols, q_vals, none, g, out, work| {
             phi_krylov::combined(q_rows, q_cols, q_vals, none, g, tau, count, w, o, out, work)
-        }
-    }
+        },
+    )
 }

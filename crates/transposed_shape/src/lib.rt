@@ -8,14 +8,8 @@ ghost use Rattle.generator_action.specs.Mass.{given};
 ghost use Rattle.transpose.specs.Transpose.{buffers, lengths, buffers_after, transposed_checks};
 ghost use Rattle.transposed_shape.specs.Inner.{shape_answer};
 
-use generator_action::{MatrixAnswer, Shape};
-
-// A refusal's number and double, or what a job takes from its generator.
-#[derive(Clone, Copy)]
-pub enum ShapeAnswer {
-    Refusal(u32, f64),
-    Passed(Shape),
-}
+use checks::Refusal;
+use generator_action::Shape;
 
 // Every check of the matrix. The transposed generator has no mass; a job over it needs the working memory of the forward one.
 pub fn transposed_shape(
@@ -28,23 +22,18 @@ pub fn transposed_shape(
     t_starts: &mut [u32],
     t_cols: &mut [u32],
     t_vals: &mut [f64],
-) -> ShapeAnswer
+) -> Result<Shape, Refusal>
     ensures value { result ≡ shape_answer (csr n starts.now cols.now vals.now) (given with_mass mass.now) (first (transposed_checks (csr n starts.now cols.now vals.now) (given with_mass mass.now) (lengths (buffers t_starts.old t_cols.old t_vals.old)))) }
     ensures t_vals_after { buffers t_starts.new t_cols.new t_vals.new ≡ buffers_after (csr n starts.now cols.now vals.now) (given with_mass mass.now) (buffers t_starts.old t_cols.old t_vals.old) }
 {
     let matrix = transposed_checks::check_transposed(
         n, starts, cols, vals, with_mass, mass, t_starts, t_cols, t_vals,
-    );
-    match matrix {
-        MatrixAnswer::Refusal(k, x) => ShapeAnswer::Refusal(k, x),
-        MatrixAnswer::Norm(norm, _) => {
-            let forward = generator_action::generator_shape(n, with_mass, vals.len(), norm);
-            ShapeAnswer::Passed(Shape {
-                n,
-                with_mass: false,
-                stored: forward.stored,
-                norm,
-            })
-        }
-    }
+    )?;
+    let forward = generator_action::generator_shape(n, with_mass, vals.len(), matrix.norm);
+    Ok(Shape {
+        n,
+        with_mass: false,
+        stored: forward.stored,
+        norm: matrix.norm,
+    })
 }

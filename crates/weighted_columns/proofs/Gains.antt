@@ -2,7 +2,7 @@
 use Rattle.std.specs.Prelude.{if◌then◌else◌}
 use mathlib.Core.Bool.{Bool, true, false}
 use mathlib.Core.List.{List}
-use mathlib.Core.Path.{◌≡◌, refl, ap, ◌∙◌}
+use mathlib.Core.Path.{◌≡◌, refl, sym, ap, ◌∙◌}
 use Prim.Native.Nat.{ℕ, ◌-◌, ◌≤◌, ◌<◌}
 use native.Mathlib.Omega.{arith}
 use lib.Ieee.{Float, nan}
@@ -12,8 +12,12 @@ use Rattle.lists.specs.Find.{exists}
 use Rattle.lists.proofs.Find.{find_ext}
 use Rattle.lists.proofs.Loop.{get_d_tabulate, tabulate_ext}
 use Rattle.doubles.specs.F64.{◌⊗◌, 1f, at}
-use Rattle.checks.specs.First.{first}
-use Rattle.checks.specs.declared.Checked.{Checked}
+use Rattle.checks.specs.First.{first, or_first}
+use Rattle.checks.specs.First.{Checked}
+use Rattle.checks.specs.Reasons.{Sound}
+use Rattle.checks.specs.declared.Refusal.{Refusal}
+use Rattle.checks.proofs.First.{first_err, first_ok}
+use Rattle.std.specs.Prelude.{Result, Ok, Err}
 use Rattle.pow2.specs.Pow2.{eta_scaling}
 use Rattle.pow2.specs.declared.Scaling.{Scaling}
 use Rattle.combination.specs.Combination.{gain, magnitude, eta_of, column_places, scaled_gains}
@@ -40,17 +44,24 @@ module _ (n : ℕ) (f : List Float) (tau : Float) (d : ℕ) (few : d ≤ 3) wher
       go j true e = ap (λ (x : Float). x ⊗ eta) (power_at (d - j - 1) (omega (arith, ltb-true j d e)))
       go j false e = refl
 
-  pub weighed_is : {p : Powers} (eta : Scaling) {r : Checked} {places : List ℕ} {gains : List Float} → p ≡ powers_of n f tau d → places ≡ column_places n d
-      → gains ≡ reversed_by p.gains d eta.eta
-      → r ≡ first (power_checks p.sum p.gains d eta.eta)
-      → record { checked = r; inv = eta.inv; b = record { places = places; gains = gains; count = d } } ≡ weights_by n f tau d eta
-  weighed_is {p} eta {r} {places} {gains} e h k g =
-      let gains_are : gains ≡ scaled_gains n f tau d eta.eta = (rw e at k) ∙ gains_told eta.eta in
-      let checked : r ≡ first (magnitude_checks n f tau d eta.eta) = (rw e at g) ∙ magnitude_told eta.eta in
-      λ i. record { checked = checked i; inv = eta.inv; b = record { places = h i; gains = gains_are i; count = d } }
+  -- 21 and 22 with an eta: refused, or the columns
+  module _ {p : Powers} (eta : Scaling) {r : Checked} (e : p ≡ powers_of n f tau d) (g : r ≡ first (power_checks p.sum p.gains d eta.eta)) where
+    told : r ≡ first (magnitude_checks n f tau d eta.eta)
+    told = (rw e at g) ∙ magnitude_told eta.eta
+
+    pub weighed_err : {x : Refusal} → r ≡ Err x → Err x ≡ or_first (magnitude_checks n f tau d eta.eta) (weights_by n f tau d eta)
+    weighed_err h = sym (first_err _ _ (sym told ∙ h))
+
+    pub weighed_is : {places : List ℕ} {gains : List Float} → r ≡ Sound → places ≡ column_places n d → gains ≡ reversed_by p.gains d eta.eta
+        → Ok (record { inv = eta.inv; b = record { places = places; gains = gains; count = d } }) ≡ or_first (magnitude_checks n f tau d eta.eta) (weights_by n f tau d eta)
+    weighed_is {places} {gains} s h k =
+        let gains_are : gains ≡ scaled_gains n f tau d eta.eta = (rw e at k) ∙ gains_told eta.eta in
+        (λ i. Ok (record { inv = eta.inv; b = record { places = h i; gains = gains_are i; count = d } })) ∙ sym (first_ok _ _ (sym told ∙ s))
 
 -- by the job's own eta
-pub own_weights : (n : ℕ) (f : List Float) (tau : Float) (d : ℕ) {p : Powers} {eta : Scaling} {r : Weights} → p ≡ powers_of n f tau d → eta ≡ eta_scaling p.sum → r ≡ weights_by n f tau d eta
-    → r ≡ weights n f tau d
+pub own_weights : (n : ℕ) (f : List Float) (tau : Float) (d : ℕ) {p : Powers} {eta : Scaling} {r : Result Weights Refusal} → p ≡ powers_of n f tau d → eta ≡ eta_scaling p.sum
+    → r ≡ or_first (magnitude_checks n f tau d eta.eta) (weights_by n f tau d eta)
+    → r ≡ or_first (magnitude_checks n f tau d (eta_of n f tau d).eta) (weights n f tau d)
 unfolding eta_of
-own_weights n f tau d e h w = w ∙ ap (weights_by n f tau d) (h ∙ ap (λ (x : Powers). eta_scaling x.sum) e)
+own_weights n f tau d e h w =
+    w ∙ ap (λ (x : Scaling). or_first (magnitude_checks n f tau d x.eta) (weights_by n f tau d x)) (h ∙ ap (λ (x : Powers). eta_scaling x.sum) e)

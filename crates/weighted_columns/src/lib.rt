@@ -5,12 +5,13 @@
 ghost use Rattle.std.specs.Prelude.{◌≡◌, List, ◌+◌, ◌*◌, ◌≤◌, length, not, Float};
 ghost use Rattle.std.specs.List.{list_any};
 ghost use Rattle.doubles.specs.F64.{◌⊗◌, is_finite};
-ghost use Rattle.checks.specs.First.{first};
+ghost use Rattle.checks.specs.First.{first, or_first};
 ghost use Rattle.pow2.specs.Pow2.{sup};
-ghost use Rattle.combination.specs.Combination.{vector, column_places};
+ghost use Rattle.combination.specs.Combination.{vector, eta_of, column_places};
+ghost use Rattle.combination.specs.Checks.{magnitude_checks};
 ghost use Rattle.weighted_columns.specs.Inner.{share_of, powers_of, power_checks, reversed_by, weights_by, weights};
 
-use checks::Checked;
+use checks::{Checked, Reason, Refusal};
 use phi_action_helpers::Coupling;
 use pow2::Scaling;
 
@@ -82,12 +83,18 @@ fn check_magnitude(sum: f64, gains: [f64; 3], d: usize, eta: f64) -> Checked
     ensures { result ≡ first (power_checks sum gains d eta) }
 {
     if !float::is_finite(sum) {
-        return Checked::Refused(21, sum);
+        return Err(Refusal {
+            reason: Reason::MagnitudeNotFinite,
+            value: sum,
+        });
     }
     if has_bad_gain(&gains[..d], eta) {
-        return Checked::Refused(22, float::not_a_number());
+        return Err(Refusal {
+            reason: Reason::GainNotFinite,
+            value: float::not_a_number(),
+        });
     }
-    Checked::Sound
+    Ok(())
 }
 
 // cols[d - k] is w_k, at k - 1 of the further vectors.
@@ -117,33 +124,29 @@ fn scaled_gains(powers: [f64; 3], d: usize, eta: f64) -> [f64; 3]
 // What 21 and 22 find: 1 / eta, and the columns with their gains.
 #[derive(Clone, Copy)]
 pub struct Weights {
-    pub checked: Checked,
     pub inv: f64,
     pub b: Coupling,
 }
 
 // 21, and 22 with an eta.
-pub fn weigh_by(n: usize, d: usize, p: Powers, eta: Scaling) -> Weights
+pub fn weigh_by(n: usize, d: usize, p: Powers, eta: Scaling) -> Result<Weights, Refusal>
     requires { (n ≤ 1000000) × (d ≤ 3) }
-    ensures { (f : List Float) (tau : Float) → p ≡ powers_of n f tau d → result ≡ weights_by n f tau d eta }
+    ensures { (f : List Float) (tau : Float) → p ≡ powers_of n f tau d → result ≡ or_first (magnitude_checks n f tau d eta.eta) (weights_by n f tau d eta) }
 {
     let powers = p.gains;
+    check_magnitude(p.sum, powers, d, eta.eta)?;
     let b = Coupling {
         places: column_places(n, d),
         gains: scaled_gains(powers, d, eta.eta),
         count: d,
     };
-    Weights {
-        checked: check_magnitude(p.sum, powers, d, eta.eta),
-        inv: eta.inv,
-        b,
-    }
+    Ok(Weights { inv: eta.inv, b })
 }
 
 // With the job's own eta.
-pub fn weigh(n: usize, further: &[f64], tau: f64, d: usize) -> Weights
+pub fn weigh(n: usize, further: &[f64], tau: f64, d: usize) -> Result<Weights, Refusal>
     requires { (d * n ≤ length further.now) × (n ≤ 1000000) × (d ≤ 3) }
-    ensures { result ≡ weights n further.now tau d }
+    ensures { result ≡ or_first (magnitude_checks n further.now tau d (eta_of n further.now tau d).eta) (weights n further.now tau d) }
 {
     let p = powers_of(n, further, tau, d);
     let eta = pow2::eta_scaling(p.sum);

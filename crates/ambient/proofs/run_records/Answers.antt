@@ -15,9 +15,10 @@ use Rattle.generator_action.specs.Mass.{Mass, given}
 use Rattle.generator_action.specs.Generator.{Generator, forward}
 use Rattle.combination.specs.Call.{Call}
 use Rattle.taylor_schedule.proofs.Stored.{forward_is}
-use Rattle.taylor_job.specs.declared.TaylorAnswer.{TaylorAnswer}
+use Rattle.taylor_job.specs.Calls.{TaylorAnswer}
 use Rattle.ambient_record.specs.Record.{record_call}
-use Rattle.ambient_checks.specs.Inner.{log_of, field_of}
+use Rattle.ambient_checks.specs.Inner.{log_of}
+use Rattle.combination.specs.Combination.{field_of}
 use Rattle.ambient_turns.specs.Inner.{turn_at, results_of}
 use Rattle.ambient_turns.proofs.Turns.{shown_logged, step_is, turn_on, ended_early, ended_last, same_results}
 use Rattle.ambient_turns.specs.declared.AmbientAnswer.TheVariants.{Logged}

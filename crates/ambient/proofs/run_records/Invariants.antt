@@ -9,7 +9,8 @@ use Rattle.lists.proofs.Walk.{Left}
 use Rattle.general_operator.specs.Csr.{csr}
 use Rattle.generator_action.specs.Mass.{given}
 use Rattle.generator_action.specs.Generator.{forward}
-use Rattle.ambient_checks.specs.Inner.{log_of, field_of}
+use Rattle.ambient_checks.specs.Inner.{log_of}
+use Rattle.combination.specs.Combination.{field_of}
 use Rattle.ambient_turns.specs.Ambient.{record_step, begun}
 use Rattle.ambient_turns.specs.Inner.{turn_at, results_of, shown_in}
 use Rattle.ambient.proofs.run_records.Given as goal

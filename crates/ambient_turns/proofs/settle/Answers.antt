@@ -1,19 +1,19 @@
 -- `ambient_turns::settle` meets its contract. Assumes nothing.
-use Rattle.doubles.proofs.Magnitude.{nan_told}
+use mathlib.Core.Path.{sym, ◌∙◌}
 use Rattle.ambient_turns.proofs.Turns.{refused_turn, nan_turn, shown_turn}
 use Rattle.ambient_turns.proofs.settle.Goals as goal
 
-pub returns-then-t : goal.returns-then-t
-returns-then-t c =
+pub returns-then-is_nan : goal.returns-then-is_nan
+returns-then-is_nan c =
     let a = c.args in
-    let r = nan_turn a.node a.i a.out.now a.temperatures.now c.in-Result.is (nan_told _ _ c.if-t.true) in record { temperatures_after = r.0; i_bound = r.1 }
+    let r = nan_turn a.node a.i a.out.now a.temperatures.now c.in-Ok.is (sym c.if-is_nan.true ∙ c.is_nan.ensures.value) in record { temperatures_after = r.0; i_bound = r.1 }
 
-pub returns-in-Refusal : goal.returns-in-Refusal
-returns-in-Refusal c =
+pub returns-in-Err : goal.returns-in-Err
+returns-in-Err c =
     let a = c.args in
-    let r = refused_turn a.node a.i a.out.now a.temperatures.now c.in-Refusal.is in record { temperatures_after = r.0; i_bound = r.1 }
+    let r = refused_turn a.node a.i a.out.now a.temperatures.now c.in-Err.is in record { temperatures_after = r.0; i_bound = r.1 }
 
-pub returns-else-t : goal.returns-else-t
-returns-else-t c =
+pub returns-else-is_nan : goal.returns-else-is_nan
+returns-else-is_nan c =
     let a = c.args in
-    let r = shown_turn a.node a.i a.out.now a.temperatures.now c.in-Result.is (nan_told _ _ c.if-t.false) c.requires.2 in record { temperatures_after = r.0; i_bound = r.1 }
+    let r = shown_turn a.node a.i a.out.now a.temperatures.now c.in-Ok.is (sym c.if-is_nan.false ∙ c.is_nan.ensures.value) c.requires.2 in record { temperatures_after = r.0; i_bound = r.1 }

@@ -3,10 +3,10 @@ use mathlib.Core.Path.{ap, sym}
 use Rattle.answers.specs.Told.{join_numbers}
 use Rattle.answers.proofs.join_numbers.Goals as goal
 
-pub returns-in-Refusal : goal.returns-in-Refusal
+pub returns-in-Err : goal.returns-in-Err
 unfolding join_numbers
-returns-in-Refusal c = sym (ap join_numbers c.in-Refusal.is)
+returns-in-Err c = rw c.number.ensures (sym (ap join_numbers c.in-Err.is))
 
-pub returns-in-Joined : goal.returns-in-Joined
+pub returns-in-Ok : goal.returns-in-Ok
 unfolding join_numbers
-returns-in-Joined c = sym (ap join_numbers c.in-Joined.is)
+returns-in-Ok c = sym (ap join_numbers c.in-Ok.is)

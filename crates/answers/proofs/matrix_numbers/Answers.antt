@@ -3,10 +3,10 @@ use mathlib.Core.Path.{ap, sym}
 use Rattle.answers.specs.Told.{matrix_numbers}
 use Rattle.answers.proofs.matrix_numbers.Goals as goal
 
-pub returns-in-Refusal : goal.returns-in-Refusal
+pub returns-in-Err : goal.returns-in-Err
 unfolding matrix_numbers
-returns-in-Refusal c = sym (ap matrix_numbers c.in-Refusal.is)
+returns-in-Err c = rw c.number.ensures (sym (ap matrix_numbers c.in-Err.is))
 
-pub returns-in-Norm : goal.returns-in-Norm
+pub returns-in-Ok : goal.returns-in-Ok
 unfolding matrix_numbers
-returns-in-Norm c = sym (ap matrix_numbers c.in-Norm.is)
+returns-in-Ok c = sym (ap matrix_numbers c.in-Ok.is)

@@ -3,10 +3,10 @@ use mathlib.Core.Path.{ap, sym}
 use Rattle.answers.specs.Told.{taylor_numbers}
 use Rattle.answers.proofs.taylor_numbers.Goals as goal
 
-pub returns-in-Refusal : goal.returns-in-Refusal
+pub returns-in-Err : goal.returns-in-Err
 unfolding taylor_numbers
-returns-in-Refusal c = sym (ap taylor_numbers c.in-Refusal.is)
+returns-in-Err c = rw c.number.ensures (sym (ap taylor_numbers c.in-Err.is))
 
-pub returns-in-Result : goal.returns-in-Result
+pub returns-in-Ok : goal.returns-in-Ok
 unfolding taylor_numbers
-returns-in-Result c = sym (ap taylor_numbers c.in-Result.is)
+returns-in-Ok c = sym (ap taylor_numbers c.in-Ok.is)

@@ -20,14 +20,14 @@ unfolding grown_at
 loop-j-preserved c =
     let a = c.args in
     let g = c.in_ok-applied.ensures in
-    let e = values_kept a.l.mass a.l.q a.vals.now a.work.now c.loop-j.work c.loop-j.invariant.1.kept in
+    let e = values_kept a.o.l.mass a.o.l.q a.o.vals.now a.work.now c.loop-j.work c.loop-j.invariant.1.kept in
     (g.within.0, spared_on c.loop-j.invariant.1 g.within.1, left_turn c.loop-j.invariant.2 _ _ (omega arith) refl (rw e at g.work_after))
 
 pub returns-in_err-applied : goal.returns-in_err-applied
 returns-in_err-applied c =
     let a = c.args in
     let g = c.in_err-applied.ensures in
-    let e = values_kept a.l.mass a.l.q a.vals.now a.work.now c.loop-j.work c.loop-j.invariant.1.kept in
+    let e = values_kept a.o.l.mass a.o.l.q a.o.vals.now a.work.now c.loop-j.work c.loop-j.invariant.1.kept in
     let p = err_from_is_err_and c.from_residual.result c.from_residual.ensures.1 in
     let f = g.within.0 in
     rw (p.1, p.2)

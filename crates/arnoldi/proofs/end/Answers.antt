@@ -9,7 +9,7 @@ use Rattle.arnoldi.proofs.end.Goals as goal
 pub apply_in-requires : goal.apply_in-requires
 apply_in-requires c =
     let a = c.args in
-    record { room = room_kept _ _ _ (cornered a.l a.b a.k _ _ _ a.vectors.now _ c.requires).kept c.requires; j_le_m = omega arith }
+    record { room = room_kept _ _ _ (cornered a.o.l a.o.b a.k _ _ _ a.o.vectors.now _ c.requires).kept c.requires; j_le_m = omega arith }
 
 pub shape_of-work : goal.shape_of-work
 shape_of-work c =

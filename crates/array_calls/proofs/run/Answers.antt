@@ -10,4 +10,4 @@ pub returns : goal.returns
 returns c =
     let a = c.args in
     packing a.out.now a.work.now (called a.call (forward (csr a.n a.starts.now a.cols.now a.vals.now) (given a.with_mass a.mass.now)) a.tau a.k a.v.now a.out_array.now a.work_array.now)
-    c.solve-answer.ensures c.pack_doubles.ensures c.pack_doubles-2.ensures
+    c.solve-answer.ensures c.pack.ensures c.pack-2.ensures

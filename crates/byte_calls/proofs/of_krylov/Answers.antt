@@ -3,10 +3,13 @@ use Rattle.std.proofs.Common.{refl}
 use Rattle.answers.specs.Told.{krylov_numbers}
 use Rattle.byte_calls.proofs.of_krylov.Goals as goal
 
-pub returns-in-Refusal : goal.returns-in-Refusal
+pub returns-in-Err : goal.returns-in-Err
 unfolding krylov_numbers
-returns-in-Refusal c = let d = c.default.ensures in rw c.in-Refusal.is cc
+returns-in-Err c =
+    let d = c.default.ensures in
+    let n = c.number.ensures in
+    rw c.in-Err.is cc
 
-pub returns-in-Result : goal.returns-in-Result
+pub returns-in-Ok : goal.returns-in-Ok
 unfolding krylov_numbers
-returns-in-Result c = rw (c.in-Result.is, c.default-in-Result.ensures.0) refl
+returns-in-Ok c = rw (c.in-Ok.is, c.default-in-Ok.ensures.0) refl

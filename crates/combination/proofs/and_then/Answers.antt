@@ -1,10 +1,10 @@
 -- `combination::and_then` meets its contract. Assumes nothing.
-use borrow.Author.Rules.{rules}
-use Rattle.checks.proofs.First.{refused_up, sound_on}
+use mathlib.Core.Path.{refl, sym, ◌∙◌}
+use Rattle.checks.proofs.First.{refused_up, sound_on, passed_on}
 use Rattle.combination.proofs.and_then.Goals as goal
 
-pub returns-in_default : goal.returns-in_default
-returns-in_default c xs ys e f = search (refused_up xs ys)
+pub returns-in_err-a : goal.returns-in_err-a
+returns-in_err-a c xs ys e f = rw (passed_on c.from_residual.ensures.1) (refused_up xs ys refl (sym c.in_err-a.was ∙ e))
 
 pub returns : goal.returns
-returns c xs ys e f = search (sound_on xs ys)
+returns c xs ys e f = sound_on xs ys c.in_ok-a.was e f

@@ -1,9 +1,8 @@
 -- `csr_matvec::csr_matvec` meets its contract. Assumes nothing.
 use native.Mathlib.Omega.{arith}
-use mathlib.Core.Path.{◌≡◌, refl, ◌∙◌}
-use Prim.Native.Nat.{◌+◌, ◌-◌, ◌≤◌}
-use lib.ListN.{get_or}
-use Rattle.lists.proofs.Loop.{Filled, started, turned₀, finished₀}
+use mathlib.Core.Path.{refl, ◌∙◌}
+use Prim.Native.Nat.{◌+◌, ◌-◌}
+use Rattle.lists.proofs.Loop.{started, turned₀, finished₀}
 use Rattle.general_operator.specs.Csr.{row_product, apply_generator}
 use Rattle.general_operator.proofs.Rows.{start_le}
 use Rattle.csr_matvec.proofs.csr_matvec.Goals as goal

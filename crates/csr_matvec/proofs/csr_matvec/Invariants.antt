@@ -1,11 +1,9 @@
 -- `csr_matvec::csr_matvec` meets its contract. Assumes nothing.
-use native.Mathlib.Omega.{arith}
-use mathlib.Core.Path.{◌≡◌, refl, ◌∙◌}
-use Prim.Native.Nat.{◌+◌, ◌-◌, ◌≤◌}
+use mathlib.Core.Path.{◌≡◌}
+use Prim.Native.Nat.{◌+◌, ◌-◌}
 use lib.ListN.{get_or}
-use Rattle.lists.proofs.Loop.{Filled, started, turned₀, finished₀}
-use Rattle.general_operator.specs.Csr.{row_product, apply_generator}
-use Rattle.general_operator.proofs.Rows.{start_le}
+use Rattle.lists.proofs.Loop.{Filled}
+use Rattle.general_operator.specs.Csr.{row_product}
 use Rattle.csr_matvec.proofs.csr_matvec.Given as goal
 
 abbrev pub invariant-loop-i : goal.invariant-loop-i

@@ -1,13 +1,11 @@
 -- `csr_matvec::matvec_in` meets its contract. Assumes nothing.
 use borrow.Author.Rules.{rules}
 use native.Mathlib.Omega.{arith}
-use mathlib.Core.Path.{◌≡◌, refl, ap, ◌∙◌}
+use mathlib.Core.Path.{refl, ap, ◌∙◌}
 use Prim.Native.Nat.{◌+◌, ◌-◌, ◌≤◌}
-use lib.ListN.{length, get_or}
-use Rattle.lists.specs.Window.{window}
+use lib.ListN.{length}
 use Rattle.lists.proofs.Window.{part_window, length_window}
-use Rattle.lists.proofs.Loop.{Filled, started, turned, finished, window_apart}
-use Rattle.general_operator.specs.Csr.{row_product}
+use Rattle.lists.proofs.Loop.{started, turned, finished, window_apart}
 use Rattle.general_operator.proofs.Rows.{start_le}
 use Rattle.csr_matvec.specs.Values.{factored, generator_by}
 use Rattle.csr_matvec.proofs.matvec_in.Goals as goal
@@ -20,13 +18,13 @@ row_product-s-requires c =
     let i = c.loop-i.i in
     let v = c.requires.valid in
     let top : _ = start_le v (i + 1) (omega arith) in
-    let fits : c.args.src_at + c.args.n ≤ length c.loop-i.work = omega arith in
+    let fits : c.args.src_at + c.args.q.n ≤ length c.loop-i.work = omega arith in
     record { from_le_to = (rw c.loop-i.invariant.2 (v.rising i (omega arith)), (omega (arith, v.paired), top)); by_index = (λ k h. rw (part_window, length_window) (v.below k h)) }
 
 pub loop-i-preserved : goal.loop-i-preserved
 loop-i-preserved c =
     let inv = c.loop-i.invariant in
-    let same = window_apart inv.1 c.args.src_at c.args.n c.requires.apart inv.0 in
+    let same = window_apart inv.1 c.args.src_at c.args.q.n c.requires.apart inv.0 in
     (omega arith, turned inv.1 (c.factored.ensures ∙ ap (factored _ _) (c.row_product-s.ensures ∙ rw (inv.2, part_window, same))), refl)
 
 pub returns : goal.returns

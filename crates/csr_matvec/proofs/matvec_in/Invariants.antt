@@ -1,15 +1,12 @@
 -- `csr_matvec::matvec_in` meets its contract. Assumes nothing.
 use borrow.Author.Rules.{rules}
-use native.Mathlib.Omega.{arith}
-use mathlib.Core.Path.{◌≡◌, refl, ap, ◌∙◌}
+use mathlib.Core.Path.{◌≡◌}
 use Prim.Native.Nat.{◌+◌, ◌-◌, ◌≤◌}
-use lib.ListN.{length, get_or}
+use lib.ListN.{get_or}
 use Rattle.lists.specs.Window.{window}
-use Rattle.lists.proofs.Window.{part_window, length_window}
-use Rattle.lists.proofs.Loop.{Filled, started, turned, finished, window_apart}
+use Rattle.lists.proofs.Loop.{Filled}
 use Rattle.general_operator.specs.Csr.{row_product}
-use Rattle.general_operator.proofs.Rows.{start_le}
-use Rattle.csr_matvec.specs.Values.{factored, generator_by}
+use Rattle.csr_matvec.specs.Values.{factored}
 use Rattle.csr_matvec.proofs.matvec_in.Given as goal
 
 abbrev pub invariant-loop-i : goal.invariant-loop-i

@@ -6,8 +6,7 @@ use Prim.Native.Nat.{◌+◌, ◌-◌, ◌≤◌}
 use lib.ListN.{length, get_or}
 use Rattle.lists.specs.Window.{window}
 use Rattle.lists.proofs.Window.{part_window, length_window}
-use Rattle.lists.proofs.Loop.{Filled, started, turned, finished, window_apart, window_disjoint}
-use Rattle.general_operator.specs.Csr.{row_product}
+use Rattle.lists.proofs.Loop.{started, turned, finished, window_apart, window_disjoint}
 use Rattle.general_operator.proofs.Rows.{start_le}
 use Rattle.csr_matvec.specs.Values.{factored, generator_by}
 use Rattle.csr_matvec.proofs.quotients_in.Goals as goal
@@ -20,18 +19,18 @@ row_product-s-requires c =
     let a = c.args in
     let i = c.loop-i.i in
     let v = c.requires.valid in
-    let here : a.q_at + a.count ≤ length c.loop-i.work = omega arith in
-    let there : a.src_at + a.n ≤ length c.loop-i.work = omega arith in
-    let size : length (window a.q_at a.count a.work.now) ≡ a.count = length_window _ _ _ (omega arith) in
-    let top : get_or a.starts.now (i + 1) 0 ≤ length (window a.q_at a.count a.work.now) = start_le v (i + 1) (omega arith) in
+    let here : a.q_at + length a.q.vals.now ≤ length c.loop-i.work = omega arith in
+    let there : a.src_at + a.q.n ≤ length c.loop-i.work = omega arith in
+    let size : length (window a.q_at (length a.q.vals.now) a.work.now) ≡ length a.q.vals.now = length_window _ _ _ (omega arith) in
+    let top : get_or a.q.starts.now (i + 1) 0 ≤ length (window a.q_at (length a.q.vals.now) a.work.now) = start_le v (i + 1) (omega arith) in
     record { from_le_to = (rw c.loop-i.invariant.2 (v.rising i (omega arith)), (omega (arith, v.paired), rw (part_window, length_window) (omega arith))); by_index = (λ k h. rw (part_window, length_window) (v.below k h)) }
 
 pub loop-i-preserved : goal.loop-i-preserved
 loop-i-preserved c =
     let a = c.args in
     let inv = c.loop-i.invariant in
-    let same = window_apart inv.1 a.src_at a.n c.requires.apart inv.0 in
-    let same-q = window_disjoint inv.1 a.n a.q_at a.count c.requires.disjoint inv.0 in
+    let same = window_apart inv.1 a.src_at a.q.n c.requires.apart inv.0 in
+    let same-q = window_disjoint inv.1 a.q.n a.q_at (length a.q.vals.now) c.requires.disjoint inv.0 in
     (omega arith, turned inv.1 (c.factored.ensures ∙ ap (factored _ _) (c.row_product-s.ensures ∙ rw (inv.2, part_window a.q_at, part_window a.src_at, same, same-q))), refl)
 
 pub returns : goal.returns

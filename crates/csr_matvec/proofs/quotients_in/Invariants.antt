@@ -1,20 +1,17 @@
 -- `csr_matvec::quotients_in` meets its contract. Assumes nothing.
 use borrow.Author.Rules.{rules}
-use native.Mathlib.Omega.{arith}
-use mathlib.Core.Path.{◌≡◌, refl, ap, ◌∙◌}
+use mathlib.Core.Path.{◌≡◌}
 use Prim.Native.Nat.{◌+◌, ◌-◌, ◌≤◌}
 use lib.ListN.{length, get_or}
 use Rattle.lists.specs.Window.{window}
-use Rattle.lists.proofs.Window.{part_window, length_window}
-use Rattle.lists.proofs.Loop.{Filled, started, turned, finished, window_apart, window_disjoint}
+use Rattle.lists.proofs.Loop.{Filled}
 use Rattle.general_operator.specs.Csr.{row_product}
-use Rattle.general_operator.proofs.Rows.{start_le}
-use Rattle.csr_matvec.specs.Values.{factored, generator_by}
+use Rattle.csr_matvec.specs.Values.{factored}
 use Rattle.csr_matvec.proofs.quotients_in.Given as goal
 
 abbrev pub invariant-loop-i : goal.invariant-loop-i
 invariant-loop-i l =
-    (l.i ≤ l.n) × Filled l.dst_at l.i (λ k. factored l.scaled l.tau (row_product l.cols (window l.q_at l.count l.initial.work) (window l.src_at l.n l.initial.work) (get_or l.starts k 0) (get_or l.starts (k + 1) 0))) l.initial.work l.work × (l.from ≡ get_or l.starts l.i 0)
+    (l.i ≤ l.n) × Filled l.dst_at l.i (λ k. factored l.scaled l.tau (row_product l.cols (window l.q_at (length l.q.vals.now) l.initial.work) (window l.src_at l.n l.initial.work) (get_or l.starts k 0) (get_or l.starts (k + 1) 0))) l.initial.work l.work × (l.from ≡ get_or l.starts l.i 0)
 
 abbrev pub decreases-loop-i : goal.decreases-loop-i
 decreases-loop-i l = l.n - l.i

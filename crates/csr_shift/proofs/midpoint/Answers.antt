@@ -21,5 +21,5 @@ loop-i-preserved c = (
 pub returns : goal.returns
 unfolding midpoint
 returns c =
-    let e : c.loop-i.i ≡ c.args.n = omega arith in
+    let e : c.loop-i.i ≡ c.args.q.n = omega arith in
     rw (c.loop-i.invariant.1, c.loop-i.invariant.2, e)

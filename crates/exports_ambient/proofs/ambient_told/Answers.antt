@@ -6,7 +6,7 @@ use Rattle.exports_ambient.proofs.ambient_told.Goals as goal
 
 pub returns-in-Refusal : goal.returns-in-Refusal
 unfolding ambient_told
-returns-in-Refusal c = sym (ap ambient_told c.in-Refusal.is)
+returns-in-Refusal c = rw c.number.ensures (sym (ap ambient_told c.in-Refusal.is))
 
 pub returns-in-NotANumber : goal.returns-in-NotANumber
 unfolding ambient_told

@@ -4,7 +4,7 @@ use mathlib.Core.Path.{◌≡◌, ap, ◌∙◌}
 use Prim.Native.Nat.{ℕ}
 use lib.Ieee.{Float}
 use Rattle.join_rows.specs.Join.{Call, ends}
-use Rattle.join_rows.specs.declared.JoinAnswer.{JoinAnswer}
+use Rattle.join_rows.specs.Join.{JoinAnswer}
 use Rattle.answers.specs.Told.{Numbers, join_numbers, join_told, telling_join}
 use Rattle.exports_matrix.proofs.hazhendu_join.Goals as goal
 

@@ -3,10 +3,10 @@ use mathlib.Core.Path.{refl, ◌∙◌}
 use Rattle.exports_paused.specs.Told.{start_state}
 use Rattle.exports_paused.proofs.start_state.Goals as goal
 
-pub returns-in-Refusal : goal.returns-in-Refusal
+pub returns-in-Err : goal.returns-in-Err
 unfolding start_state
-returns-in-Refusal c = rw c.in-Refusal.is refl
+returns-in-Err c = rw (c.in-Err.is, c.number.ensures) refl
 
-pub returns-in-Started : goal.returns-in-Started
+pub returns-in-Ok : goal.returns-in-Ok
 unfolding start_state
-returns-in-Started c = c.write_run.ensures _ _ ∙ rw c.in-Started.is refl
+returns-in-Ok c = c.write_run.ensures _ _ ∙ rw c.in-Ok.is refl

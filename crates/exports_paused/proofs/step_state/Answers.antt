@@ -5,12 +5,12 @@ use Rattle.exports_paused.proofs.step_state.Goals as goal
 
 pub returns-then-ran : goal.returns-then-ran
 unfolding step_state
-returns-then-ran c = c.write_run.ensures _ _ ∙ rw (c.in-Refusal.is, sym c.ran.ensures ∙ c.if-ran.true) refl
+returns-then-ran c = c.write_run.ensures _ _ ∙ rw (c.in-Err.is, ← c.number-k.ensures, sym c.ran.ensures ∙ c.if-ran.true) refl
 
 pub returns-else-ran : goal.returns-else-ran
 unfolding step_state
-returns-else-ran c = rw (c.in-Refusal.is, sym c.ran.ensures ∙ c.if-ran.false) refl
+returns-else-ran c = rw (c.in-Err.is, ← c.number-k.ensures, sym c.ran.ensures ∙ c.if-ran.false) refl
 
-pub returns-in-Stepped : goal.returns-in-Stepped
+pub returns-in-Ok : goal.returns-in-Ok
 unfolding step_state
-returns-in-Stepped c = c.write_run-in-Stepped.ensures _ _ ∙ rw c.in-Stepped.is refl
+returns-in-Ok c = c.write_run-in-Ok.ensures _ _ ∙ rw c.in-Ok.is refl

@@ -5,13 +5,13 @@ use Rattle.lists.proofs.Loop.{started, turned₀, finished_all}
 use Rattle.exports_rotation.proofs.held_places.Goals as goal
 
 pub loop-p-init : goal.loop-p-init
-loop-p-init c = (omega arith, started 0 _ _)
+loop-p-init c = started 0 _ _
 
 pub held_at-requires : goal.held_at-requires
 held_at-requires c = (omega arith, c.requires.0, c.requires.1)
 
 pub loop-p-preserved : goal.loop-p-preserved
-loop-p-preserved c = (omega arith, turned₀ c.loop-p.invariant.1 c.held_at.ensures)
+loop-p-preserved c = turned₀ c.loop-p.invariant c.held_at.ensures
 
 pub returns : goal.returns
-returns c = finished_all c.loop-p.invariant.1 16 c.loop-p.invariant.0 (omega arith) refl
+returns c = finished_all c.loop-p.invariant 16 (omega arith) (omega arith) refl

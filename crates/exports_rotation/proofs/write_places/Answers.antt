@@ -11,28 +11,28 @@ use Rattle.exports_rotation.proofs.Units.{row_more}
 use Rattle.exports_rotation.proofs.write_places.Goals as goal
 
 pub loop-p-init : goal.loop-p-init
-loop-p-init c = (omega arith, stack_start 0 10 _ _, stack_start 0 8 _ _)
+loop-p-init c = (stack_start 0 10 _ _, stack_start 0 8 _ _)
 
 pub write_at-requires : goal.write_at-requires
 write_at-requires c =
     let inv = c.loop-p.invariant in
     let pre = c.requires in
-    (omega arith, inv.1.long ∙ pre.0, inv.2.long ∙ pre.1)
+    (omega arith, inv.0.long ∙ pre.0, inv.1.long ∙ pre.1)
 
 pub loop-p-preserved : goal.loop-p-preserved
 loop-p-preserved c =
     let inv = c.loop-p.invariant in
     let w = c.write_at.ensures in
-    (omega arith, row_more inv.1 _ refl w.numbers_after, row_more inv.2 _ refl w.counts_after)
+    (row_more inv.0 _ refl w.numbers_after, row_more inv.1 _ refl w.counts_after)
 
 pub shape_of-numbers : goal.shape_of-numbers
-shape_of-numbers c = c.loop-p.invariant.1.long
+shape_of-numbers c = c.loop-p.invariant.0.long
 
 pub shape_of-counts : goal.shape_of-counts
-shape_of-counts c = c.loop-p.invariant.2.long
+shape_of-counts c = c.loop-p.invariant.1.long
 
 pub returns : goal.returns
 returns c =
     let inv = c.loop-p.invariant in
-    let all : c.loop-p.p ≡ 16 = omega (arith, inv.0) in
-    record { numbers_after = stack_whole inv.1 16 all c.requires.0; counts_after = inv.2.is ∙ ap (λ (k : ℕ). splice 0 (stack k (λ p. counts_of (run_at c.args.unit p))) c.args.counts.now) all }
+    let all : c.loop-p.p ≡ 16 = omega arith in
+    record { numbers_after = stack_whole inv.0 16 all c.requires.0; counts_after = inv.1.is ∙ ap (λ (k : ℕ). splice 0 (stack k (λ p. counts_of (run_at c.args.unit p))) c.args.counts.now) all }

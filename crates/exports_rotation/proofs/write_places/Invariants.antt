@@ -1,5 +1,4 @@
 -- `exports_rotation::write_places` meets its contract. Assumes nothing.
-use Prim.Native.Nat.{◌-◌, ◌≤◌}
 use Rattle.lists.proofs.Stack.{Stacked}
 use Rattle.rotation.specs.Unit.{run_at}
 use Rattle.exports_paused.specs.Told.{numbers_of, counts_of}
@@ -7,7 +6,4 @@ use Rattle.exports_rotation.proofs.write_places.Given as goal
 
 abbrev pub invariant-loop-p : goal.invariant-loop-p
 invariant-loop-p l =
-    (l.p ≤ 16) × Stacked 0 10 l.p (λ q. numbers_of (run_at l.unit q)) l.initial.numbers l.numbers × Stacked 0 8 l.p (λ q. counts_of (run_at l.unit q)) l.initial.counts l.counts
-
-abbrev pub decreases-loop-p : goal.decreases-loop-p
-decreases-loop-p l = 16 - l.p
+    Stacked 0 10 l.p (λ q. numbers_of (run_at l.fn.unit q)) l.initial.numbers l.numbers × Stacked 0 8 l.p (λ q. counts_of (run_at l.fn.unit q)) l.initial.counts l.counts

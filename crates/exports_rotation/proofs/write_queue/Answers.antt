@@ -1,25 +1,21 @@
 -- `exports_rotation::write_queue` meets its contract. Assumes nothing.
-use borrow.Author.Rules.{scaled_Fits}
+use mathlib.Core.Path.{◌≡◌, sym, ap, ◌∙◌}
 use native.Mathlib.Omega.{arith}
-use mathlib.Core.Path.{refl}
-use lib.Dec.{lit<}
-use Rattle.lists.proofs.Loop.{started, turned, finished}
+use Prim.Native.Nat.{ℕ}
+use lib.ListN.{length, get_or}
+use Rattle.lists.specs.Loop.{tabulate}
+use Rattle.lists.specs.Window.{window, splice}
+use Rattle.lists.proofs.Loop.{tabulate_get_or}
+use Rattle.lists.proofs.Window.{length_window}
+use Rattle.lists.proofs.Slices.{put_splice}
 use Rattle.exports_rotation.proofs.write_queue.Goals as goal
 
-pub loop-k-init : goal.loop-k-init
-loop-k-init c = (omega arith, started 128 _ _)
-
-pub offset_bounds-counts-k : goal.offset_bounds-counts-k
-offset_bounds-counts-k c = scaled_Fits _ 144 8 (omega arith) (lit< tt)
-
-pub bounds-counts-k : goal.bounds-counts-k
-bounds-counts-k c = omega (arith, c.loop-k.invariant.1.long, c.requires)
-
-pub loop-k-preserved : goal.loop-k-preserved
-loop-k-preserved c = (omega arith, turned c.loop-k.invariant.1 refl)
-
-pub shape_of-counts : goal.shape_of-counts
-shape_of-counts c = c.loop-k.invariant.1.long
-
 pub returns : goal.returns
-returns c = finished c.loop-k.invariant.1 16 c.loop-k.invariant.0 (omega arith)
+unfolding window
+returns c =
+    let w = c.args.counts.now in
+    let q = c.args.queue in
+    let after = c.copy_from_slice.ensures.after in
+    let part : length c.copy_from_slice.new.self ≡ 16 = c.copy_from_slice.ensures.len ∙ length_window 128 16 w (omega (arith, c.requires)) in
+    let long : length q ≡ 16 = sym (ap length after) ∙ part in
+    put_splice 128 16 w _ (omega (arith, c.requires)) part ∙ ap (λ v. splice 128 v w) (after ∙ sym (tabulate_get_or q 0) ∙ ap (λ (n : ℕ). tabulate n (λ k. get_or q k 0)) long)

@@ -3,10 +3,10 @@ use mathlib.Core.Path.{ap, sym}
 use Rattle.exports_stages.specs.Told.{staged_told}
 use Rattle.exports_stages.proofs.staged_told.Goals as goal
 
-pub returns-in-Refusal : goal.returns-in-Refusal
+pub returns-in-Err : goal.returns-in-Err
 unfolding staged_told
-returns-in-Refusal c = sym (ap staged_told c.in-Refusal.is)
+returns-in-Err c = rw c.number.ensures (sym (ap staged_told c.in-Err.is))
 
-pub returns-in-Staged : goal.returns-in-Staged
+pub returns-in-Ok : goal.returns-in-Ok
 unfolding staged_told
-returns-in-Staged c = sym (ap staged_told c.in-Staged.is)
+returns-in-Ok c = sym (ap staged_told c.in-Ok.is)

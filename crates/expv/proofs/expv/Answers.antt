@@ -21,12 +21,12 @@ pub returns-in_default-clause-work_after : goal.returns-in_default-clause-work_a
 unfolding expv expv_by idle end_at
 returns-in_default-clause-work_after c =
     let a = c.args in
-    let p = sym (c.pow2_scale.ensures ∙ ap pow2_scale (part_window a.k.y (a.l.n + a.l.d) a.work.now)) ∙ c.in_default.is in
+    let p = sym (c.pow2_scale.ensures ∙ ap pow2_scale (part_window a.k.y (a.o.l.n + a.o.l.d) a.work.now)) ∙ c.in_default.is in
     rw p refl
 
 pub returns-clause-work_after : goal.returns-clause-work_after
 unfolding expv
 returns-clause-work_after c =
     let a = c.args in
-    let p = sym (c.pow2_scale.ensures ∙ ap pow2_scale (part_window a.k.y (a.l.n + a.l.d) a.work.now)) ∙ c.in-Some.is in
+    let p = sym (c.pow2_scale.ensures ∙ ap pow2_scale (part_window a.k.y (a.o.l.n + a.o.l.d) a.work.now)) ∙ c.in-Some.is in
     rw p c.scaled_run.ensures.work_after

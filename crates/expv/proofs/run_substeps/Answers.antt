@@ -26,7 +26,7 @@ over : (l : Layout) (k : Krylov) (o : Progress) (w : List Float) → ((c : Contr
 unfolding progress_at
 over l k (On c r) w t h = absurd (t c r refl)
 over l k (Finished c r) w t h = left_out h _ refl
-over l k (Refused n x c r) w t h = left_out h _ refl
+over l k (Refused n c r) w t h = left_out h _ refl
 
 pub loop-init : goal.loop-init
 unfolding progress_at
@@ -38,10 +38,10 @@ shape_of-work-in_default c = c.loop.invariant.2.long
 
 pub returns-in_default : goal.returns-in_default
 unfolding progress_at
-returns-in_default c = record { work_after = over c.args.l c.args.k c.loop.o c.loop.work c.in_default.not-On c.loop.invariant.3; kept = c.loop.invariant.2 }
+returns-in_default c = record { work_after = over c.args.o.l c.args.k c.loop.reached c.loop.work c.in_default.not-On c.loop.invariant.3; kept = c.loop.invariant.2 }
 
-pub substep-o-requires : goal.substep-o-requires
-substep-o-requires c =
+pub substep-reached-requires : goal.substep-reached-requires
+substep-reached-requires c =
     let p = c.requires in
     let f = subst (Moderate c.loop.counter) c.in-On.is c.loop.invariant.1 in
     record { room = room_kept _ _ _ c.loop.invariant.2 p.room; m_bound = (p.m_bound.0, omega (arith, f.0, p.m_bound.1), omega (arith, f.1, p.m_bound.1), omega (arith, f.2, p.m_bound.1)) }
@@ -51,10 +51,10 @@ loop-preserved c =
     let a = c.args in
     let p = c.requires in
     let f = subst (Moderate c.loop.counter) c.in-On.is c.loop.invariant.1 in
-    let g = c.substep-o.ensures in
-    let e = values_kept a.l.mass a.l.q a.vals.now a.work.now c.loop.work c.loop.invariant.2 in
+    let g = c.substep-reached.ensures in
+    let e = values_kept a.o.l.mass a.o.l.q a.o.vals.now a.work.now c.loop.work c.loop.invariant.2 in
     let t = rw e at g.work_after in
-    (omega arith, moderate_turn a.l a.k _ c.loop.counter _ _ c.loop.work _ _ p.m_bound.0 f t, kept_on c.loop.invariant.2 g.kept, left_turn c.loop.invariant.3 _ _ (omega arith) (seen_on a.l a.k _ _ _ _ c.in-On.is) t)
+    (omega arith, moderate_turn a.o.l a.k _ c.loop.counter _ _ c.loop.work _ _ p.m_bound.0 f t, kept_on c.loop.invariant.2 g.kept, left_turn c.loop.invariant.3 _ _ (omega arith) (seen_on a.o.l a.k _ _ _ _ c.in-On.is) t)
 
 pub shape_of-work : goal.shape_of-work
 shape_of-work c = c.loop.invariant.2.long

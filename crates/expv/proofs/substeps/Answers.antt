@@ -2,7 +2,7 @@
 use native.Mathlib.Omega.{arith}
 use mathlib.Core.Path.{refl, ap, ◌∙◌}
 use Rattle.lists.proofs.Window.{part_window}
-use Rattle.phi_action_helpers.specs.Laid.{matrix_at}
+use Rattle.phi_action_helpers.specs.Laid.{matrix_in}
 use Rattle.gram_schmidt.specs.Basis.{norm2}
 use Rattle.krylov_advance.specs.Run.{spent}
 use Rattle.krylov_advance.proofs.Whole.{begins}
@@ -30,5 +30,5 @@ pub returns : goal.returns
 returns c =
     let a = c.args in
     let r = c.run_substeps.ensures in
-    let q = matrix_at a.l a.starts.now a.cols.now a.vals.now a.work.now in
-    record { work_after = c.spent.ensures a.l a.k _ ∙ ap spent r.work_after ∙ begins a.l a.b a.k q a.vectors.now a.work.now a.limit (c.norm2-beta.ensures ∙ ap norm2 (part_window _ _ _)) c.first_length.ensures; kept = r.kept }
+    let q = matrix_in a.o a.work.now in
+    record { work_after = c.spent.ensures a.o.l a.k _ ∙ ap spent r.work_after ∙ begins a.o.l a.o.b a.k q a.o.vectors.now a.work.now a.limit (c.norm2-beta.ensures ∙ ap norm2 (part_window _ _ _)) c.first_length.ensures; kept = r.kept }

@@ -24,9 +24,6 @@ loop-row-preserved c =
     let e = c.size_sum-s.ensures ∙ sum_range abs c.args.vals.now _ _ within.0 within.1 in
     (omega arith, leading_turn c.loop-row.invariant.1 (entries_nonneg p.valid p.finite c.loop-row.row (omega arith)) _ _ _ e c.larger-best.ensures)
 
-pub is_finite-requires : goal.is_finite-requires
-is_finite-requires c = tt
-
 pub returns-then-not-is_finite : goal.returns-then-not-is_finite
 returns-then-not-is_finite c =
     let e = leading_end c.loop-row.invariant.1 (omega arith) c.requires.valid.some in

@@ -29,17 +29,11 @@ loop-i-init c = (omega arith, passed_start _, leading_start _)
 pub slice_bounds-quotient_sum-end : goal.slice_bounds-quotient_sum-end
 slice_bounds-quotient_sum-end c = omega (arith, row_within c.requires.valid c.loop-i.i (omega arith))
 
-pub is_finite-requires : goal.is_finite-requires
-is_finite-requires c = tt
-
 pub returns-then-not-is_finite : goal.returns-then-not-is_finite
 unfolding normalise
 returns-then-not-is_finite c =
     let e = sum_is _ c.args.mass.now c.requires.valid c.loop-i.i (omega arith) c.quotient_sum-s.ensures in
     answered_refusal (refused_sum _ c.loop-i.invariant.1 _ (omega arith) e (sym (ap not c.is_finite.ensures) ∙ (ap not c.if-not-is_finite.true)))
-
-pub larger-largest-requires : goal.larger-largest-requires
-larger-largest-requires c = tt
 
 pub loop-i-preserved : goal.loop-i-preserved
 unfolding bad_sum

@@ -4,14 +4,12 @@ use mathlib.Core.Path.{◌≡◌, refl, ◌∙◌}
 use mathlib.Core.List.{List}
 use native.Mathlib.Nat.{zero-add, zero-mul}
 use Prim.Native.Nat.{ℕ, ◌+◌, ◌-◌, ◌*◌, ◌≤◌, ◌<◌}
-use lib.ListN.{length, set, take, drop, length-set}
+use lib.ListN.{set, take, drop, length-set}
 use lib.Ieee.{Float}
 use Rattle.lists.specs.Window.{window}
 use Rattle.lists.proofs.Bounds.{column_within, cell_within}
 use Rattle.lists.proofs.Window.{part_window}
-use Rattle.dot.specs.Dot.{dot}
 use Rattle.gram_schmidt.specs.Basis.{orthogonal}
-use Rattle.gram_schmidt.specs.Memory.{column, behind, rest_at}
 use Rattle.gram_schmidt.proofs.GramSchmidt.{began, turn, next_size}
 use Rattle.gram_schmidt.proofs.orthogonal.Goals as goal
 

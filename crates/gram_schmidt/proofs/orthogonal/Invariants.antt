@@ -1,18 +1,11 @@
 -- `gram_schmidt::orthogonal` meets its contract. Assumes nothing.
-use native.Mathlib.Omega.{arith}
-use mathlib.Core.Path.{◌≡◌, refl, ◌∙◌}
-use mathlib.Core.List.{List}
-use native.Mathlib.Nat.{zero-add, zero-mul}
-use Prim.Native.Nat.{ℕ, ◌+◌, ◌-◌, ◌*◌, ◌≤◌, ◌<◌}
-use lib.ListN.{length, set, take, drop, length-set}
-use lib.Ieee.{Float}
+use mathlib.Core.Path.{◌≡◌}
+use Prim.Native.Nat.{ℕ, ◌-◌, ◌*◌, ◌≤◌}
+use lib.ListN.{length}
 use Rattle.lists.specs.Window.{window}
-use Rattle.lists.proofs.Bounds.{column_within, cell_within}
-use Rattle.lists.proofs.Window.{part_window}
 use Rattle.dot.specs.Dot.{dot}
 use Rattle.gram_schmidt.specs.Basis.{orthogonal}
 use Rattle.gram_schmidt.specs.Memory.{column, behind, rest_at}
-use Rattle.gram_schmidt.proofs.GramSchmidt.{began, turn, next_size}
 use Rattle.gram_schmidt.proofs.orthogonal.Given as goal
 
 abbrev pub invariant-loop-i : goal.invariant-loop-i

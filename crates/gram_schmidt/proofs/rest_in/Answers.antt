@@ -8,7 +8,7 @@ use Rattle.gram_schmidt.proofs.rest_in.Goals as goal
 
 pub orthogonal-requires : goal.orthogonal-requires
 orthogonal-requires c =
-    let f = column_within c.args.j (c.args.k.m + 1) (c.args.l.n + c.args.l.d) (omega arith) in
+    let f = column_within c.args.j (c.args.k.m + 1) (c.args.o.l.n + c.args.o.l.d) (omega arith) in
     record { len_bound = omega arith; len_bound_2 = omega arith; dim_in_bounds = omega arith; j_lt_dim = omega arith }
 
 pub returns : goal.returns

@@ -1,13 +1,10 @@
 -- `hess_exp::hess_sweep` meets its contract. Assumes nothing.
 use borrow.Author.Rules.{rules}
 use native.Mathlib.Omega.{arith}
-use Prim.Native.Nat.{◌-◌, ◌≤◌}
-use mathlib.Core.Path.{◌≡◌, sym, ap, ◌∙◌}
-use lib.ListN.{length}
-use Rattle.lists.specs.Loop.{iter}
+use Prim.Native.Nat.{◌-◌}
+use mathlib.Core.Path.{◌≡◌, sym, ap}
 use Rattle.lists.proofs.Loop.{iter_none, iter_turn}
-use Rattle.hess_exp.specs.HessExp.{Terms, term_step, hess_sweep}
-use Rattle.hess_exp.specs.Parts.{terms}
+use Rattle.hess_exp.specs.HessExp.{Terms, hess_sweep}
 use Rattle.hess_exp.proofs.hess_sweep.Goals as goal
 
 pub loop-k-init : goal.loop-k-init

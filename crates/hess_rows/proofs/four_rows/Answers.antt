@@ -1,8 +1,7 @@
 -- `hess_rows::four_rows` meets its contract. Assumes nothing.
 use native.Mathlib.Omega.{arith}
-use Prim.Native.Nat.{◌+◌, ◌*◌, ◌≤◌}
+use Prim.Native.Nat.{◌+◌}
 use mathlib.Core.Path.{◌≡◌, refl, ◌∙◌}
-use lib.ListN.{length}
 use Rattle.lists.proofs.Folds.{length_part}
 use Rattle.hess_rows.proofs.Rows.{fewer, four_more}
 use Rattle.hess_rows.proofs.four_rows.Goals as goal

@@ -1,8 +1,7 @@
 -- `hess_rows::row_part` meets its contract. Assumes nothing.
 use native.Mathlib.Omega.{arith}
-use Prim.Native.Nat.{◌+◌, ◌-◌, ◌*◌, ◌<◌, ◌≤◌}
+use Prim.Native.Nat.{◌+◌, ◌-◌}
 use mathlib.Core.Path.{◌≡◌, sym, ◌∙◌}
-use lib.ListN.{length}
 use Rattle.lists.proofs.Bounds.{cell_within}
 use Rattle.lists.proofs.Folds.{length_part}
 use Rattle.hess_rows.proofs.Rows.{part_none, part_more, row_within}

@@ -1,5 +1,5 @@
 -- `hess_rows::row_part` meets its contract. Assumes nothing.
-use Prim.Native.Nat.{◌+◌, ◌-◌, ◌≤◌}
+use Prim.Native.Nat.{◌+◌, ◌-◌}
 use mathlib.Core.Path.{◌≡◌}
 use Rattle.hess_rows.specs.Parts.{row_part}
 use Rattle.hess_rows.proofs.row_part.Given as goal

@@ -6,6 +6,7 @@ use Rattle.join_rows.specs.Join.{result_checks}
 use Rattle.join_checks.proofs.Result.{short_is, many_is}
 use borrow.Author.Rules.{rules}
 use Rattle.join_checks.proofs.check_result.Goals as goal
+use Rattle.checks.specs.declared.Reason.TheVariants.{MatrixTooLarge, JoinLength}
 
 pub returns-then-short : goal.returns-then-short
 unfolding result_checks
@@ -15,11 +16,11 @@ returns-then-short c =
 pub returns-then-entries-gt16777216 : goal.returns-then-entries-gt16777216
 unfolding result_checks
 returns-then-entries-gt16777216 c =
-    passes 36 _ _ (sym (short_is _ _ _ (c.count_entries-entries.ensures _ _)) ∙ sym c.is_short-short.ensures ∙ c.if-short.false)
+    passes JoinLength _ _ (sym (short_is _ _ _ (c.count_entries-entries.ensures _ _)) ∙ sym c.is_short-short.ensures ∙ c.if-short.false)
     (stops _ (sym (many_is _ _ (c.count_entries-entries.ensures _ _)) ∙ lt-ltb _ _ c.if-entries-gt16777216.true) c.not_a_number-then-entries-gt16777216.ensures)
 
 pub returns : goal.returns
 unfolding result_checks
 returns c =
-    passes 36 _ _ (sym (short_is _ _ _ (c.count_entries-entries.ensures _ _)) ∙ sym c.is_short-short.ensures ∙ c.if-short.false)
-    (passes 3 _ _ (sym (many_is _ _ (c.count_entries-entries.ensures _ _)) ∙ le-ltb _ _ c.if-entries-gt16777216.false) c.check_values.ensures)
+    passes JoinLength _ _ (sym (short_is _ _ _ (c.count_entries-entries.ensures _ _)) ∙ sym c.is_short-short.ensures ∙ c.if-short.false)
+    (passes MatrixTooLarge _ _ (sym (many_is _ _ (c.count_entries-entries.ensures _ _)) ∙ le-ltb _ _ c.if-entries-gt16777216.false) c.check_values.ensures)

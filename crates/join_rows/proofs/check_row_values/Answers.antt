@@ -2,8 +2,8 @@
 use mathlib.Core.Path.{sym, ap, ◌∙◌}
 use mathlib.Core.Bool.{not}
 use native.Mathlib.Omega.{arith}
-use Rattle.join_rows.proofs.Steps.{left, less}
-use Rattle.join_rows.proofs.Passes.{Fine, fine_start, fine_next, fine_end, fine_stop, ends_within, places_within, value_asked}
+use Rattle.join_rows.proofs.Steps.{less}
+use Rattle.join_rows.proofs.Passes.{fine_start, fine_next, fine_end, fine_stop, ends_within, places_within, value_asked}
 use Rattle.join_rows.proofs.check_row_values.Goals as goal
 
 pub row_start-m-requires : goal.row_start-m-requires
@@ -30,9 +30,6 @@ pub value_at-value-requires : goal.value_at-value-requires
 value_at-value-requires c =
     let p = c.requires in
     let r = value_asked p.joinable p.i_lt_n c.loop-m.invariant.merging c.next_column-x.ensures (omega (arith, c.if-x-n.false)) in record { p_in_bounds = r.0; q_in_bounds = r.1.0; in_b_value = r.1.1 }
-
-pub is_finite-requires : goal.is_finite-requires
-is_finite-requires c = tt
 
 pub returns-then-not-is_finite : goal.returns-then-not-is_finite
 returns-then-not-is_finite c =

@@ -1,9 +1,6 @@
 -- `join_rows::check_row_values` meets its contract. Assumes nothing.
-use mathlib.Core.Path.{sym, ap, ◌∙◌}
-use mathlib.Core.Bool.{not}
-use native.Mathlib.Omega.{arith}
-use Rattle.join_rows.proofs.Steps.{left, less}
-use Rattle.join_rows.proofs.Passes.{Fine, fine_start, fine_next, fine_end, fine_stop, ends_within, places_within, value_asked}
+use Rattle.join_rows.proofs.Steps.{left}
+use Rattle.join_rows.proofs.Passes.{Fine}
 use Rattle.join_rows.proofs.check_row_values.Given as goal
 
 abbrev pub invariant-loop-m : goal.invariant-loop-m

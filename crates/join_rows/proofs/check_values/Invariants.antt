@@ -1,9 +1,8 @@
 -- `join_rows::check_values` meets its contract. Assumes nothing.
 use borrow.Author.Rules.{rules}
-use native.Mathlib.Omega.{arith}
 use Prim.Native.Nat.{◌-◌}
 use Rattle.general_operator.specs.Csr.{csr}
-use Rattle.join_rows.proofs.Passes.{FineRows, fine_rows_start, fine_rows_next, fine_rows_stop, fine_rows_end}
+use Rattle.join_rows.proofs.Passes.{FineRows}
 use Rattle.join_rows.proofs.check_values.Given as goal
 
 abbrev pub invariant-loop-i : goal.invariant-loop-i

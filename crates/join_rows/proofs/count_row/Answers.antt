@@ -1,6 +1,6 @@
 -- `join_rows::count_row` meets its contract. Assumes nothing.
-use Rattle.join_rows.proofs.Passes.{places_within, ends_within, Counted, counted_start, counted_few, counted_next, counted_end}
-use Rattle.join_rows.proofs.Steps.{left, less}
+use Rattle.join_rows.proofs.Passes.{places_within, ends_within, counted_start, counted_few, counted_next, counted_end}
+use Rattle.join_rows.proofs.Steps.{less}
 use native.Mathlib.Omega.{arith}
 use Rattle.join_rows.proofs.count_row.Goals as goal
 

@@ -1,7 +1,6 @@
 -- `join_rows::count_row` meets its contract. Assumes nothing.
-use Rattle.join_rows.proofs.Passes.{places_within, ends_within, Counted, counted_start, counted_few, counted_next, counted_end}
-use Rattle.join_rows.proofs.Steps.{left, less}
-use native.Mathlib.Omega.{arith}
+use Rattle.join_rows.proofs.Passes.{Counted}
+use Rattle.join_rows.proofs.Steps.{left}
 use Rattle.join_rows.proofs.count_row.Given as goal
 
 abbrev pub invariant-loop-m : goal.invariant-loop-m

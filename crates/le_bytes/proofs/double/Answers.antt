@@ -1,5 +1,4 @@
 -- `le_bytes::double` meets its contract. Assumes nothing.
-use borrow.Author.Rules.{rules}
 use mathlib.Core.Bool.{Bool, not}
 use mathlib.Core.Path.{sym, ◌∙◌, subst}
 use lib.Dec.{T}

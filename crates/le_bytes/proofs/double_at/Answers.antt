@@ -1,5 +1,4 @@
 -- `le_bytes::double_at` meets its contract. Assumes nothing.
-use borrow.Author.Rules.{rules}
 use mathlib.Core.Path.{◌∙◌, ap}
 use lib.Ieee.{binary64, of_bits}
 use Rattle.le_bytes.specs.Bytes.{double_at}

@@ -1,5 +1,4 @@
 -- `le_bytes::word_at` meets its contract. Assumes nothing.
-use borrow.Author.Rules.{rules}
 use Rattle.le_bytes.specs.Bytes.{word}
 use Rattle.le_bytes.proofs.word_at.Goals as goal
 

@@ -1,15 +1,9 @@
 -- `pack_bytes::pattern` meets its contract. Assumes nothing.
-use borrow.Author.Rules.{rules}
-use mathlib.Core.Path.{sym, subst}
-use lib.Dec.{T}
+use mathlib.Core.Path.{refl, sym, ◌∙◌}
 use lib.Ieee.{to_bits}
-use lib.Ieee.Compare.{differs_from_itself}
-use Rattle.doubles.proofs.Magnitude.{no_nan}
+use Rattle.le_bytes.proofs.Patterns.{only_nan}
 use Rattle.pack_bytes.proofs.pattern.Goals as goal
 
-pub returns-then-x : goal.returns-then-x
+pub returns-then-is_nan : goal.returns-then-is_nan
 unfolding to_bits
-returns-then-x c = rw (differs_from_itself c.args.x (subst T (sym c.if-x.true) tt))
-
-pub float_to_bits-result : goal.float_to_bits-result
-float_to_bits-result c = no_nan c.args.x c.if-x.false
+returns-then-is_nan c = rw (only_nan c.args.x (sym c.is_nan.ensures.value ∙ c.if-is_nan.true)) refl

@@ -13,15 +13,15 @@ store_quotients-requires c =
     let a = c.args in
     record { valid = c.requires.allowed.passed.valid; divided = c.requires.allowed.passed.divided; vals_in_bounds = fits a.vectors.now a.work.now a.field.now c.requires.allowed c.requires.field_len.0 c.layout-l.ensures c.copy_from.ensures }
 
-pub substep-o-requires : goal.substep-o-requires
-substep-o-requires c =
+pub substep-progress-requires : goal.substep-progress-requires
+substep-progress-requires c =
     let a = c.args in
     record { room = room₂ a.vectors.now a.work.now a.field.now c.requires.allowed c.requires.field_len.0 c.layout-l.ensures c.copy_from.ensures c.store_quotients.ensures a.run.norm; m_bound = (c.requires.allowed.small, c.requires.field_len.2, c.requires.field_len.1, c.requires.field_len.3) }
 
 pub copy_from-requires-2 : goal.copy_from-requires-2
 copy_from-requires-2 c =
     let a = c.args in
-    record { len_in_bounds = omega (arith, c.requires.field_len.0); len_in_bounds_2 = omega (arith, field_fits a.vectors.now a.work.now a.field.now c.requires.allowed c.requires.field_len.0 c.layout-l.ensures, long₃ a.vectors.now a.work.now a.field.now c.requires.allowed c.requires.field_len.0 c.layout-l.ensures c.copy_from.ensures c.store_quotients.ensures a.run c.substep-o.ensures.kept c.norm2.ensures) }
+    record { len_in_bounds = omega (arith, c.requires.field_len.0); len_in_bounds_2 = omega (arith, field_fits a.vectors.now a.work.now a.field.now c.requires.allowed c.requires.field_len.0 c.layout-l.ensures, long₃ a.vectors.now a.work.now a.field.now c.requires.allowed c.requires.field_len.0 c.layout-l.ensures c.copy_from.ensures c.store_quotients.ensures a.run c.substep-progress.ensures.kept c.norm2.ensures) }
 
 pub returns : goal.returns
 returns c =
@@ -30,6 +30,6 @@ returns c =
     let w = a.work.now in
     let y = a.field.now in
     let e = c.layout-l.ensures in
-    let kept = c.substep-o.ensures.kept in
-    let i = substep_is v w y c.requires.allowed c.requires.field_len.0 e c.copy_from.ensures c.store_quotients.ensures a.run kept c.norm2.ensures _ c.substep-o.ensures.work_after c.copy_from-2.ensures in
+    let kept = c.substep-progress.ensures.kept in
+    let i = substep_is v w y c.requires.allowed c.requires.field_len.0 e c.copy_from.ensures c.store_quotients.ensures a.run kept c.norm2.ensures _ c.substep-progress.ensures.work_after c.copy_from-2.ensures in
     record { field_after = i.0; work_unchanged = (cleared₃ v w y c.requires.allowed c.requires.field_len.0 e c.copy_from.ensures c.store_quotients.ensures a.run kept c.norm2.ensures, long₃ v w y c.requires.allowed c.requires.field_len.0 e c.copy_from.ensures c.store_quotients.ensures a.run kept c.norm2.ensures, i.1) }

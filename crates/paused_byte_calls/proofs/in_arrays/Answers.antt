@@ -1,5 +1,4 @@
 -- `paused_byte_calls::in_arrays` meets its contract. Assumes nothing.
-use native.Mathlib.Omega.{arith}
 use mathlib.Core.Path.{sym, ◌∙◌, ap}
 use lib.ListN.{length}
 use Rattle.general_operator.specs.Csr.{csr}
@@ -10,35 +9,20 @@ use Rattle.paused_byte_calls.specs.Replies.{slices, packs}
 use Rattle.paused_byte_calls.specs.Inner.{job, called_run}
 use Rattle.paused_byte_calls.proofs.in_arrays.Goals as goal
 
-pub numbers_in-starts_array-requires : goal.numbers_in-starts_array-requires
-numbers_in-starts_array-requires c = omega (arith, c.requires.starts_len_bound.0)
-
-pub numbers_in-cols_array-requires : goal.numbers_in-cols_array-requires
-numbers_in-cols_array-requires c = c.requires.starts_len_bound.1
-
-pub doubles_in-vals_array-requires : goal.doubles_in-vals_array-requires
-doubles_in-vals_array-requires c = c.requires.starts_len_bound.2
-
-pub doubles_in-mass_array-requires : goal.doubles_in-mass_array-requires
-doubles_in-mass_array-requires c = c.requires.starts_len_bound.3
-
-pub doubles_in-w_array-requires : goal.doubles_in-w_array-requires
-doubles_in-w_array-requires c = c.requires.starts_len_bound.4
-
 pub slice_bounds-in_lent_arrays-end : goal.slice_bounds-in_lent_arrays-end
-slice_bounds-in_lent_arrays-end c = sym (ap length c.numbers_in-starts_array.ensures ∙ count_numbers c.args.starts.now)
+slice_bounds-in_lent_arrays-end c = sym (ap length c.array-starts_array.ensures ∙ count_numbers c.args.starts.now)
 
 pub slice_bounds-in_lent_arrays-end-2 : goal.slice_bounds-in_lent_arrays-end-2
-slice_bounds-in_lent_arrays-end-2 c = sym (ap length c.numbers_in-cols_array.ensures ∙ count_numbers c.args.cols.now)
+slice_bounds-in_lent_arrays-end-2 c = sym (ap length c.array-cols_array.ensures ∙ count_numbers c.args.cols.now)
 
 pub slice_bounds-in_lent_arrays-end-3 : goal.slice_bounds-in_lent_arrays-end-3
-slice_bounds-in_lent_arrays-end-3 c = sym (ap length c.doubles_in-vals_array.ensures ∙ count_doubles c.args.vals.now)
+slice_bounds-in_lent_arrays-end-3 c = sym (ap length c.array-vals_array.ensures ∙ count_doubles c.args.vals.now)
 
 pub slice_bounds-in_lent_arrays-end-4 : goal.slice_bounds-in_lent_arrays-end-4
-slice_bounds-in_lent_arrays-end-4 c = sym (ap length c.doubles_in-mass_array.ensures ∙ count_doubles c.args.mass.now)
+slice_bounds-in_lent_arrays-end-4 c = sym (ap length c.array-mass_array.ensures ∙ count_doubles c.args.mass.now)
 
 pub slice_bounds-in_lent_arrays-end-5 : goal.slice_bounds-in_lent_arrays-end-5
-slice_bounds-in_lent_arrays-end-5 c = sym (ap length c.doubles_in-w_array.ensures ∙ count_doubles c.args.w.now)
+slice_bounds-in_lent_arrays-end-5 c = sym (ap length c.array-w_array.ensures ∙ count_doubles c.args.w.now)
 
 pub in_lent_arrays-requires : goal.in_lent_arrays-requires
 in_lent_arrays-requires c = c.requires.out_len_bound
@@ -47,4 +31,4 @@ pub returns : goal.returns
 returns c =
     let a = c.args in
     c.in_lent_arrays.ensures
-    ∙ (λ i. packs (called_run a.call (job (csr a.n (c.numbers_in-starts_array.ensures i) (c.numbers_in-cols_array.ensures i) (c.doubles_in-vals_array.ensures i)) (given a.with_mass (c.doubles_in-mass_array.ensures i)) a.tau a.count (c.doubles_in-w_array.ensures i)) (doubles_of a.out.now) (doubles_of a.work.now) (doubles_of a.field.now) (doubles_of a.numbers.now) (words_of a.counts.now)) (slices a.out.now a.work.now a.field.now a.numbers.now a.counts.now))
+    ∙ (λ i. packs (called_run a.call (job (csr a.n (c.array-starts_array.ensures i) (c.array-cols_array.ensures i) (c.array-vals_array.ensures i)) (given a.with_mass (c.array-mass_array.ensures i)) a.tau a.count (c.array-w_array.ensures i)) (doubles_of a.out.now) (doubles_of a.work.now) (doubles_of a.field.now) (doubles_of a.numbers.now) (words_of a.counts.now)) (slices a.out.now a.work.now a.field.now a.numbers.now a.counts.now))

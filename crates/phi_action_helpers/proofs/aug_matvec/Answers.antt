@@ -3,7 +3,7 @@ use native.Mathlib.Omega.{arith}
 use lib.ListN.{length-take, length-drop}
 use Rattle.lists.proofs.Window.{part_window}
 use Rattle.csr_matvec.proofs.Values.{not_scaled}
-use Rattle.phi_action_helpers.specs.Laid.{operator_at}
+use Rattle.phi_action_helpers.specs.Laid.{operator_in}
 use Rattle.lists.proofs.Bounds.{part_apart}
 use Rattle.phi_action_helpers.proofs.Augmented.{product}
 use Rattle.phi_action_helpers.proofs.aug_matvec.Goals as goal
@@ -24,7 +24,7 @@ top_in-requires c =
 pub returns : goal.returns
 returns c =
     let a = c.args in
-    product (operator_at a.l a.b a.starts.now a.cols.now a.vals.now a.vectors.now a.work.now) a.k _ _ _ a.work.now _ _ _ c.requires.w_in c.requires.av_in c.requires.apart
+    product (operator_in a.o a.work.now) a.k _ _ _ a.work.now _ _ _ c.requires.w_in c.requires.av_in c.requires.apart
     (rw not_scaled at c.apply_generator.ensures)
     (rw part_window at c.scalars-sc.ensures)
     c.top_in.ensures

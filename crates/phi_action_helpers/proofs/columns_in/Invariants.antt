@@ -10,7 +10,7 @@ use Rattle.phi_action_helpers.proofs.columns_in.Given as goal
 
 abbrev pub invariant-loop-j : goal.invariant-loop-j
 invariant-loop-j l =
-    (l.j ≤ l.count) × (length l.work ≡ length l.initial.work) × (l.work ≡ splice l.w (tabulate l.n (λ i. coupled l.vectors l.places l.j l.sc i (at l.initial.work (l.w + i)))) l.initial.work)
+    (l.j ≤ l.count) × (length l.work ≡ length l.initial.work) × (l.work ≡ splice l.o.l.w (tabulate l.o.l.n (λ i. coupled l.o.vectors.now l.o.b.places l.j l.sc i (at l.initial.work (l.o.l.w + i)))) l.initial.work)
 
 abbrev pub decreases-loop-j : goal.decreases-loop-j
 decreases-loop-j l = l.count - l.j

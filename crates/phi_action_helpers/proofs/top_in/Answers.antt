@@ -13,4 +13,4 @@ columns_in-requires c = record { count_bound = c.requires.count_bound; n_in_boun
 pub returns : goal.returns
 returns c =
     let a = c.args in
-    passed a.w a.n (λ i. generator_term a.k (at a.work.now (a.av + i)) (at a.work.now (a.w + i))) (λ i x. coupled a.vectors.now a.places a.count a.sc i x) a.work.now nan (omega arith) c.generator_terms_in.ensures c.columns_in.ensures
+    passed a.o.l.w a.o.l.n (λ i. generator_term a.k (at a.work.now (a.o.l.av + i)) (at a.work.now (a.o.l.w + i))) (λ i x. coupled a.o.vectors.now a.o.b.places a.o.b.count a.sc i x) a.work.now nan (omega arith) c.generator_terms_in.ensures c.columns_in.ensures

@@ -3,26 +3,28 @@ use mathlib.Core.Path.{refl}
 use Rattle.general_operator.specs.Csr.{csr}
 use Rattle.generator_action.specs.Mass.{given, generator_checks}
 use Rattle.generator_action.specs.Generator.{forward}
-use Rattle.generator_action.proofs.Answered.{passed_up, refusal_told, norm_told, passed}
+use Rattle.generator_action.proofs.Answered.{refusal_told, norm_told, passed}
 use Rattle.phi_combination.proofs.Calls.{batch_refused}
+use Rattle.checks.proofs.First.{passed_on}
 use Rattle.phi_batch.proofs.phi_action_batched.Goals as goal
 
-pub returns-in_default : goal.returns-in_default
-returns-in_default c =
-    let a = c.args in
+pub returns-in_err-matrix : goal.returns-in_err-matrix
+returns-in_err-matrix c =
+    rw (passed_on c.from_residual.ensures.1)
+    (let a = c.args in
     let matrix = csr a.n a.starts.now a.cols.now a.vals.now in
     let mass = given a.with_mass a.mass.now in
-    let refusal = passed_up c.in_default.is c.number.ensures c.value.ensures in
-    batch_refused (forward matrix mass) a.tau a.cap a.out.now a.work.now (refusal_told matrix mass c.check_generator-matrix.ensures refusal) a.p a.v.now
+    let refusal = c.in_err-matrix.was in
+    batch_refused (forward matrix mass) a.tau a.cap a.out.now a.work.now (refusal_told matrix mass c.check_generator.ensures refusal) a.p a.v.now)
 
 pub acted_batched-requires : goal.acted_batched-requires
 acted_batched-requires c =
     let a = c.args in
-    let told = norm_told (csr a.n a.starts.now a.cols.now a.vals.now) (given a.with_mass a.mass.now) c.check_generator-matrix.ensures c.in-Norm.is in
+    let told = norm_told (csr a.n a.starts.now a.cols.now a.vals.now) (given a.with_mass a.mass.now) c.check_generator.ensures c.in_ok-matrix.was in
     rw (c.generator_shape-g.ensures a.starts.now a.cols.now a.vals.now a.mass.now refl) (passed _ a.with_mass a.mass.now told)
 
 pub returns : goal.returns
 returns c =
     let a = c.args in
-    let told = norm_told (csr a.n a.starts.now a.cols.now a.vals.now) (given a.with_mass a.mass.now) c.check_generator-matrix.ensures c.in-Norm.is in
+    let told = norm_told (csr a.n a.starts.now a.cols.now a.vals.now) (given a.with_mass a.mass.now) c.check_generator.ensures c.in_ok-matrix.was in
     rw (c.generator_shape-g.ensures a.starts.now a.cols.now a.vals.now a.mass.now refl) at (c.acted_batched.ensures (generator_checks (csr a.n a.starts.now a.cols.now a.vals.now) (given a.with_mass a.mass.now)) told.sound)

@@ -28,14 +28,14 @@ swept_out-applied-requires c =
     let a = c.args in
     let p = c.requires in
     let lo = ap length h.made ∙ length_splice 0 _ a.out.now in
-    let here = column_within c.loop-k.k a.count a.x.l.n (omega (arith, c.loop-k-test.true)) in
-    record { ready = ready_kept _ _ _ a.v.now (kept_on h.kept (init_kept a.v.now a.inv c.loop-k.k p.lined.0 p.lined.3 p.v_len.0 c.init_aug_vector.ensures)) p.ready; lined = (p.lined.0, p.lined.2, omega (arith, lo, here, p.v_len.2)) }
+    let here = column_within c.loop-k.k a.count a.x.o.l.n (omega (arith, c.loop-k-test.true)) in
+    record { ready = ready_kept _ _ _ a.x.o.vectors.now (kept_on h.kept (init_kept a.x.o.vectors.now a.inv c.loop-k.k p.lined.0 p.lined.3 p.v_len.0 c.init_aug_vector.ensures)) p.ready; lined = (p.lined.0, p.lined.2, omega (arith, lo, here, p.v_len.2)) }
 
 pub overflow_add-applied : goal.overflow_add-applied
 overflow_add-applied c =
     let a = c.args in
     let p = c.requires in
-    let so_far = c.loop-k.invariant.1.counted ∙ batch_counted _ a.x.tau a.v.now a.inv a.x.p c.loop-k.k in
+    let so_far = c.loop-k.invariant.1.counted ∙ batch_counted _ a.x.tau a.x.o.vectors.now a.inv a.x.p c.loop-k.k in
     let more = c.swept_out-applied.ensures.value ∙ soak_counted _ a.x.tau _ a.x.p in
     let few = batch_fits a.x.p c.loop-k.k (omega (arith, c.loop-k.invariant.0, p.v_len.1)) p.lined.1 p.lined.2 in
     let one = product_within 4294967295 30 p.lined.1 p.lined.2 in

@@ -1,12 +1,13 @@
 -- `phi_solver::of_krylov` meets its contract. Assumes nothing.
 use mathlib.Core.Path.{refl}
+use Rattle.checks.proofs.First.{passed_on}
 use Rattle.phi_solver.specs.Combine.{of_krylov}
 use Rattle.phi_solver.proofs.of_krylov.Goals as goal
 
-pub returns-in-Refusal : goal.returns-in-Refusal
+pub returns-in_err-answer : goal.returns-in_err-answer
 unfolding of_krylov
-returns-in-Refusal c = rw c.in-Refusal.is refl
+returns-in_err-answer c = rw (passed_on c.from_residual.ensures.1, c.in_err-answer.was) refl
 
-pub returns-in-Result : goal.returns-in-Result
+pub returns : goal.returns
 unfolding of_krylov
-returns-in-Result c = rw c.in-Result.is refl
+returns c = rw c.in_ok-answer.was refl

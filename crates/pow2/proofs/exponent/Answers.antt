@@ -10,16 +10,10 @@ use Rattle.pow2.proofs.exponent.Goals as goal
 pub float_to_bits-mag : goal.float_to_bits-mag
 float_to_bits-mag c = (positive_plain c.args.mag c.requires).number
 
-pub field-normal-requires : goal.field-normal-requires
-field-normal-requires c = tt
-
 pub float_to_bits-mag-then-normal-eq0 : goal.float_to_bits-mag-then-normal-eq0
 float_to_bits-mag-then-normal-eq0 c =
     let is_fit : T (fits binary64 c.args.mag) = subst T (sym c.well_formed.0.1) tt in
     (lifted_plain _ is_fit c.requires (rw c.field-normal.ensures at c.if-normal-eq0.true)).number
-
-pub field-requires : goal.field-requires
-field-requires c = tt
 
 pub overflow_sub-result : goal.overflow_sub-result
 overflow_sub-result c = exp_fits _ _ c.field.ensures

@@ -11,9 +11,6 @@ use Rattle.pow2.proofs.Leading.{positive_plain, exponent_mag}
 use Rattle.pow2.proofs.Largest.{nonneg_sup, above_zero}
 use Rattle.pow2.proofs.pow2_scale.Goals as goal
 
-pub sup-bmax-requires : goal.sup-bmax-requires
-sup-bmax-requires c = tt
-
 pub returns-then-bmax : goal.returns-then-bmax
 unfolding pow2_scale
 returns-then-bmax c = rw (rw c.sup-bmax.ensures at c.if-bmax.true)

@@ -2,8 +2,8 @@
 use mathlib.Core.Path.{refl}
 use Rattle.rotation_turns.proofs.run_left.Goals as goal
 
-pub returns-in-Refusal : goal.returns-in-Refusal
-returns-in-Refusal c = rw c.in-Refusal.is refl
+pub returns-in-Err : goal.returns-in-Err
+returns-in-Err c = rw c.in-Err.is refl
 
-pub returns-in-Stepped : goal.returns-in-Stepped
-returns-in-Stepped c = rw c.in-Stepped.is refl
+pub returns-in-Ok : goal.returns-in-Ok
+returns-in-Ok c = rw c.in-Ok.is refl

@@ -6,61 +6,68 @@ use Prim.Native.Nat.{ℕ, ◌-◌}
 use lib.ListN.{length}
 use Rattle.lists.proofs.Window.{length_splice}
 use Rattle.checks.specs.First.{first}
-use Rattle.checks.proofs.First.{passed_up}
+use Rattle.checks.proofs.First.{passed_on, refused_up, sound_on}
 use Rattle.combination.specs.Checks.{finite_checks}
 use Rattle.krylov_job.specs.KrylovCall.{dimension, option_checks}
-use Rattle.schedule_checks.specs.Inner.{field_of}
+use Rattle.combination.specs.Combination.{field_of}
 use Rattle.stage_calls.proofs.OneStage.{dimension_small, krylov_fits, krylov_runs, krylov_refused, krylov_not_admitted, krylov_is}
 use Rattle.stage_calls.proofs.krylov_stage.Goals as goal
 
-pub returns-in_default : goal.returns-in_default
-unfolding dimension
-returns-in_default c gs sound =
-    let told : let a = c.args in c.and_then-early.result ≡ first (finite_checks ((field_of a.initial a.start.now a.out.now) ++ a.vectors.now) ++ option_checks a.o (dimension a.g.n (a.count - 1) a.o.m)) = let a = c.args in
-    c.and_then-early.ensures _ _ c.check_field-finite.ensures (c.check_options.ensures ∙ ap (λ (m : ℕ). first (option_checks a.o m)) c.clamp_m-m.ensures) in
+pub returns-in_err-check_field : goal.returns-in_err-check_field
+returns-in_err-check_field c gs sound =
     let a = c.args in
-    let refusal = passed_up c.in_default.is c.number.ensures c.reported.ensures in
-    krylov_refused a.mass.now c.requires.passed a.tau a.count (field_of a.initial a.start.now a.out.now) a.vectors.now a.out.now a.work.now c.requires.whole.0 a.o c.requires.whole.1 told gs sound refusal
+    rw (passed_on c.from_residual.ensures.1)
+    (krylov_refused a.mass.now c.requires.passed a.tau a.count (field_of a.initial a.start.now a.out.now) a.vectors.now a.out.now a.work.now c.requires.whole.0 a.o c.requires.whole.1 (refused_up _ (option_checks a.o (dimension a.g.n (a.count - 1) a.o.m)) c.in_err-check_field.was c.check_field.ensures) gs sound c.in_err-check_field.was)
 
-pub admit_run-j-requires : goal.admit_run-j-requires
+pub returns-in_err-check_options : goal.returns-in_err-check_options
 unfolding dimension
-admit_run-j-requires c =
-    let told : let a = c.args in c.and_then-early.result ≡ first (finite_checks ((field_of a.initial a.start.now a.out.now) ++ a.vectors.now) ++ option_checks a.o (dimension a.g.n (a.count - 1) a.o.m)) = let a = c.args in
-    c.and_then-early.ensures _ _ c.check_field-finite.ensures (c.check_options.ensures ∙ ap (λ (m : ℕ). first (option_checks a.o m)) c.clamp_m-m.ensures) in
+returns-in_err-check_options c gs sound =
+    rw (passed_on c.from_residual-in_err-check_options.ensures.1)
+    (let told : let a = c.args in c.check_options.result ≡ first (finite_checks ((field_of a.initial a.start.now a.out.now) ++ a.vectors.now) ++ option_checks a.o (dimension a.g.n (a.count - 1) a.o.m)) = let a = c.args in
+    sound_on _ _ c.in_ok-check_field.was c.check_field.ensures (c.check_options.ensures ∙ ap (λ (m : ℕ). first (option_checks a.o m)) c.clamp_m-m.ensures) in
     let a = c.args in
-    let small = dimension_small a.mass.now c.requires.passed a.tau a.count (field_of a.initial a.start.now a.out.now) a.vectors.now a.out.now a.work.now c.requires.whole.0 a.o c.requires.whole.1 told c.in-Sound.is in
+    krylov_refused a.mass.now c.requires.passed a.tau a.count (field_of a.initial a.start.now a.out.now) a.vectors.now a.out.now a.work.now c.requires.whole.0 a.o c.requires.whole.1 told gs sound c.in_err-check_options.was)
+
+pub admit_run-requires : goal.admit_run-requires
+unfolding dimension
+admit_run-requires c =
+    let told : let a = c.args in c.check_options.result ≡ first (finite_checks ((field_of a.initial a.start.now a.out.now) ++ a.vectors.now) ++ option_checks a.o (dimension a.g.n (a.count - 1) a.o.m)) = let a = c.args in
+    sound_on _ _ c.in_ok-check_field.was c.check_field.ensures (c.check_options.ensures ∙ ap (λ (m : ℕ). first (option_checks a.o m)) c.clamp_m-m.ensures) in
+    let a = c.args in
+    let small = dimension_small a.mass.now c.requires.passed a.tau a.count (field_of a.initial a.start.now a.out.now) a.vectors.now a.out.now a.work.now c.requires.whole.0 a.o c.requires.whole.1 told c.in_ok-check_options.was in
     let h = c.requires.whole.0 in
     (omega (arith, h.rest), c.requires.passed.valid.few, omega (arith, h.most), rw c.clamp_m-m.ensures small, c.requires.passed.light)
 
-pub returns-in_default-checked : goal.returns-in_default-checked
+pub returns-in_err-j : goal.returns-in_err-j
 unfolding dimension
-returns-in_default-checked c gs sound =
-    let told : let a = c.args in c.and_then-early.result ≡ first (finite_checks ((field_of a.initial a.start.now a.out.now) ++ a.vectors.now) ++ option_checks a.o (dimension a.g.n (a.count - 1) a.o.m)) = let a = c.args in
-    c.and_then-early.ensures _ _ c.check_field-finite.ensures (c.check_options.ensures ∙ ap (λ (m : ℕ). first (option_checks a.o m)) c.clamp_m-m.ensures) in
+returns-in_err-j c gs sound =
+    rw (passed_on c.from_residual-in_err-j.ensures.1)
+    (let told : let a = c.args in c.check_options.result ≡ first (finite_checks ((field_of a.initial a.start.now a.out.now) ++ a.vectors.now) ++ option_checks a.o (dimension a.g.n (a.count - 1) a.o.m)) = let a = c.args in
+    sound_on _ _ c.in_ok-check_field.was c.check_field.ensures (c.check_options.ensures ∙ ap (λ (m : ℕ). first (option_checks a.o m)) c.clamp_m-m.ensures) in
     let a = c.args in
-    let refusal = passed_up c.in_default-checked.is c.number-in_default-checked.ensures c.reported-in_default-checked.ensures in
-    krylov_not_admitted a.mass.now c.requires.passed a.tau a.count (field_of a.initial a.start.now a.out.now) a.vectors.now a.out.now a.work.now c.requires.whole.0 a.o c.requires.whole.1 told c.in-Sound.is c.clamp_m-m.ensures c.admit_run-j.ensures gs sound refusal
+    let refusal = c.in_err-j.was in
+    krylov_not_admitted a.mass.now c.requires.passed a.tau a.count (field_of a.initial a.start.now a.out.now) a.vectors.now a.out.now a.work.now c.requires.whole.0 a.o c.requires.whole.1 told c.in_ok-check_options.was c.clamp_m-m.ensures c.admit_run.ensures gs sound refusal)
 
 pub start_field-requires : goal.start_field-requires
 unfolding dimension
 start_field-requires c =
-    let told : let a = c.args in c.and_then-early.result ≡ first (finite_checks ((field_of a.initial a.start.now a.out.now) ++ a.vectors.now) ++ option_checks a.o (dimension a.g.n (a.count - 1) a.o.m)) = let a = c.args in
-    c.and_then-early.ensures _ _ c.check_field-finite.ensures (c.check_options.ensures ∙ ap (λ (m : ℕ). first (option_checks a.o m)) c.clamp_m-m.ensures) in
+    let told : let a = c.args in c.check_options.result ≡ first (finite_checks ((field_of a.initial a.start.now a.out.now) ++ a.vectors.now) ++ option_checks a.o (dimension a.g.n (a.count - 1) a.o.m)) = let a = c.args in
+    sound_on _ _ c.in_ok-check_field.was c.check_field.ensures (c.check_options.ensures ∙ ap (λ (m : ℕ). first (option_checks a.o m)) c.clamp_m-m.ensures) in
     let a = c.args in
-    (c.requires.whole.0.fielded, krylov_fits a.mass.now c.requires.passed a.tau a.count (field_of a.initial a.start.now a.out.now) a.vectors.now a.out.now a.work.now c.requires.whole.0 a.o c.requires.whole.1 told c.in-Sound.is c.clamp_m-m.ensures c.admit_run-j.ensures c.in-Sound-checked.is)
+    (c.requires.whole.0.fielded, krylov_fits a.mass.now c.requires.passed a.tau a.count (field_of a.initial a.start.now a.out.now) a.vectors.now a.out.now a.work.now c.requires.whole.0 a.o c.requires.whole.1 told c.in_ok-check_options.was c.clamp_m-m.ensures c.admit_run.ensures c.in_ok-j.was)
 
 pub run_job-requires : goal.run_job-requires
 unfolding dimension
 run_job-requires c =
-    let told : let a = c.args in c.and_then-early.result ≡ first (finite_checks ((field_of a.initial a.start.now a.out.now) ++ a.vectors.now) ++ option_checks a.o (dimension a.g.n (a.count - 1) a.o.m)) = let a = c.args in
-    c.and_then-early.ensures _ _ c.check_field-finite.ensures (c.check_options.ensures ∙ ap (λ (m : ℕ). first (option_checks a.o m)) c.clamp_m-m.ensures) in
+    let told : let a = c.args in c.check_options.result ≡ first (finite_checks ((field_of a.initial a.start.now a.out.now) ++ a.vectors.now) ++ option_checks a.o (dimension a.g.n (a.count - 1) a.o.m)) = let a = c.args in
+    sound_on _ _ c.in_ok-check_field.was c.check_field.ensures (c.check_options.ensures ∙ ap (λ (m : ℕ). first (option_checks a.o m)) c.clamp_m-m.ensures) in
     let a = c.args in
-    let r = krylov_runs a.mass.now c.requires.passed a.tau a.count (field_of a.initial a.start.now a.out.now) a.vectors.now a.out.now a.work.now c.requires.whole.0 a.o c.requires.whole.1 told c.in-Sound.is c.clamp_m-m.ensures c.admit_run-j.ensures c.in-Sound-checked.is (ap length c.start_field.ensures ∙ length_splice _ _ a.work.now) in record { allowed = r.0; out_len = r.1 }
+    let r = krylov_runs a.mass.now c.requires.passed a.tau a.count (field_of a.initial a.start.now a.out.now) a.vectors.now a.out.now a.work.now c.requires.whole.0 a.o c.requires.whole.1 told c.in_ok-check_options.was c.clamp_m-m.ensures c.admit_run.ensures c.in_ok-j.was (ap length c.start_field.ensures ∙ length_splice _ _ a.work.now) in record { allowed = r.0; out_len = r.1 }
 
 pub returns : goal.returns
 unfolding dimension
 returns c gs sound =
-    let told : let a = c.args in c.and_then-early.result ≡ first (finite_checks ((field_of a.initial a.start.now a.out.now) ++ a.vectors.now) ++ option_checks a.o (dimension a.g.n (a.count - 1) a.o.m)) = let a = c.args in
-    c.and_then-early.ensures _ _ c.check_field-finite.ensures (c.check_options.ensures ∙ ap (λ (m : ℕ). first (option_checks a.o m)) c.clamp_m-m.ensures) in
+    let told : let a = c.args in c.check_options.result ≡ first (finite_checks ((field_of a.initial a.start.now a.out.now) ++ a.vectors.now) ++ option_checks a.o (dimension a.g.n (a.count - 1) a.o.m)) = let a = c.args in
+    sound_on _ _ c.in_ok-check_field.was c.check_field.ensures (c.check_options.ensures ∙ ap (λ (m : ℕ). first (option_checks a.o m)) c.clamp_m-m.ensures) in
     let a = c.args in
-    krylov_is a.mass.now c.requires.passed a.tau a.count (field_of a.initial a.start.now a.out.now) a.vectors.now a.out.now a.work.now c.requires.whole.0 a.o c.requires.whole.1 told c.in-Sound.is c.clamp_m-m.ensures c.admit_run-j.ensures gs sound c.in-Sound-checked.is c.start_field.ensures c.run_job.ensures
+    krylov_is a.mass.now c.requires.passed a.tau a.count (field_of a.initial a.start.now a.out.now) a.vectors.now a.out.now a.work.now c.requires.whole.0 a.o c.requires.whole.1 told c.in_ok-check_options.was c.clamp_m-m.ensures c.admit_run.ensures gs sound c.in_ok-j.was c.start_field.ensures c.run_job.ensures

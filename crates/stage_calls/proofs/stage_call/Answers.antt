@@ -1,6 +1,6 @@
 -- `stage_calls::stage_call` meets its contract. Assumes nothing.
 use Rattle.phi_solver.proofs.Dispatch.{by_taylor, by_krylov}
-use Rattle.schedule_checks.specs.Inner.{field_of}
+use Rattle.combination.specs.Combination.{field_of}
 use mathlib.Core.List.{◌++◌}
 use Rattle.stage_calls.proofs.stage_call.Goals as goal
 

@@ -9,7 +9,8 @@ use Rattle.general_operator.specs.Csr.{csr}
 use Rattle.generator_action.specs.Mass.{given}
 use Rattle.generator_action.specs.Generator.{forward}
 use Rattle.stage_calls.specs.Stages.{stage_step, begun}
-use Rattle.schedule_checks.specs.Inner.{schedule_of, field_of, Moderate, turn_at}
+use Rattle.schedule_checks.specs.Inner.{schedule_of, Moderate, turn_at}
+use Rattle.combination.specs.Combination.{field_of}
 use Rattle.stages.proofs.run_stages.Given as goal
 
 abbrev pub invariant-loop-i : goal.invariant-loop-i

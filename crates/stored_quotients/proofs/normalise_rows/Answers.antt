@@ -1,12 +1,10 @@
 -- `stored_quotients::normalise_rows` meets its contract. Assumes nothing.
 use native.Mathlib.Omega.{arith}
-use Prim.Native.Nat.{◌+◌, ◌-◌, ◌≤◌}
-use lib.ListN.{get_or}
-use Rattle.lists.proofs.Loop.{Filled, started, finished}
-use Rattle.general_operator.specs.Csr.{csr}
+use Prim.Native.Nat.{◌-◌}
+use Rattle.lists.proofs.Loop.{started, finished}
 use Rattle.general_operator.proofs.Rows.{rises, start_le, row_within}
 use Rattle.generator_action.specs.Mass.{normalise}
-use Rattle.generator_action.proofs.Quotients.{quotient, row_filled}
+use Rattle.generator_action.proofs.Quotients.{row_filled}
 use Rattle.stored_quotients.proofs.normalise_rows.Goals as goal
 
 pub loop-i-init : goal.loop-i-init
@@ -25,4 +23,4 @@ pub returns : goal.returns
 unfolding normalise
 returns c =
     let v = c.requires.valid in
-    finished c.loop-i.invariant.1 _ (start_le v c.loop-i.i c.loop-i.invariant.0) (omega (arith, v.last, rises v c.args.n c.loop-i.i (omega arith) c.loop-i.invariant.0))
+    finished c.loop-i.invariant.1 _ (start_le v c.loop-i.i c.loop-i.invariant.0) (omega (arith, v.last, rises v c.args.q.n c.loop-i.i (omega arith) c.loop-i.invariant.0))

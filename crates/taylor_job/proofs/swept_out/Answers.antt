@@ -22,6 +22,6 @@ unfolding swept_fields
 returns c =
     let a = c.args in
     let e = c.run_sweeps-applied.ensures in
-    let n = a.x.l.n in
-    let field = sym (window_window 0 (n + a.x.l.d) 0 n _ (omega arith)) ∙ ap (λ (r : Swept). window 0 n r.y) e.work_after in
+    let n = a.x.o.l.n in
+    let field = sym (window_window 0 (n + a.x.o.l.d) 0 n _ (omega arith)) ∙ ap (λ (r : Swept). window 0 n r.y) e.work_after in
     record { value = ap (λ (r : Swept). r.applied) e.work_after; out_after = c.copy_from.ensures ∙ ap (λ (vs : List Float). splice a.place vs a.out.now) field; kept = e.kept }

@@ -4,7 +4,7 @@ use Rattle.taylor_sweeps.proofs.aug_horner_outer.Goals as goal
 
 pub terms-requires : goal.terms-requires
 terms-requires c =
-    record { ready = ready_kept _ _ _ c.args.vectors.now (copied _ _ _ c.requires.lined c.requires.ready.av_in c.copy_in.ensures).1 c.requires.ready; lined = c.requires.lined }
+    record { ready = ready_kept _ _ _ c.args.x.o.vectors.now (copied _ _ _ c.requires.lined c.requires.ready.av_in c.copy_in.ensures).1 c.requires.ready; lined = c.requires.lined }
 
 pub returns : goal.returns
 returns c =

@@ -5,7 +5,7 @@ use Rattle.phi_action_helpers.proofs.Sweeps.{made_is, rescaled}
 use Rattle.taylor_sweeps.proofs.sweep.Goals as goal
 
 pub overflow_add-result : goal.overflow_add-result
-overflow_add-result c = omega (arith, made_is c.args.x.l _ _ _ _ _ _ c.aug_horner_outer-made.ensures.work_after, c.requires.lined)
+overflow_add-result c = omega (arith, made_is c.args.x.o.l _ _ _ _ _ _ c.aug_horner_outer-made.ensures.work_after, c.requires.lined)
 
 pub returns : goal.returns
 returns c =

@@ -9,10 +9,7 @@ loop-k-init c = (omega arith, began _)
 
 pub horner_step-applied-requires : goal.horner_step-applied-requires
 horner_step-applied-requires c =
-    record { ready = ready_kept _ _ _ c.args.vectors.now c.loop-k.invariant.1.kept c.requires.ready; lined = (c.requires.lined, c.loop-k-test.true, omega (arith, state_counted c.loop-k.invariant.1)) }
-
-pub overflow_step-k : goal.overflow_step-k
-overflow_step-k c = omega (arith, c.well_formed.1.1.1.1.1.0)
+    record { ready = ready_kept _ _ _ c.args.x.o.vectors.now c.loop-k.invariant.1.kept c.requires.ready; lined = (c.requires.lined, c.loop-k-test.true, omega (arith, state_counted c.loop-k.invariant.1)) }
 
 pub loop-k-preserved : goal.loop-k-preserved
 loop-k-preserved c = (omega arith, turn c.loop-k.invariant.1 c.horner_step-applied.ensures.work_after c.horner_step-applied.ensures.kept)

@@ -1,10 +1,10 @@
 -- `taylor_terms::add_in` meets its contract. Assumes nothing.
 use native.Mathlib.Omega.{arith}
-use Prim.Native.Nat.{◌+◌, ◌-◌, ◌≤◌}
+use Prim.Native.Nat.{◌-◌}
 use mathlib.Core.Path.{◌∙◌}
 use lib.Ieee.{nan}
-use Rattle.lists.proofs.Loop.{Filled, started, turned, finished, read_here, read_apart, zip_with_windows}
-use Rattle.doubles.specs.F64.{◌⊕◌, at}
+use Rattle.lists.proofs.Loop.{started, turned, finished, read_here, read_apart, zip_with_windows}
+use Rattle.doubles.specs.F64.{◌⊕◌}
 use Rattle.taylor_terms.proofs.add_in.Goals as goal
 
 pub loop-i-init : goal.loop-i-init

@@ -1,9 +1,6 @@
 -- `taylor_terms::add_in` meets its contract. Assumes nothing.
-use native.Mathlib.Omega.{arith}
 use Prim.Native.Nat.{◌+◌, ◌-◌, ◌≤◌}
-use mathlib.Core.Path.{◌∙◌}
-use lib.Ieee.{nan}
-use Rattle.lists.proofs.Loop.{Filled, started, turned, finished, read_here, read_apart, zip_with_windows}
+use Rattle.lists.proofs.Loop.{Filled}
 use Rattle.doubles.specs.F64.{◌⊕◌, at}
 use Rattle.taylor_terms.proofs.add_in.Given as goal
 

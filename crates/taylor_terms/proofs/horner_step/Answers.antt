@@ -7,4 +7,4 @@ use Rattle.taylor_terms.proofs.horner_step.Goals as goal
 pub returns : goal.returns
 returns c =
     let a = c.args in
-    let r = term_made a.x.l a.x.b _ _ _ _ a.x.tau a.x.p a.k a.applied _ a.work.now _ _ c.requires.lined.0 c.requires.ready.av_in c.scales_of-s.ensures refl c.term_in.ensures in record { work_after = r.0; kept = r.1 }
+    let r = term_made a.x.o.l a.x.o.b _ _ _ _ a.x.tau a.x.p a.k a.applied _ a.work.now _ _ c.requires.lined.0 c.requires.ready.av_in c.scales_of-s.ensures refl c.term_in.ensures in record { work_after = r.0; kept = r.1 }

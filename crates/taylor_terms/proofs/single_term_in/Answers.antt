@@ -5,7 +5,7 @@ use lib.ListN.{length-take, length-drop}
 use Rattle.lists.proofs.Bounds.{part_apart}
 use Rattle.lists.proofs.Window.{part_window}
 use Rattle.csr_matvec.proofs.Values.{not_scaled}
-use Rattle.phi_action_helpers.specs.Laid.{operator_at}
+use Rattle.phi_action_helpers.specs.Laid.{operator_in}
 use Rattle.phi_action_helpers.proofs.SingleTerm.{single_term}
 use Rattle.taylor_terms.proofs.single_term_in.Goals as goal
 
@@ -29,7 +29,7 @@ pub returns : goal.returns
 returns c =
     let a = c.args in
     let p = c.requires in
-    single_term (operator_at a.l a.b a.starts.now a.cols.now a.vals.now a.vectors.now a.work.now) a.k a.l.w a.l.av _ a.work.now _ _ _ _ p.lined.0.field_first p.lined.0.then_term p.ready.av_in p.lined.1
+    single_term (operator_in a.o a.work.now) a.k a.o.l.w a.o.l.av _ a.work.now _ _ _ _ p.lined.0.field_first p.lined.0.then_term p.ready.av_in p.lined.1
     (rw not_scaled at c.apply_generator.ensures)
     (rw part_window at c.scalars-sc.ensures)
     c.term_rows_in.ensures

@@ -1,14 +1,12 @@
 -- `taylor_terms::term_rows_in` meets its contract. Assumes nothing.
 use borrow.Author.Rules.{rules}
-use native.Mathlib.Omega.{arith}
 use Prim.Native.Nat.{◌+◌, ◌-◌, ◌≤◌}
-use mathlib.Core.Path.{◌≡◌, refl, ap, ◌∙◌}
-use lib.ListN.{length, length-set}
+use mathlib.Core.Path.{◌≡◌}
+use lib.ListN.{length}
 use Rattle.lists.specs.Loop.{tabulate}
 use Rattle.lists.specs.Window.{splice}
 use Rattle.doubles.specs.F64.{◌⊕◌, ◌⊗◌, at}
 use Rattle.phi_action_helpers.specs.Augmented.{generator_term}
-use Rattle.phi_action_helpers.proofs.SingleTerm.{unread, unread_front, both_turn, both_started}
 use Rattle.taylor_terms.proofs.term_rows_in.Given as goal
 
 abbrev pub invariant-loop-i : goal.invariant-loop-i

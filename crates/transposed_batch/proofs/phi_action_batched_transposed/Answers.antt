@@ -1,97 +1,14 @@
 -- `transposed_batch::phi_action_batched_transposed` meets its contract. Assumes nothing.
-use mathlib.Core.Path.{sym}
-use native.Mathlib.Omega.{arith}
-use lib.Seq.{length-take-le}
+use Rattle.std.proofs.Common.{rules, of_calls}
+use Rattle.generator_action.specs.Generator.{Generator}
 use Rattle.taylor_job.specs.Calls.{phi_action_batched}
 use Rattle.phi_combination.proofs.Calls.{batch_refused}
-use Rattle.general_operator.specs.Csr.{Csr, csr}
-use Rattle.generator_action.specs.Mass.{Mass, given}
-use Rattle.generator_action.specs.Generator.{Generator}
-use Rattle.transpose.specs.Transpose.{Buffers, buffers, lengths, transposed}
 use Rattle.transposed.specs.Transposed.{phi_action_batched_transposed}
-use Rattle.transposed.proofs.Fronts.{over_refusal, Handed, handed, rows_few, starts_fit, columns_fit, values_fit, front_passed, over_fronts}
 use Rattle.transposed_batch.proofs.phi_action_batched_transposed.Goals as goal
 
-pub overflow_add-q_rows : goal.overflow_add-q_rows
-overflow_add-q_rows c =
-    let a : Csr = csr c.args.n c.args.starts.now c.args.cols.now c.args.vals.now in
-    let m : Mass = given c.args.with_mass c.args.mass.now in
-    let b : Buffers = buffers c.args.t_starts.now c.args.t_cols.now c.args.t_vals.now in
-    let known : Handed a m b c.transposed_shape-shape.new.t_starts c.transposed_shape-shape.new.t_cols c.transposed_shape-shape.new.t_vals c.in-Passed.g = handed a m b (c.transposed_shape-shape.ensures.value, c.transposed_shape-shape.ensures.t_vals_after) c.in-Passed.is in
-    omega (arith, rows_few known)
-
-pub slice_bounds-q_rows-end : goal.slice_bounds-q_rows-end
-slice_bounds-q_rows-end c =
-    let a : Csr = csr c.args.n c.args.starts.now c.args.cols.now c.args.vals.now in
-    let m : Mass = given c.args.with_mass c.args.mass.now in
-    let b : Buffers = buffers c.args.t_starts.now c.args.t_cols.now c.args.t_vals.now in
-    let known : Handed a m b c.transposed_shape-shape.new.t_starts c.transposed_shape-shape.new.t_cols c.transposed_shape-shape.new.t_vals c.in-Passed.g = handed a m b (c.transposed_shape-shape.ensures.value, c.transposed_shape-shape.ensures.t_vals_after) c.in-Passed.is in
-    starts_fit known
-
-pub slice_bounds-q_rows-end-in-Passed : goal.slice_bounds-q_rows-end-in-Passed
-slice_bounds-q_rows-end-in-Passed c =
-    let a : Csr = csr c.args.n c.args.starts.now c.args.cols.now c.args.vals.now in
-    let m : Mass = given c.args.with_mass c.args.mass.now in
-    let b : Buffers = buffers c.args.t_starts.now c.args.t_cols.now c.args.t_vals.now in
-    let known : Handed a m b c.transposed_shape-shape.new.t_starts c.transposed_shape-shape.new.t_cols c.transposed_shape-shape.new.t_vals c.in-Passed.g = handed a m b (c.transposed_shape-shape.ensures.value, c.transposed_shape-shape.ensures.t_vals_after) c.in-Passed.is in
-    sym (length-take-le _ _ (starts_fit known))
-
-pub slice_bounds-q_cols-end : goal.slice_bounds-q_cols-end
-slice_bounds-q_cols-end c =
-    let a : Csr = csr c.args.n c.args.starts.now c.args.cols.now c.args.vals.now in
-    let m : Mass = given c.args.with_mass c.args.mass.now in
-    let b : Buffers = buffers c.args.t_starts.now c.args.t_cols.now c.args.t_vals.now in
-    let known : Handed a m b c.transposed_shape-shape.new.t_starts c.transposed_shape-shape.new.t_cols c.transposed_shape-shape.new.t_vals c.in-Passed.g = handed a m b (c.transposed_shape-shape.ensures.value, c.transposed_shape-shape.ensures.t_vals_after) c.in-Passed.is in
-    columns_fit known
-
-pub slice_bounds-q_cols-end-in-Passed : goal.slice_bounds-q_cols-end-in-Passed
-slice_bounds-q_cols-end-in-Passed c =
-    let a : Csr = csr c.args.n c.args.starts.now c.args.cols.now c.args.vals.now in
-    let m : Mass = given c.args.with_mass c.args.mass.now in
-    let b : Buffers = buffers c.args.t_starts.now c.args.t_cols.now c.args.t_vals.now in
-    let known : Handed a m b c.transposed_shape-shape.new.t_starts c.transposed_shape-shape.new.t_cols c.transposed_shape-shape.new.t_vals c.in-Passed.g = handed a m b (c.transposed_shape-shape.ensures.value, c.transposed_shape-shape.ensures.t_vals_after) c.in-Passed.is in
-    sym (length-take-le _ _ (columns_fit known))
-
-pub slice_bounds-q_vals-end : goal.slice_bounds-q_vals-end
-slice_bounds-q_vals-end c =
-    let a : Csr = csr c.args.n c.args.starts.now c.args.cols.now c.args.vals.now in
-    let m : Mass = given c.args.with_mass c.args.mass.now in
-    let b : Buffers = buffers c.args.t_starts.now c.args.t_cols.now c.args.t_vals.now in
-    let known : Handed a m b c.transposed_shape-shape.new.t_starts c.transposed_shape-shape.new.t_cols c.transposed_shape-shape.new.t_vals c.in-Passed.g = handed a m b (c.transposed_shape-shape.ensures.value, c.transposed_shape-shape.ensures.t_vals_after) c.in-Passed.is in
-    values_fit known
-
-pub slice_bounds-q_vals-end-in-Passed : goal.slice_bounds-q_vals-end-in-Passed
-slice_bounds-q_vals-end-in-Passed c =
-    let a : Csr = csr c.args.n c.args.starts.now c.args.cols.now c.args.vals.now in
-    let m : Mass = given c.args.with_mass c.args.mass.now in
-    let b : Buffers = buffers c.args.t_starts.now c.args.t_cols.now c.args.t_vals.now in
-    let known : Handed a m b c.transposed_shape-shape.new.t_starts c.transposed_shape-shape.new.t_cols c.transposed_shape-shape.new.t_vals c.in-Passed.g = handed a m b (c.transposed_shape-shape.ensures.value, c.transposed_shape-shape.ensures.t_vals_after) c.in-Passed.is in
-    sym (length-take-le _ _ (values_fit known))
-
-pub acted_batched-requires : goal.acted_batched-requires
-acted_batched-requires c =
-    let a : Csr = csr c.args.n c.args.starts.now c.args.cols.now c.args.vals.now in
-    let m : Mass = given c.args.with_mass c.args.mass.now in
-    let b : Buffers = buffers c.args.t_starts.now c.args.t_cols.now c.args.t_vals.now in
-    let known : Handed a m b c.transposed_shape-shape.new.t_starts c.transposed_shape-shape.new.t_cols c.transposed_shape-shape.new.t_vals c.in-Passed.g = handed a m b (c.transposed_shape-shape.ensures.value, c.transposed_shape-shape.ensures.t_vals_after) c.in-Passed.is in
-    front_passed known _
-
-pub returns-in-Refusal : goal.returns-in-Refusal
+pub returns : goal.returns
 unfolding phi_action_batched_transposed
-returns-in-Refusal c =
-    let a : Csr = csr c.args.n c.args.starts.now c.args.cols.now c.args.vals.now in
-    let m : Mass = given c.args.with_mass c.args.mass.now in
-    let b : Buffers = buffers c.args.t_starts.now c.args.t_cols.now c.args.t_vals.now in
-    let g = transposed a m (lengths b) in
+returns c =
     let x = c.args in
-    over_refusal a m b (c.transposed_shape-shape.ensures.value, c.transposed_shape-shape.ensures.t_vals_after) c.in-Refusal.is (λ e. batch_refused g x.tau x.cap x.out.now x.work.now e x.p x.v.now)
-
-pub returns-in-Passed : goal.returns-in-Passed
-unfolding phi_action_batched_transposed
-returns-in-Passed c =
-    let a : Csr = csr c.args.n c.args.starts.now c.args.cols.now c.args.vals.now in
-    let m : Mass = given c.args.with_mass c.args.mass.now in
-    let b : Buffers = buffers c.args.t_starts.now c.args.t_cols.now c.args.t_vals.now in
-    let known : Handed a m b c.transposed_shape-shape.new.t_starts c.transposed_shape-shape.new.t_cols c.transposed_shape-shape.new.t_vals c.in-Passed.g = handed a m b (c.transposed_shape-shape.ensures.value, c.transposed_shape-shape.ensures.t_vals_after) c.in-Passed.is in
-    let x = c.args in
-    over_fronts known (λ (g : Generator). phi_action_batched g x.tau x.cap x.p x.v.now x.out.now x.work.now) _ (c.acted_batched.ensures _ known.sound)
+    c.on_transposed.ensures (λ (g : Generator) out work. phi_action_batched g x.tau x.cap x.p x.v.now out work) (λ rows cols vals none g out work answer out₁ work₁ run gs sound. search (rules, of_calls))
+    (λ g k y e. batch_refused g x.tau x.cap x.out.now x.work.now e x.p x.v.now)

@@ -2,25 +2,13 @@
 use borrow.Author.Rules.{rules}
 use native.Mathlib.Omega.{arith}
 use mathlib.Core.Logic.{⊎_elim}
-use Prim.Native.Nat.{ℕ, ◌+◌, ◌-◌, ◌≤◌, zero-le}
-use mathlib.Core.Path.{◌≡◌, subst}
-use mathlib.Core.List.{List, [], ◌∷◌}
-use denote.Enum.Declared.{tag_of}
-use types.Run.{OneOf}
-use lib.Ieee.{Float}
+use Prim.Native.Nat.{ℕ, ◌+◌, ◌-◌, zero-le}
+use mathlib.Core.Path.{subst}
+use mathlib.Core.List.{[]}
 use lib.ListN.{length-replicate}
-use Rattle.lists.specs.Walk.{on}
-use Rattle.lists.proofs.Walk.{Left, left_start, left_turn, left_none}
+use Rattle.lists.proofs.Walk.{left_start, left_turn, left_none}
 use Rattle.doubles.specs.F64.{+0}
-use Rattle.general_operator.specs.Csr.{Csr}
-use Rattle.phi_action_helpers.specs.declared.Layout.{Layout}
-use Rattle.phi_action_helpers.specs.declared.Coupling.{Coupling}
-use Rattle.gram_schmidt.specs.Memory.{setting_at}
-use Rattle.trial_steps.specs.Trials.{try_step}
-use Rattle.trial_steps.specs.Memory.{outcome_at, trial_at, Within, Modest}
-use Rattle.trial_steps.specs.declared.Outcome.{Outcome}
-use Rattle.trial_steps.specs.declared.Outcome.TheVariants.{Next}
-use Rattle.trial_steps.specs.contracts.Outcome.{the_type}
+use Rattle.trial_steps.specs.Memory.{outcome_at, Within}
 use Rattle.trial_steps.proofs.Tries.{within_more, seen_next, left_ended}
 use Rattle.trial_steps.proofs.try_lengths.Goals as goal
 

@@ -1,0 +1,2 @@
+-- Numbers and doubles as bytes, element by element.
+pub mod Elements
