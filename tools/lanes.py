@@ -5,12 +5,12 @@
 machine takes over. Each lane is a copy of crates/ outside the checkout. A crate over one that failed is left out. What was checked is remembered by
 the checksum of the files of a crate and of all below it.
 
-    tools/lanes.py [--lanes N] [--at FOLDER] [CRATE..]     no CRATE: all; FOLDER: where copies and outputs lie (/tmp/lanes)
+    tools/lanes.py [--lanes N] [--at FOLDER] [CRATE..]     no CRATE: all; FOLDER: where copies and outputs lie
 """
 import argparse
 import hashlib
-import os
 import subprocess
+import tempfile
 import threading
 import time
 from pathlib import Path
@@ -18,7 +18,7 @@ from pathlib import Path
 ROOT = Path(__file__).resolve().parent.parent
 args = argparse.ArgumentParser(description=__doc__, formatter_class=argparse.RawDescriptionHelpFormatter)
 args.add_argument("--lanes", type=int, default=3)
-args.add_argument("--at", type=Path, default=Path("/tmp/lanes"))
+args.add_argument("--at", type=Path, default=Path(tempfile.gettempdir()) / "hazhendu-lanes")
 args.add_argument("crates", nargs="*")
 args = args.parse_args()
 
