@@ -74,17 +74,35 @@ def definitions(text):
 
 
 def laws(text, found):
-    """Statements of a room of proofs/, each up to its first equation."""
+    """Statements of a room of proofs/, each up to its first equation; of a law in a module with the parameters of the modules around it."""
     lines = text.split("\n")
+    modules = []
     at = 0
     while at < len(lines):
-        m = re.match(r"^(?:unfoldable |abbrev )?(?:pub )?(?:record |data )?([^\s:({]+)(?: .*)? : .*", lines[at])
+        line = lines[at]
+        depth = len(line) - len(line.lstrip(" "))
+        if line.strip():
+            modules = [m for m in modules if m[0] < depth]
         end = at + 1
-        if m and not lines[at].startswith(("use", "open", "--", " ")):
-            while end < len(lines) and lines[end].startswith("    ") and not re.match(r"^\s+(where|rewrite)\b", lines[end]):
+        if re.match(r"^ *module _ ", line):
+            while not lines[end - 1].rstrip().endswith("where"):
                 end += 1
-            found[m.group(1)].append("\n".join(lines[at:end]))
+            modules.append((depth, "\n".join(text[depth:] for text in lines[at:end])))
+            at = end
+            continue
+        m = re.match(r"^ *(?:unfoldable |abbrev )?(?:pub )?(?:record |data )?([^\s:({]+)(?: .*)? : .*", line)
+        inside = not modules or " pub " in f" {line.strip()} "
+        if m and depth == 2 * len(modules) and inside and not line.strip().startswith(("use", "open", "--")):
+            while end < len(lines) and lines[end].startswith(" " * (depth + 4)) and not re.match(r"^\s+(where|rewrite)\b", lines[end]):
+                end += 1
+            statement = "\n".join(text[depth:] for text in lines[at:end])
+            found[m.group(1)].append("\n".join([head for _, head in modules] + [statement]))
         at = end
+
+
+def public(statement):
+    """Whether a law is one that other files may cite."""
+    return any(re.match(r"(?:unfoldable |abbrev )?pub ", line) for line in statement.split("\n"))
 
 
 REASONS = dict(re.findall(r"^    (\w+) = (\d+),$", now("crates/checks/src/lib.rt"), re.M))
@@ -134,12 +152,15 @@ def compare_laws():
             for path in files:
                 if Path(path).name not in ("Answers.antt", "Invariants.antt"):
                     laws(read(path), found)
-        for name in sorted(set(old) & set(new)):
+        for name in sorted(set(old) | set(new)):
             stood, stand = {bare(s) for s in old[name]}, {bare(s) for s in new[name]}
-            fresh = [s for s in new[name] if bare(s) not in stood]
-            for statement in old[name]:
-                if statement.startswith("pub") and bare(statement) not in stand and fresh:
-                    pair(crate, name, statement, fresh[0])
+            gone = [s for s in old[name] if public(s) and bare(s) not in stand]
+            fresh = [s for s in new[name] if bare(s) not in stood and (gone or public(s))]
+            for statement in gone:
+                pair(crate, name, statement, fresh.pop(0) if fresh else "")
+            for statement in fresh:
+                if public(statement):
+                    pair(crate, name, "", statement)
 
 
 def tell_respelt():

@@ -22,7 +22,9 @@ use phi_action_helpers::{AugmentedOperator, SweepArgs};
 use taylor_job::TaylorReport;
 use taylor_schedule::Job;
 
-// The sweeps of phi_0 up to phi_(count - 1) of the one vector, one after the other; the products of all.
+// The sweeps of phi_0 up to phi_(count - 1) of the one vector, one after the other; the products of all. Inlined into the exported call, a batch takes
+// 1.15 to 1.2 of the time, and 1.34 over 4 rows.
+#[inline(never)]
 fn sweep_batch(out: &mut [f64], work: &mut [f64], x: SweepArgs, inv: f64, count: usize) -> u64
     requires ready { Ready x.o work.old }
     requires lined { Lined x.o.l × (x.p.s ≤ 4294967295) × (x.p.m ≤ 30) × (x.o.l.d ≡ 3) }

@@ -18,16 +18,14 @@ enum Call {
     Krylov,
 }
 
-impl TryFrom<usize> for Call {
-    type Error = ();
-
-    fn try_from(word: usize) -> Result<Call, ()> {
+// 3 and all above it are Krylov.
+impl From<usize> for Call {
+    fn from(word: usize) -> Call {
         match word {
-            0 => Ok(Call::Combination),
-            1 => Ok(Call::Action),
-            2 => Ok(Call::Batched),
-            3 => Ok(Call::Krylov),
-            _ => Err(()),
+            0 => Call::Combination,
+            1 => Call::Action,
+            2 => Call::Batched,
+            _ => Call::Krylov,
         }
     }
 }
@@ -316,7 +314,7 @@ fn job_of<'a>(head: &[u8; 184], words: [usize; 23], body: &'a [u8]) -> Option<Jo
         ..
     ] = words;
     Some(Job {
-        call: Call::try_from(call).ok()?,
+        call: Call::from(call),
         n,
         starts: body.get(..starts)?,
         cols: body.get(starts..cols)?,

@@ -186,7 +186,7 @@ module _ (o : KrylovPhiOptions) (j : Job) where
   never_31 (t ∷ m) s y p l er ey h a g =
       let n = next_left t s y p l er ey h.1 (checked_on s t) refl a.0 in
       let fresh : over s ≡ false = ap over (sym er) ∙ over_left l ∙ ap (λ (x : PausedRun). x.ended) er ∙ h.0 in
-      (λ e. step_number s t.lent t.given RunEnded (only_over s (length t.lent) t.given g.0.no_31 fresh) (λ z. absurd (omega (arith, z))) (λ z. absurd (omega (arith, z))) (λ z. absurd (omega (arith, z))) (λ z. absurd (omega (arith, z))) (ap (λ (c : PausedCall StepAnswer). number_in c.answer) (sym h.1) ∙ e), never_31 m (run_in t.call.answer) (left_in (checked_on s t) y t) n.0 n.1 n.2 n.3 h.2 a.1 g.1)
+      (λ e. step_number s t.lent t.given 31 (only_over s (length t.lent) t.given g.0.no_31 fresh) (λ z. absurd (omega (arith, z))) (λ z. absurd (omega (arith, z))) (λ z. absurd (omega (arith, z))) (λ z. absurd (omega (arith, z))) (ap (λ (c : PausedCall StepAnswer). number_in c.answer) (sym h.1) ∙ e), never_31 m (run_in t.call.answer) (left_in (checked_on s t) y t) n.0 n.1 n.2 n.3 h.2 a.1 g.1)
 
 module _ (v : Stay) (s : PausedRun) (h : Stays v s) where
   abbrev c : PausedCall StartAnswer

@@ -37,7 +37,7 @@ module _ (u : Rotation) where
   turns : (i : Input) (y : List Float) → before NormRange i.job.g.checks ≡ i.job.g.checks → (x : Float) (s : PausedRun) → (turn u y i).call.answer ≡ StepRefused NormRange x s → ⊥
   turns i y g x s e = elim (turn_cases u y i) [
     | inl k ↦
-        step_number (run_at u k.p) y i NormRange (λ j x n r. not_numbered NormRange (step_checks (run_at u k.p) (length y) i) (step_none_23 (run_at u k.p) (length y) i g) n r) (λ z. absurd (omega (arith, z))) (λ z. absurd (omega (arith, z))) (λ z. absurd (omega (arith, z))) (λ z. absurd (omega (arith, z))) (ap number_in (sym (ap (λ (r : UnitCall StepAnswer). r.call.answer) k.is) ∙ e))
+        step_number (run_at u k.p) y i 23 (λ j x n r. not_numbered NormRange (step_checks (run_at u k.p) (length y) i) (step_none_23 (run_at u k.p) (length y) i g) n r) (λ z. absurd (omega (arith, z))) (λ z. absurd (omega (arith, z))) (λ z. absurd (omega (arith, z))) (λ z. absurd (omega (arith, z))) (ap number_in (sym (ap (λ (r : UnitCall StepAnswer). r.call.answer) k.is) ∙ e))
     | inr k ↦ (let z = ap number_in (sym (ap (λ (r : UnitCall StepAnswer). r.call.answer) k.is) ∙ e) in absurd (omega (arith, z)))
   ]
 

@@ -78,13 +78,13 @@ verdict_number s tol t (out (refused r x n)) h k n0 n27 n28 n29 e = elim h.1 [
 ]
 
 -- by a step's checks
-step_by : (s : PausedRun) (y : List Float) (i : Input) (c : Checked) (k : Reason) → first (step_checks s (length y) i) ≡ c → ((j : Reason) (x : Float) → number j ≡ number k → Refused j x ≡ first (step_checks s (length y) i) → ⊥)
-    → (number k ≡ 0 → ⊥) → (number k ≡ 27 → ⊥) → (number k ≡ 28 → ⊥) → (number k ≡ 29 → ⊥) → number_in (step_unless c s y i).answer ≡ number k → ⊥
+step_by : (s : PausedRun) (y : List Float) (i : Input) (c : Checked) (k : ℕ) → first (step_checks s (length y) i) ≡ c → ((j : Reason) (x : Float) → number j ≡ k → Refused j x ≡ first (step_checks s (length y) i) → ⊥)
+    → (k ≡ 0 → ⊥) → (k ≡ 27 → ⊥) → (k ≡ 28 → ⊥) → (k ≡ 29 → ⊥) → number_in (step_unless c s y i).answer ≡ k → ⊥
 unfolding step_unless after_substep
 step_by s y i (Err r) k ec h n0 n27 n28 n29 e = h r.reason r.value e (sym ec)
-step_by s y i (Ok _) k ec h n0 n27 n28 n29 e = verdict_number s (tol_in i.tolerance s) _ (substep_of s y i) (substep_refuses _ _) (number k) n0 n27 n28 n29 e
+step_by s y i (Ok _) k ec h n0 n27 n28 n29 e = verdict_number s (tol_in i.tolerance s) _ (substep_of s y i) (substep_refuses _ _) k n0 n27 n28 n29 e
 
-pub step_number : (s : PausedRun) (y : List Float) (i : Input) (k : Reason) → ((j : Reason) (x : Float) → number j ≡ number k → Refused j x ≡ first (step_checks s (length y) i) → ⊥)
-    → (number k ≡ 0 → ⊥) → (number k ≡ 27 → ⊥) → (number k ≡ 28 → ⊥) → (number k ≡ 29 → ⊥) → number_in (step s y i).answer ≡ number k → ⊥
+pub step_number : (s : PausedRun) (y : List Float) (i : Input) (k : ℕ) → ((j : Reason) (x : Float) → number j ≡ k → Refused j x ≡ first (step_checks s (length y) i) → ⊥)
+    → (k ≡ 0 → ⊥) → (k ≡ 27 → ⊥) → (k ≡ 28 → ⊥) → (k ≡ 29 → ⊥) → number_in (step s y i).answer ≡ k → ⊥
 unfolding step
 step_number s y i k h n0 n27 n28 n29 e = step_by s y i (first (step_checks s (length y) i)) k refl h n0 n27 n28 n29 e
