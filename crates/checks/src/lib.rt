@@ -4,8 +4,8 @@
 ghost use Rattle.std.specs.Prelude.{◌≡◌};
 ghost use Rattle.checks.specs.Reasons.{number};
 
-// Why a job is refused, in the order in which the checks are met. The number is what callers in other languages are given;
-// 23 is the Rust's, and is never met (demand_3/proofs/Never23).
+// Why a job is refused, in the order of the numbers, which callers in other languages are given; in which order the checks are met says each call's
+// list of them. 23 is the Rust's, and is never met (demand_3/proofs/Never23).
 #[derive(Clone, Copy, Debug, PartialEq, Eq)]
 pub enum Reason {
     RowStartsLength = 1,

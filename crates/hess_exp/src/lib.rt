@@ -66,7 +66,7 @@ fn hess_sweep(h: &[f64], dim: usize, mx: usize, ts: f64, deg: usize, y: &mut [f6
     requires y_len { (length y.old ≡ mx) × (length w.old ≡ mx) }
     ensures { y.new ≡ hess_sweep h.now dim mx ts deg y.old }
 {
-    w.copy_from_slice(y);
+    vectors::copy_from(w, 0, y, 0, mx);
     // k is the term's number, by which it is divided
     for k in 0..deg {
         hess_term(h, dim, mx, ts, k, y, w);

@@ -23,7 +23,7 @@ use taylor_job::TaylorReport;
 use taylor_schedule::Job;
 
 // The sweeps of phi_0 up to phi_(count - 1) of the one vector, one after the other; the products of all. Inlined into the exported call, a batch takes
-// 1.15 to 1.2 of the time, and 1.34 over 4 rows.
+// 1.1 to 1.3 of the time, and 1.34 over 4 rows.
 #[inline(never)]
 fn sweep_batch(out: &mut [f64], work: &mut [f64], x: SweepArgs, inv: f64, count: usize) -> u64
     requires ready { Ready x.o work.old }

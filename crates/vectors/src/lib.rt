@@ -47,15 +47,16 @@ pub fn scaled_in(work: &mut [f64], dst_at: usize, src_at: usize, len: usize, s: 
     }
 }
 
-// work[to + i] = work[from + i]
-#[tactic(auto, using(lists::proofs::Slices::copy_splice))]
+// work[to + i] = work[from + i], and no `copy_within`, for which an archive for C would need memmove from outside
 pub fn copy_in(work: &mut [f64], to: usize, from: usize, len: usize)
     requires len_in_bounds { to + len ≤ length work.old }
     requires len_in_bounds_2 { from + len ≤ length work.old }
     requires apart { Apart to from len }
     ensures { work.new ≡ splice to (window from len work.old) work.old }
 {
-    work.copy_within(from..from + len, to);
+    for i in 0..len {
+        work[to + i] = work[from + i];
+    }
 }
 
 // work[at + i] = +0
@@ -67,12 +68,13 @@ pub fn clear_in(work: &mut [f64], at: usize, len: usize)
     work[at..at + len].fill(0.0);
 }
 
-// dst[to + i] = src[from + i]
-#[tactic(auto, using(lists::proofs::Slices::part_copied))]
+// dst[to + i] = src[from + i], and no `copy_from_slice`, for the same reason
 pub fn copy_from(dst: &mut [f64], to: usize, src: &[f64], from: usize, len: usize)
     requires len_in_bounds { to + len ≤ length dst.old }
     requires len_in_bounds_2 { from + len ≤ length src.now }
     ensures { dst.new ≡ splice to (window from len src.now) dst.old }
 {
-    dst[to..to + len].copy_from_slice(&src[from..from + len]);
+    for i in 0..len {
+        dst[to + i] = src[from + i];
+    }
 }

@@ -2,8 +2,9 @@
 use borrow.Author.Rules.{rules}
 use native.Mathlib.Omega.{arith}
 use Prim.Native.Nat.{◌-◌}
-use mathlib.Core.Path.{◌≡◌, sym, ap}
+use mathlib.Core.Path.{◌≡◌, sym, ap, ◌∙◌}
 use Rattle.lists.proofs.Loop.{iter_none, iter_turn}
+use Rattle.lists.proofs.Window.{copy_whole}
 use Rattle.hess_exp.specs.HessExp.{Terms, hess_sweep}
 use Rattle.hess_exp.proofs.hess_sweep.Goals as goal
 
@@ -17,4 +18,6 @@ pub returns : goal.returns
 unfolding hess_sweep
 returns c =
     let e : c.loop-k.k ≡ c.args.deg = omega arith in
-    ap (λ (t : Terms). t.y) (rw (e, c.copy_from_slice.ensures.after) at c.loop-k.invariant.1)
+    let p = c.requires.y_len in
+    let copied = c.copy_from.ensures ∙ copy_whole _ _ _ p.0 p.1 in
+    ap (λ (t : Terms). t.y) (rw (e, copied) at c.loop-k.invariant.1)
